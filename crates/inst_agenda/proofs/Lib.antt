@@ -1,8 +1,8 @@
 pub mod Agendas
-pub mod Noting
-pub mod Following
-pub mod Settled
-pub mod Quiet
-pub mod AfterAsking
-pub mod Skipping
-pub mod GoingOver
+pub mod PlacesToGoOverNext
+pub mod StepsAfterLine
+pub mod TransfersAtRest
+pub mod UnkeptAskDecidesNothing
+pub mod AgendaAfterAsk
+pub mod SkippedPlacesAreAtRest
+pub mod TransferGoneOver

@@ -1,9 +1,11 @@
--- What a run still has to do: the places whose transfers it goes over next, in order of originator and place, and for each
--- other one of which something may be left to do the moment from which it may be. This hub's own choice.
+-- What a run still has to do: the places whose transfers it goes over next, in order of originator
+-- and place, and for each other one of which something may be left to do the moment from which it
+-- may be. This hub's own choice.
 use Rattle.std.specs.Prelude.{ℕ, Bool, ◌&&◌, nat_eq, List}
 use Rattle.std.specs.List.{list_any}
 
--- the places that are waiting, each with its moment, and those that are next, by originator and index
+-- the places that are waiting, each with its moment, and those that are next, by originator and
+-- index
 pub record Agenda : Type 0 where
   pub waiting : List (ℕ × (ℕ × ℕ))
   pub next : List (ℕ × ℕ)

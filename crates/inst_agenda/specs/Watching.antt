@@ -1,5 +1,5 @@
--- What a run knows of its hub between two lines: whatever something is left to do of stands on its agenda. So it goes over
--- these transfers alone, and has gone over all. This hub's own choice.
+-- What a run knows of its hub between two lines: whatever something is left to do of stands on its
+-- agenda. So it goes over these transfers alone, and has gone over all. This hub's own choice.
 use Rattle.std.specs.Prelude.{◌≡◌, ℕ, ◌<◌, true, false, List, Some}
 use Rattle.inst_settings.specs.Settings.{HubSettings, is_participant}
 use Rattle.inst_command.specs.declared.step.Step.{Step}
@@ -7,7 +7,7 @@ use Rattle.inst_model.specs.Opening.{Opening}
 use Rattle.inst_model.specs.Transfer.{Transfer, at_place}
 use Rattle.inst_model.specs.Hub.{history}
 use Rattle.inst_agenda.specs.Agenda.{Agenda, waits, is_next}
-use Rattle.inst_world.specs.HasRun.{World, settings_of, HasRun}
+use Rattle.inst_world.specs.HasRun.{World, world_settings, HasRun}
 use Rattle.inst_agenda.specs.Resting.{Rests}
 
 -- the place is none of the next, and waits for no moment up to this reading
@@ -17,13 +17,15 @@ pub record IsLeft (agenda : Agenda) (at p index : ℕ) : Type 0 where
 
 -- next_named, waiting_named: the agenda's places are of participants
 -- rests: of each transfer of theirs that it leaves at a reading nothing is left to do
-pub record IsAgendaOf (s : HubSettings) (O : Opening) (L : List Step) (agenda : Agenda) : Type 0 where
-  pub next_named : (p index : ℕ) → is_next agenda p index ≡ true → is_participant s p ≡ true
-  pub waiting_named : (m p index : ℕ) → waits agenda m p index ≡ true → is_participant s p ≡ true
-  pub rests : (p index : ℕ) (x : Transfer) → is_participant s p ≡ true → at_place p (history s O L p) index ≡ Some x →
-      (at : ℕ) → IsLeft agenda at p index → Rests s O L at p x
+pub record IsAgendaOf (s : HubSettings) (O : Opening) (L : List Step) (agenda : Agenda) : Type 0
+  where
+    pub next_named : (p index : ℕ) → is_next agenda p index ≡ true → is_participant s p ≡ true
+    pub waiting_named : (m p index : ℕ) → waits agenda m p index ≡ true → is_participant s p ≡ true
+    pub rests : (p index : ℕ) (x : Transfer) → is_participant s p ≡ true →
+        at_place p (history s O L p) index ≡ Some x →
+        (at : ℕ) → IsLeft agenda at p index → Rests s O L at p x
 
 -- the hub has run these steps since this opening, and the agenda says what is left to do
 pub record Watches (O : Opening) (L : List Step) (hub : World) (agenda : Agenda) : Type 0 where
   pub ran : HasRun O L hub
-  pub is_agenda : IsAgendaOf (settings_of hub) O L agenda
+  pub is_agenda : IsAgendaOf (world_settings hub) O L agenda

@@ -3,13 +3,14 @@ ghost use Rattle.std.specs.Prelude.{◌≡◌, [], OnOk};
 ghost use Rattle.inst_agenda.specs.inner.Agenda.{Notes, Waits, TakesAnyDue, MovesDue, TakesAnyNext};
 
 use inst_base::Moment;
-use inst_board::Place;
+use inst_command::Place;
 use std::alloc::{AllocError, Global};
 use std::collections::BTreeSet;
 use std::marker::Model;
 
-/// The places whose transfers are gone over next, in order of originator and index, and those that wait:
-/// before its moment there is nothing to do of a transfer. Each call costs the logarithm of their number.
+/// The places whose transfers are gone over next, in order of originator and index, and those that
+/// wait: before its moment there is nothing to do of a transfer. Each call costs the logarithm of
+/// their number.
 #[derive(Drop)]
 pub struct Agenda {
     waiting: BTreeSet<(Moment, (u8, u16))>,

@@ -1,4 +1,5 @@
-//! What a run does after each line that it reads: it goes over the transfers of which there is something to do.
+//! What a run does after each line that it reads: it goes over the transfers of which there is
+//! something to do.
 ghost use Rattle.std.specs.Prelude.{◌≡◌, true, List, ◌++◌, reverse, OnOk};
 ghost use Rattle.inst_settings.specs.Settings.{is_participant};
 ghost use Rattle.inst_command.specs.declared.step.Step.{Step};
@@ -10,16 +11,18 @@ ghost use Rattle.inst_agenda.specs.inner.Watching.{GoesOver};
 
 use crate::runner::Runner;
 use inst_base::Moment;
-use inst_board::Place;
-use inst_command::Step;
+use inst_command::{Place, Step};
 use inst_world::World;
 use std::alloc::AllocError;
 
-/// Goes over all transfers taken so far, at the reading `at`, but for those that this adds nothing to. Refused
-/// memory leaves some of them undone. It costs the logarithm of what waits for each transfer that was named or is due.
+/// Goes over all transfers taken so far, at the reading `at`, but for those that this adds nothing
+/// to. Refused memory leaves some of them undone. It costs the logarithm of what waits for each
+/// transfer that was named or is due.
 pub fn follow_up(runner: &mut Runner, at: Moment) -> Result<(), AllocError>
-    ensures ok { OnOk result ((O : Opening) (L : List Step) → Watches O L runner.old.world runner.old.agenda →
-        Watches O (followed_up runner.old.world.board.settings O L at) runner.new.world runner.new.agenda) }
+    ensures ok { OnOk result ((O : Opening) (L : List Step) →
+        Watches O L runner.old.world runner.old.agenda →
+        Watches O (followed_up runner.old.world.board.settings O L at) runner.new.world
+        runner.new.agenda) }
     ensures settings { runner.new.world.board.settings ≡ runner.old.world.board.settings }
 {
     runner.agenda.move_due(at)?;
@@ -29,7 +32,8 @@ pub fn follow_up(runner: &mut Runner, at: Moment) -> Result<(), AllocError>
     Ok(())
 }
 
-/// Goes over the transfer at the place, if there is one. Where it stays pending it waits for its deadline.
+/// Goes over the transfer at the place, if there is one. Where it stays pending it waits for its
+/// deadline.
 fn go_over(runner: &mut Runner, place: Place, at: Moment) -> Result<(), AllocError>
     ensures next { OnOk result (runner.new.agenda.next ≡ runner.old.agenda.next) }
     ensures ok { OnOk result ((O : Opening) (L : List Step) → HasRun O L runner.old.world →

@@ -1,5 +1,5 @@
-//! What is left to do of the transfers of a hub that is run line by line: those that a line names or makes due are gone
-//! over after it, and no others.
+//! What is left to do of the transfers of a hub that is run line by line: those that a line names
+//! or makes due are gone over after it, and no others.
 #![tactic(auto)]
 
 mod agenda;

@@ -1,4 +1,5 @@
-//! A hub that is run line by line, and goes over those transfers alone of which there is something to do.
+//! A hub that is run line by line, and goes over those transfers alone of which there is something
+//! to do.
 ghost use Rattle.std.specs.Prelude.{◌≡◌, ℕ, true, Some, List, [], ◌∷◌, IfOk, IfSome, OnOk};
 ghost use Rattle.inst_settings.specs.Settings.{is_participant};
 ghost use Rattle.inst_command.specs.Ask.{ask_fits};
@@ -16,8 +17,7 @@ ghost use Rattle.inst_agenda.specs.Watching.{Watches};
 ghost use Rattle.inst_agenda.specs.inner.Watching.{NotesSome, NotesNamed};
 
 use crate::agenda::Agenda;
-use inst_board::Place;
-use inst_command::{Answer, Ask, Command, Step};
+use inst_command::{Answer, Ask, Command, Place, Step};
 use inst_settings::Settings;
 use inst_world::World;
 use std::alloc::{AllocError, Global};
@@ -35,16 +35,19 @@ impl Runner {
     /// A hub that opens for the first time.
     pub fn open(alloc: Global, settings: &Settings) -> Result<Runner, AllocError>
         ensures settings { IfOk result (λ runner. runner.world.board.settings ≡ settings.now) }
-        ensures watches { IfOk result (λ runner. Watches Opening.First [] runner.world runner.agenda) }
+        ensures watches { IfOk result (λ runner.
+            Watches Opening.First [] runner.world runner.agenda) }
     {
         let world = World::open(alloc, settings)?;
         Runner::new(alloc, world)
     }
 
-    /// Runs this hub from now on, whatever it has gone through: all its transfers are gone over first.
+    /// Runs this hub from now on, whatever it has gone through: all its transfers are gone over
+    /// first.
     pub fn new(alloc: Global, world: World) -> Result<Runner, AllocError>
         ensures world { IfOk result (λ runner. runner.world ≡ world) }
-        ensures ok { IfOk result (λ runner. (O : Opening) (L : List Step) → HasRun O L world → Watches O L runner.world runner.agenda) }
+        ensures ok { IfOk result (λ runner. (O : Opening) (L : List Step) → HasRun O L world →
+            Watches O L runner.world runner.agenda) }
     {
         let mut runner = Runner {
             world,
@@ -60,8 +63,10 @@ impl Runner {
     fn note_all(&mut self, owner: u8) -> Result<(), AllocError>
         ensures world { self.new.world ≡ self.old.world }
         ensures notes { OnOk result (NotesSome self.old.agenda self.new.agenda owner) }
-        ensures noted { OnOk result ((O : Opening) (L : List Step) → HasRun O L self.old.world → (index : ℕ) (x : Transfer) →
-            at_place owner (history self.old.world.board.settings O L owner) index ≡ Some x → is_next self.new.agenda owner index ≡ true) }
+        ensures noted { OnOk result ((O : Opening) (L : List Step) → HasRun O L self.old.world →
+            (index : ℕ) (x : Transfer) →
+            at_place owner (history self.old.world.board.settings O L owner) index ≡ Some x →
+            is_next self.new.agenda owner index ≡ true) }
     {
         for index in 0..self.world.settings().places() {
             let place = Place { owner, index };
@@ -84,17 +89,19 @@ impl Runner {
     pub fn step(&mut self, step: &Step) -> Result<Answer, AllocError>
         requires fits { step_fits self.old.world.board.settings step.now ≡ true }
         ensures ok { IfOk result (λ answer. Runs self.old.world step.now answer self.new.world) }
-        ensures model { IfOk result (λ answer. IsOfModel self.old.world.board.settings step.now answer) }
+        ensures model { IfOk result (λ answer.
+            IsOfModel self.old.world.board.settings step.now answer) }
         ensures settings { self.new.world.board.settings ≡ self.old.world.board.settings }
     {
         self.world.step(step)
     }
 
-    /// Runs the ask of a line. What it names is gone over next, if the asker keeps something of it. Refused
-    /// memory may leave it run, and what it names not noted.
+    /// Runs the ask of a line. What it names is gone over next, if the asker keeps something of it.
+    /// Refused memory may leave it run, and what it names not noted.
     pub fn ask(&mut self, ask: Ask) -> Result<Answer, AllocError>
         requires fits { ask_fits self.old.world.board.settings ask ≡ true }
-        ensures ok { IfOk result (λ told. (O : Opening) (L : List Step) → Watches O L self.old.world self.old.agenda →
+        ensures ok { IfOk result (λ told. (O : Opening) (L : List Step) →
+            Watches O L self.old.world self.old.agenda →
             (told ≡ answer self.old.world.board.settings O L (Step.Ask ask))
             × Watches O (Step.Ask ask ∷ L) self.new.world self.new.agenda) }
         ensures model { IfOk result (IsOfModel self.old.world.board.settings (Step.Ask ask)) }
@@ -113,7 +120,9 @@ impl Runner {
     fn note_named(&mut self, ask: &Ask) -> Result<(), AllocError>
         requires fits { ask_fits self.old.world.board.settings ask.now ≡ true }
         ensures world { self.new.world ≡ self.old.world }
-        ensures notes { OnOk result (NotesNamed self.old.world (named_by ask.now.who ask.now.command) self.old.agenda self.new.agenda) }
+        ensures notes { OnOk result
+            (NotesNamed self.old.world (named_by ask.now.who ask.now.command) self.old.agenda
+            self.new.agenda) }
     {
         match self.place_named(ask) {
             Some(place) => self.agenda.note(place),
@@ -124,10 +133,13 @@ impl Runner {
     /// The place of the transfer that the ask names, if it is live.
     fn place_named(&self, ask: &Ask) -> Option<Place>
         requires fits { ask_fits self.now.world.board.settings ask.now ≡ true }
-        ensures place { (O : Opening) (L : List Step) → HasRun O L self.now.world → (p index : ℕ) (x : Transfer) →
-            at_place p (history self.now.world.board.settings O L p) index ≡ Some x → named_by ask.now.who ask.now.command ≡ Some (p, x.id) →
+        ensures place { (O : Opening) (L : List Step) → HasRun O L self.now.world →
+            (p index : ℕ) (x : Transfer) →
+            at_place p (history self.now.world.board.settings O L p) index ≡ Some x →
+            named_by ask.now.who ask.now.command ≡ Some (p, x.id) →
             result ≡ Some (place_at p index) }
-        ensures participant { IfSome result (λ place. is_participant self.now.world.board.settings place.owner ≡ true) }
+        ensures participant { IfSome result (λ place.
+            is_participant self.now.world.board.settings place.owner ≡ true) }
     {
         match &ask.command {
             Command::Submit(submission) => self.world.place_of(ask.who, &submission.id),

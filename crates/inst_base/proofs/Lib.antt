@@ -1,6 +1,6 @@
-pub mod Ascii
-pub mod Kept
+pub mod TextsAreAscii
+pub mod TextBeforeZeros
 pub mod Lists
 pub mod Masks
-pub mod Searching
+pub mod LineEndBySearch
 pub mod Streams

@@ -1,5 +1,5 @@
--- An amount in whole euro cents. The rulebook has transfers in euro with two decimals (EPC004-16, chapter 2:
--- currency); the bounds, 1 to 99,999,999,999, are this hub's own choice.
+-- An amount in whole euro cents. The rulebook has transfers in euro with two decimals (EPC004-16,
+-- chapter 2: currency); the bounds, 1 to 99,999,999,999, are this hub's own choice.
 use Rattle.std.specs.Prelude.{ℕ, Bool, ◌&&◌, nat_le, if◌then◌else◌, Result, Ok, Err}
 use Rattle.inst_base.specs.declared.cents.TheConstants.{MOST_CENTS}
 use Rattle.inst_base.specs.declared.fault.Fault.{Fault}

@@ -1,11 +1,16 @@
--- The refusals of the hub, by the number and the name that a participant reads, and the sentence that explains each. The
--- order of the first fourteen is the order in which a line and a command are checked: this hub's own choice.
+-- The refusals of the hub, by the number and the name that a participant reads, and the sentence
+-- that explains each. The order of the first fourteen is the order in which a line and a command
+-- are checked: this hub's own choice.
 use Rattle.std.specs.Prelude.{◌≡◌, ◌⊎◌, ℕ, List, Result, Err, codes}
 use Rattle.inst_base.specs.declared.fault.Fault.{Fault}
-use Rattle.inst_base.specs.declared.fault.Fault.TheVariants.{NotJson, BadField, BadIdentifier, BadAmount, BadMoment}
-use Rattle.inst_base.specs.declared.fault.Fault.TheVariants.{UnknownParticipant, SelfTransfer, UnknownTransfer}
-use Rattle.inst_base.specs.declared.fault.Fault.TheVariants.{Duplicate, StampAhead, Expired, Full, Shortage, Memory}
-use Rattle.inst_base.specs.declared.fault.Fault.TheVariants.{BadSettings, LineTooLong, ReadFault, WriteFault}
+use Rattle.inst_base.specs.declared.fault.Fault.TheVariants.{NotJson, BadField, BadIdentifier}
+use Rattle.inst_base.specs.declared.fault.Fault.TheVariants.{BadAmount, BadMoment}
+use Rattle.inst_base.specs.declared.fault.Fault.TheVariants.{UnknownParticipant, SelfTransfer}
+use Rattle.inst_base.specs.declared.fault.Fault.TheVariants.{UnknownTransfer}
+use Rattle.inst_base.specs.declared.fault.Fault.TheVariants.{Duplicate, StampAhead, Expired, Full}
+use Rattle.inst_base.specs.declared.fault.Fault.TheVariants.{Shortage, Memory}
+use Rattle.inst_base.specs.declared.fault.Fault.TheVariants.{BadSettings, LineTooLong, ReadFault}
+use Rattle.inst_base.specs.declared.fault.Fault.TheVariants.{WriteFault}
 
 -- the number of a refusal
 abbrev pub number_of : Fault → ℕ
@@ -52,10 +57,13 @@ name_of WriteFault = codes "WriteFault"
 -- what a refusal means, as a sentence
 abbrev pub meaning_of : Fault → List ℕ
 meaning_of NotJson = codes "the line is no JSON text"
-meaning_of BadField = codes "the line is no object, its command is unknown, or a field is missing or of another form"
-meaning_of BadIdentifier = codes "an identifier or a reference isn't 1 to 35 characters of the basic Latin set"
+meaning_of BadField =
+    codes "the line is no object, its command is unknown, or a field is missing or of another form"
+meaning_of BadIdentifier =
+    codes "an identifier or a reference isn't 1 to 35 characters of the basic Latin set"
 meaning_of BadAmount = codes "the amount isn't 1 cent to the ceiling"
-meaning_of BadMoment = codes "a moment is outside those of the hub, or the deadline is past the last one"
+meaning_of BadMoment =
+    codes "a moment is outside those of the hub, or the deadline is past the last one"
 meaning_of UnknownParticipant = codes "no participant has the code"
 meaning_of SelfTransfer = codes "a transfer may not go to its own originator"
 meaning_of UnknownTransfer = codes "the asker has no part in the transfer"

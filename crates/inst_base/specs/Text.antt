@@ -1,6 +1,8 @@
--- The texts that the hub takes: participant codes as BICs of 8 or 11 characters (ISO 9362), identifiers of at
--- most 35 characters of the scheme's basic Latin set (EPC004-16, chapter 4: attributes), and reasons of four characters.
-use Rattle.std.specs.Prelude.{ℕ, Bool, ◌&&◌, ◌||◌, ◌==◌, nat_le, if◌then◌else◌, List, length, Result, Ok, Err, codes}
+-- The texts that the hub takes: participant codes as BICs of 8 or 11 characters (ISO 9362),
+-- identifiers of at most 35 characters of the scheme's basic Latin set (EPC004-16, chapter 4:
+-- attributes), and reasons of four characters.
+use Rattle.std.specs.Prelude.{ℕ, Bool, ◌&&◌, ◌||◌, ◌==◌, nat_le, if◌then◌else◌, List, length}
+use Rattle.std.specs.Prelude.{Result, Ok, Err, codes}
 use Rattle.std.specs.List.{list_all, list_any}
 use Rattle.inst_base.specs.declared.code.TheConstants.{CODE_LENGTH, BRANCH_CODE_LENGTH}
 use Rattle.inst_base.specs.declared.ident.TheConstants.{MOST_IDENTIFIER_LENGTH}
@@ -26,15 +28,19 @@ is_code_character c = is_capital c || is_digit c
 
 -- the basic Latin set: `a-z A-Z 0-9 / - ? : ( ) . , ' +` and space
 abbrev pub is_latin : ℕ → Bool
-is_latin c = is_small c || is_capital c || is_digit c || list_any (λ mark. c == mark) (codes "/-?:().,'+ ")
+is_latin c =
+    is_small c || is_capital c || is_digit c || list_any (λ mark. c == mark) (codes "/-?:().,'+ ")
 
 -- a participant's code
 abbrev pub is_code : List ℕ → Bool
-is_code text = (length text == CODE_LENGTH || length text == BRANCH_CODE_LENGTH) && list_all is_code_character text
+is_code text =
+    (length text == CODE_LENGTH || length text == BRANCH_CODE_LENGTH)
+    && list_all is_code_character text
 
 -- an identifier or a funding reference: 1 to 35 characters, in any arrangement
 abbrev pub is_identifier : List ℕ → Bool
-is_identifier text = nat_le 1 (length text) && nat_le (length text) MOST_IDENTIFIER_LENGTH && list_all is_latin text
+is_identifier text =
+    nat_le 1 (length text) && nat_le (length text) MOST_IDENTIFIER_LENGTH && list_all is_latin text
 
 -- why a beneficiary rejects: four characters, passed on unread
 abbrev pub is_reason : List ℕ → Bool

@@ -1,6 +1,7 @@
--- The rules of time, each once. A transfer's time limit counts from the originator's time stamp and ends at its deadline
--- (EPC004-16, chapter 4: time cycle). How long before it a confirmation must come, and how far a stamp may lie ahead of the
--- reading, are this hub's own choice. All are milliseconds.
+-- The rules of time, each once. A transfer's time limit counts from the originator's time stamp and
+-- ends at its deadline (EPC004-16, chapter 4: time cycle). How long before it a confirmation must
+-- come, and how far a stamp may lie ahead of the reading, are this hub's own choice. All are
+-- milliseconds.
 use Rattle.std.specs.Prelude.{ℕ, ◌+◌, Bool, not, nat_lt}
 
 -- the deadline of a transfer with this time stamp

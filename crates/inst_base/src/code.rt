@@ -14,8 +14,8 @@ pub const CODE_LENGTH: usize = 8;
 /// The characters of a code that names a branch: no code is longer.
 pub const BRANCH_CODE_LENGTH: usize = 11;
 
-/// A participant's code, as a BIC (ISO 9362): 8 or 11 characters of `A-Z 0-9`. No inner structure is
-/// checked.
+/// A participant's code, as a BIC (ISO 9362): 8 or 11 characters of `A-Z 0-9`. No inner structure
+/// is checked.
 #[derive(Clone, Copy, Debug, PartialEq, Eq)]
 pub struct Code {
     text: ShortText<BRANCH_CODE_LENGTH>,

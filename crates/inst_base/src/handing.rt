@@ -11,11 +11,13 @@ use thiserror::Error;
 #[error("a write failed or took no byte")]
 pub struct Unwritten;
 
-/// Writes these bytes, in as many writes as they take, and doesn't flush. `Unwritten` comes where a write fails or takes
-/// no byte; a front of the bytes was written then.
+/// Writes these bytes, in as many writes as they take, and doesn't flush. `Unwritten` comes where a
+/// write fails or takes no byte; a front of the bytes was written then.
 pub fn write_bytes<W: Write>(writer: &mut W, bytes: &[u8]) -> Result<(), Unwritten>
-    ensures ok { OnOk result (Appends (W.Write.contents writer.old) (W.Write.contents writer.new) bytes.now) }
-    ensures err { OnErr result (WritesPart (W.Write.contents writer.old) (W.Write.contents writer.new) bytes.now) }
+    ensures ok { OnOk result
+        (Appends (W.Write.contents writer.old) (W.Write.contents writer.new) bytes.now) }
+    ensures err { OnErr result
+        (WritesPart (W.Write.contents writer.old) (W.Write.contents writer.new) bytes.now) }
 {
     let mut rest = bytes;
     while !rest.is_empty() {

@@ -72,7 +72,8 @@ fn not_latin(bytes: u8x16) -> u64
     ensures { result ≡ mask_l (map (λ x. not (is_latin x)) bytes) }
 {
     let no_letter = ((bytes | u8x16::splat(0x20)) - u8x16::splat(b'a')).simd_ge(u8x16::splat(26));
-    // The signs of the set with the digits go from the apostrophe to the colon, but for the asterisk.
+    // The signs of the set with the digits go from the apostrophe to the colon, but for the
+    // asterisk.
     let no_sign = (bytes - u8x16::splat(b'\'')).simd_ge(u8x16::splat(20))
         | bytes.simd_eq(u8x16::splat(b'*'));
     let no_other = bytes.simd_ne(u8x16::splat(b' ')) & bytes.simd_ne(u8x16::splat(b'?'));

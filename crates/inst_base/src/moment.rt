@@ -1,6 +1,7 @@
 ghost use Rattle.std.specs.Prelude.{◌≡◌, ℕ, ◌+◌, ◌≤◌, ◌^◌, true};
 ghost use Rattle.inst_base.specs.Moment.{is_moment, moment_of};
-ghost use Rattle.inst_base.specs.TimeLimit.{deadline_of, is_in_time, is_due, is_in_time_to_accept, is_ahead};
+ghost use Rattle.inst_base.specs.TimeLimit.{deadline_of, is_in_time, is_due, is_in_time_to_accept};
+ghost use Rattle.inst_base.specs.TimeLimit.{is_ahead};
 ghost use Rattle.inst_base.specs.declared.moment.TheConstants.{LAST};
 
 use crate::Fault;
@@ -62,8 +63,8 @@ impl Moment {
         self.past_base
     }
 
-    /// Whether a transfer with this time stamp has a deadline: it isn't past the last moment. `limit`
-    /// is in milliseconds.
+    /// Whether a transfer with this time stamp has a deadline: it isn't past the last moment.
+    /// `limit` is in milliseconds.
     pub fn has_deadline(self, limit: u32) -> bool
         ensures { result ≡ is_moment (deadline_of limit self) }
     {
@@ -94,8 +95,8 @@ impl Moment {
         !self.is_in_time(deadline)
     }
 
-    /// Whether a confirmation that is read at this moment is in time: before the deadline by more than
-    /// `margin` milliseconds.
+    /// Whether a confirmation that is read at this moment is in time: before the deadline by more
+    /// than `margin` milliseconds.
     pub fn is_in_time_to_accept(self, margin: u32, deadline: Moment) -> bool
         ensures { result ≡ is_in_time_to_accept margin deadline self }
     {

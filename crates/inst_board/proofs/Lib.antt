@@ -1,6 +1,6 @@
 pub mod Places
 pub mod PlainSteps
-pub mod Deciding
-pub mod Exact
-pub mod Knowing
-pub mod Agreeing
+pub mod DecisionsStay
+pub mod PromisesExactOnPlainBoard
+pub mod KnowledgeOfHolders
+pub mod FactsOfOneStandingAgree

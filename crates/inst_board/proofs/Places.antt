@@ -9,11 +9,11 @@ use Rattle.inst_settings.specs.Settings.{HubSettings, participants}
 use Rattle.inst_terms.specs.declared.terms.Terms.{Terms}
 use Rattle.inst_terms.specs.declared.word.Word.{Word}
 use Rattle.inst_terms.specs.declared.word.Word.TheVariants.{Unused as UnusedWord}
-use Rattle.inst_board.specs.declared.place.Place.{Place}
+use Rattle.inst_command.specs.declared.place.Place.{Place}
 use Rattle.inst_board.specs.declared.plain.Kept.{Kept}
 use Rattle.inst_board.specs.declared.plain.Kept.TheVariants.{Unused, Written, Pending, Decided}
 use Rattle.inst_board.specs.Standing.{is_place, IsPlace, IsLawful, word_of}
-use Rattle.inst_board.specs.Plain.{Contents, number_of, rank_of, kept_at, standing_of, terms_of, HaveTerms, IsContents, Becomes}
+use Rattle.inst_board.specs.Plain.{Contents, place_number, rank_of, kept_at, standing_of, terms_of, HaveTerms, IsContents, Becomes}
 use Rattle.inst_board.specs.inner.Plain.{Puts, PutsTerms}
 
 pub record IsInside (s : HubSettings) (k : Place) : Type 0 where
@@ -26,7 +26,7 @@ inside s k h =
     let o = parts.0 in let i = parts.1 in
     record { owner = grind (arith, nat_tests); index = grind (arith, nat_tests) }
 
-pub number_below : (s : HubSettings) (k : Place) → IsPlace s k → number_of s k < s.places * participants s
+pub number_below : (s : HubSettings) (k : Place) → IsPlace s k → place_number s k < s.places * participants s
 number_below s k h = let i = inside s k h in mul-add-lt k.owner s.places k.index (participants s) i.owner i.index
 
 pub rank_below : (s : HubSettings) (k : Place) → IsPlace s k → rank_of s k < participants s * s.places
@@ -47,7 +47,7 @@ place_cases j k = elim (cases_eq j.owner k.owner) [
   | inr n ↦ inr (λ e. n (ap (λ (x : Place). x.owner) e))
 ]
 
-pub same_of_number : (s : HubSettings) (j k : Place) → IsPlace s j → IsPlace s k → number_of s j ≡ number_of s k → j ≡ k
+pub same_of_number : (s : HubSettings) (j k : Place) → IsPlace s j → IsPlace s k → place_number s j ≡ place_number s k → j ≡ k
 same_of_number s j k hj hk e =
     let ij = inside s j hj in let ik = inside s k hk in
     let same = same_from_place j.owner j.index k.owner k.index s.places ij.index ik.index e in

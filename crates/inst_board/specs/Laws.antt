@@ -1,36 +1,43 @@
--- The laws of boards: who may decide, what a look and a decision tell, that a place is decided once and in time, and
--- that one who holds a plain board gets exact looks and answers out of what any board promises. They are this hub's own
--- promises.
-use Rattle.std.specs.Prelude.{◌≡◌, ◌≢◌, ◌↔◌, ◌⊎◌, ℕ, ◌+◌, ◌*◌, ◌<◌, ◌≤◌, List, [], ◌∷◌, Option, Some, None, IfSome, IsTrue}
+-- The laws of boards: who may decide, what a look and a decision tell, that a place is decided once
+-- and in time, and that one who holds a plain board gets exact looks and answers out of what any
+-- board promises. They are this hub's own promises.
+use Rattle.std.specs.Prelude.{◌≡◌, ◌≢◌, ◌↔◌, ◌⊎◌, ℕ, ◌+◌, ◌*◌, ◌<◌, ◌≤◌, List, [], ◌∷◌, Option}
+use Rattle.std.specs.Prelude.{Some, None, IfSome, IsTrue}
 use Rattle.inst_settings.specs.Settings.{is_participant, HubSettings, participants}
 use Rattle.inst_command.specs.declared.outcome.Outcome.{Outcome}
 use Rattle.inst_command.specs.declared.outcome.Outcome.TheVariants.{Accepted, Rejected, TimedOut}
 use Rattle.inst_terms.specs.declared.terms.Terms.{Terms}
-use Rattle.inst_terms.specs.declared.word.Word.TheVariants.{Pending as PendingWord, Decided as DecidedWord}
+use Rattle.inst_terms.specs.declared.word.Word.TheVariants.{Pending as PendingWord}
+use Rattle.inst_terms.specs.declared.word.Word.TheVariants.{Decided as DecidedWord}
 use Rattle.inst_terms.specs.WordLaw.{InTime, IsLawful as AreLawful}
-use Rattle.inst_board.specs.declared.place.Place.{Place}
+use Rattle.inst_command.specs.declared.place.Place.{Place}
 use Rattle.inst_board.specs.declared.wish.Wish.{Wish}
 use Rattle.inst_board.specs.declared.wish.Wish.TheVariants.{Accept, Reject, Expire}
 use Rattle.inst_board.specs.declared.look.Look.{Look}
 use Rattle.inst_board.specs.declared.look.Look.TheVariants.{Unused, Pending, Decided as DecidedLook}
 use Rattle.inst_board.specs.declared.about.About.{About}
-use Rattle.inst_board.specs.declared.about.About.TheVariants.{Opened, HasTerms, Due, Decided, DecidedAt}
+use Rattle.inst_board.specs.declared.about.About.TheVariants.{Opened, HasTerms, Due, Decided}
+use Rattle.inst_board.specs.declared.about.About.TheVariants.{DecidedAt}
 use Rattle.inst_board.specs.declared.about.Fact.{Fact}
-use Rattle.inst_board.specs.Standing.{Standing, pending, decided, IsPlace, IsLawful, Says, Shows, look_of, about}
+use Rattle.inst_board.specs.Standing.{Standing, pending, decided, IsPlace, IsLawful, Says, Shows}
+use Rattle.inst_board.specs.Standing.{look_of, about}
 use Rattle.inst_board.specs.Wish.{wanted}
 use Rattle.inst_board.specs.Learning.{Learns, KnowsTruly, KnowTheSame, MayDecide, Looks, Decides}
-use Rattle.inst_board.specs.Plain.{Contents, number_of, rank_of, standing_at, plain_knows, plain_stood, after, outcome_of}
+use Rattle.inst_board.specs.Plain.{Contents, place_number, rank_of, standing_at, plain_knows}
+use Rattle.inst_board.specs.Plain.{plain_stood, standing_after, outcome_of_standing}
 
 -- whatever the first knows the second knows
 abbrev pub KnowsMore : {B : Type 0} → (B → Fact → Type 0) → B → B → Type 0
 KnowsMore knows b c = (f : Fact) → knows b f → knows c f
 
--- two decisions of a place answer the same, once there is an outcome: whatever is wished, whenever it is read, and
--- whatever the holder learns between them
-abbrev pub DecidedOnce : {B : Type 0} → ℕ → (B → Fact → Type 0) → (B → Place → Outcome → Type 0) → Type 0
+-- two decisions of a place answer the same, once there is an outcome: whatever is wished, whenever
+-- it is read, and whatever the holder learns between them
+abbrev pub DecidedOnce : {B : Type 0} → ℕ → (B → Fact → Type 0) → (B → Place → Outcome → Type 0) →
+    Type 0
 DecidedOnce {B} margin knows stood = (a b c d : B) (k : Place) (first second : Wish) (at later : ℕ)
     (found again : Option Outcome) →
-    Decides margin knows stood a k first at found b → KnowsMore knows b c → Decides margin knows stood c k second later again d →
+    Decides margin knows stood a k first at found b → KnowsMore knows b c →
+    Decides margin knows stood c k second later again d →
     IfSome found (λ o. again ≡ Some o)
 
 -- the opening of a place is known, with these terms and this deadline
@@ -47,7 +54,8 @@ pub record KnowsOutcome {B : Type 0} (knows : B → Fact → Type 0) (b : B) (k 
   pub decided : knows b (about k (Decided o))
 
 -- the holder may write these terms of the place and open it
-pub record CanOpen {B : Type 0} (knows : B → Fact → Type 0) (has_role : B → ℕ → Type 0) (s : HubSettings) (b : B)
+pub record CanOpen {B : Type 0} (knows : B → Fact → Type 0) (has_role : B → ℕ →
+    Type 0) (s : HubSettings) (b : B)
     (k : Place) (t : Terms) : Type 0 where
   pub place : IsPlace s k
   pub beneficiary : IsTrue (is_participant s t.to)
@@ -56,12 +64,16 @@ pub record CanOpen {B : Type 0} (knows : B → Fact → Type 0) (has_role : B �
 
 -- who may decide a place knows its opening, and is the originator's holder or the beneficiary's
 abbrev pub OnlyPartiesDecide : {B : Type 0} → (B → Fact → Type 0) → (B → ℕ → Type 0) → Type 0
-OnlyPartiesDecide {B} knows has_role = (b : B) (k : Place) (wish : Wish) → MayDecide knows has_role b k wish →
-    (t : Terms) × (deadline : ℕ) × KnowsOpening knows b k t deadline × (has_role b k.owner ⊎ has_role b t.to)
+OnlyPartiesDecide {B} knows has_role =
+    (b : B) (k : Place) (wish : Wish) → MayDecide knows has_role b k wish →
+    (t : Terms) × (deadline : ℕ) × KnowsOpening knows b k t deadline
+    × (has_role b k.owner ⊎ has_role b t.to)
 
 -- who may confirm or reject has the role of the beneficiary of the terms that it knows
-abbrev pub OnlyTheBeneficiaryAnswers : {B : Type 0} → (B → Fact → Type 0) → (B → ℕ → Type 0) → Type 0
-OnlyTheBeneficiaryAnswers {B} knows has_role = (b : B) (k : Place) (t : Terms) → knows b (about k (HasTerms t)) →
+abbrev pub OnlyTheBeneficiaryAnswers : {B : Type 0} → (B → Fact → Type 0) → (B → ℕ → Type 0) →
+    Type 0
+OnlyTheBeneficiaryAnswers {B} knows has_role =
+    (b : B) (k : Place) (t : Terms) → knows b (about k (HasTerms t)) →
     (MayDecide knows has_role b k Accept → has_role b t.to) ×
     ((reason : List ℕ) → MayDecide knows has_role b k (Reject reason) → has_role b t.to)
 
@@ -78,20 +90,25 @@ AnOpeningIsKnown {B} margin knows = (b c : B) (k : Place) (t : Terms) (deadline 
     Learns margin knows b k (pending t deadline) c → KnowsOpening knows c k t deadline
 
 -- what a look showed is known
-abbrev pub ALookIsKnown : {B : Type 0} → ℕ → (B → Fact → Type 0) → (B → ℕ → Type 0) → (B → Place → Outcome → Type 0) →
+abbrev pub ALookIsKnown : {B : Type 0} → ℕ → (B → Fact → Type 0) → (B → ℕ → Type 0) →
+    (B → Place → Outcome → Type 0) →
     Type 0
 ALookIsKnown {B} margin knows has_role stood = (b c : B) (k : Place) (t : Terms) →
-    ((deadline : ℕ) → Looks margin knows has_role stood b k (Pending t deadline) c → KnowsOpening knows c k t deadline) ×
-    ((o : Outcome) → Looks margin knows has_role stood b k (DecidedLook t o) c → knows c (about k Opened) ×
+    ((deadline : ℕ) → Looks margin knows has_role stood b k (Pending t deadline) c →
+    KnowsOpening knows c k t deadline) ×
+    ((o : Outcome) → Looks margin knows has_role stood b k (DecidedLook t o) c →
+    knows c (about k Opened) ×
     KnowsOutcome knows c k t o)
 
 -- a look is at least what is known
-pub record ShowsWhatIsKnown {B : Type 0} (knows : B → Fact → Type 0) (b : B) (k : Place) (look : Look) : Type 0 where
+pub record ShowsWhatIsKnown {B : Type 0} (knows : B → Fact →
+    Type 0) (b : B) (k : Place) (look : Look) : Type 0 where
   pub opened : knows b (about k Opened) → look ≢ Unused
   pub terms : (t : Terms) → knows b (about k (HasTerms t)) → ((d : ℕ) × (look ≡ Pending t d)) ⊎
       ((o : Outcome) × (look ≡ DecidedLook t o))
   pub due : (t : Terms) (d e : ℕ) → knows b (about k (Due d)) → look ≡ Pending t e → e ≡ d
-  pub decided : (o : Outcome) → knows b (about k (Decided o)) → (t : Terms) × (look ≡ DecidedLook t o)
+  pub decided : (o : Outcome) → knows b (about k (Decided o)) →
+      (t : Terms) × (look ≡ DecidedLook t o)
 
 abbrev pub ALookShowsWhatIsKnown : {B : Type 0} → ℕ → (B → Fact → Type 0) → (B → ℕ → Type 0) →
     (B → Place → Outcome → Type 0) → Type 0
@@ -101,85 +118,116 @@ ALookShowsWhatIsKnown {B} margin knows has_role stood = (b c : B) (k : Place) (l
 -- the originator's holder learns no opening by a look
 abbrev pub OwnOpeningsAreKnown : {B : Type 0} → ℕ → (B → Fact → Type 0) → (B → ℕ → Type 0) →
     (B → Place → Outcome → Type 0) → Type 0
-OwnOpeningsAreKnown {B} margin knows has_role stood = (b c : B) (k : Place) (t : Terms) → has_role b k.owner →
-    ((deadline : ℕ) → Looks margin knows has_role stood b k (Pending t deadline) c → KnowsOpening knows b k t deadline) ×
-    ((o : Outcome) → Looks margin knows has_role stood b k (DecidedLook t o) c → (deadline : ℕ) × KnowsOpening knows b k t deadline)
+OwnOpeningsAreKnown {B} margin knows has_role stood =
+    (b c : B) (k : Place) (t : Terms) → has_role b k.owner →
+    ((deadline : ℕ) → Looks margin knows has_role stood b k (Pending t deadline) c →
+    KnowsOpening knows b k t deadline) ×
+    ((o : Outcome) → Looks margin knows has_role stood b k (DecidedLook t o) c →
+    (deadline : ℕ) × KnowsOpening knows b k t deadline)
 
--- the beneficiary's holder learns no answer by a look: what is accepted or rejected it knew so, and that it is its own
-abbrev pub OwnAnswersAreKnown : {B : Type 0} → ℕ → (B → Fact → Type 0) → (B → ℕ → Type 0) → (B → Place → Outcome → Type 0) →
+-- the beneficiary's holder learns no answer by a look: what is accepted or rejected it knew so, and
+-- that it is its own
+abbrev pub OwnAnswersAreKnown : {B : Type 0} → ℕ → (B → Fact → Type 0) → (B → ℕ → Type 0) →
+    (B → Place → Outcome → Type 0) →
     Type 0
-OwnAnswersAreKnown {B} margin knows has_role stood = (b c : B) (k : Place) (t : Terms) → has_role b t.to →
-    (Looks margin knows has_role stood b k (DecidedLook t Accepted) c → KnowsOutcome knows b k t Accepted) ×
+OwnAnswersAreKnown {B} margin knows has_role stood =
+    (b c : B) (k : Place) (t : Terms) → has_role b t.to →
+    (Looks margin knows has_role stood b k (DecidedLook t Accepted) c →
+    KnowsOutcome knows b k t Accepted) ×
     ((reason : List ℕ) → Looks margin knows has_role stood b k (DecidedLook t (Rejected reason)) c →
     KnowsOutcome knows b k t (Rejected reason))
 
 -- a decision answers what was known, and what it answers is known
-abbrev pub ADecisionIsKnown : {B : Type 0} → ℕ → (B → Fact → Type 0) → (B → Place → Outcome → Type 0) → Type 0
-ADecisionIsKnown {B} margin knows stood = (b c : B) (k : Place) (wish : Wish) (at : ℕ) (found : Option Outcome) →
+abbrev pub ADecisionIsKnown : {B : Type 0} → ℕ → (B → Fact → Type 0) →
+    (B → Place → Outcome → Type 0) → Type 0
+ADecisionIsKnown {B} margin knows stood =
+    (b c : B) (k : Place) (wish : Wish) (at : ℕ) (found : Option Outcome) →
     Decides margin knows stood b k wish at found c →
     ((o : Outcome) → knows b (about k (Decided o)) → found ≡ Some o) ×
     ((o : Outcome) → found ≡ Some o → knows c (about k (Decided o)))
 
--- what each wish wants: from the deadline on the time-out, before it the rejection, before it by more than the margin the
--- acceptance, in the margin nothing of an acceptance, and nothing of an expiry
+-- what each wish wants: from the deadline on the time-out, before it the rejection, before it by
+-- more than the margin the acceptance, in the margin nothing of an acceptance, and nothing of an
+-- expiry
 pub record WantsByItsReading (margin deadline at : ℕ) : Type 0 where
   pub late : deadline ≤ at → (wish : Wish) → wanted margin wish deadline at ≡ Some TimedOut
   pub accept : at + margin < deadline → wanted margin Accept deadline at ≡ Some Accepted
   pub in_margin : at < deadline → deadline ≤ at + margin → wanted margin Accept deadline at ≡ None
-  pub reject : at < deadline → (reason : List ℕ) → wanted margin (Reject reason) deadline at ≡ Some (Rejected reason)
+  pub reject : at < deadline → (reason : List ℕ) →
+      wanted margin (Reject reason) deadline at ≡ Some (Rejected reason)
   pub expire : at < deadline → wanted margin Expire deadline at ≡ None
 
 abbrev pub EachWishWantsByItsReading : Type 0
 EachWishWantsByItsReading = (margin deadline at : ℕ) → WantsByItsReading margin deadline at
 
--- a wish that leaves the transfer pending: an expiry before the deadline, or an acceptance in the margin
+-- a wish that leaves the transfer pending: an expiry before the deadline, or an acceptance in the
+-- margin
 abbrev pub StaysPending : ℕ → Wish → ℕ → ℕ → Type 0
 StaysPending margin wish deadline at =
     (at < deadline) × ((wish ≡ Expire) ⊎ ((wish ≡ Accept) × (deadline ≤ at + margin)))
 
--- with a known deadline, an outcome that is answered stood before, where that could be, or is what was wanted, in time;
--- and there is none only where the wish leaves the transfer pending
-pub record IsDecidedInTime {B : Type 0} (margin : ℕ) (stood : B → Place → Outcome → Type 0) (b : B) (k : Place) (wish : Wish)
+-- with a known deadline, an outcome that is answered stood before, where that could be, or is what
+-- was wanted, in time; and there is none only where the wish leaves the transfer pending
+pub record IsDecidedInTime {B : Type 0} (margin : ℕ) (stood : B → Place → Outcome →
+    Type 0) (b : B) (k : Place) (wish : Wish)
     (deadline at : ℕ) (found : Option Outcome) : Type 0 where
   pub outcome : (o : Outcome) → found ≡ Some o → stood b k o ⊎
       ((wanted margin wish deadline at ≡ Some o) × InTime margin o deadline at)
   pub none : found ≡ None → StaysPending margin wish deadline at
 
-abbrev pub EachDecisionIsInTime : {B : Type 0} → ℕ → (B → Fact → Type 0) → (B → Place → Outcome → Type 0) → Type 0
-EachDecisionIsInTime {B} margin knows stood = (b c : B) (k : Place) (wish : Wish) (deadline at : ℕ) (found : Option Outcome) →
+abbrev pub EachDecisionIsInTime : {B : Type 0} → ℕ → (B → Fact → Type 0) →
+    (B → Place → Outcome → Type 0) → Type 0
+EachDecisionIsInTime {B} margin knows stood =
+    (b c : B) (k : Place) (wish : Wish) (deadline at : ℕ) (found : Option Outcome) →
     knows b (about k (Due deadline)) →
-    Decides margin knows stood b k wish at found c → IsDecidedInTime margin stood b k wish deadline at found
+    Decides margin knows stood b k wish at found c →
+    IsDecidedInTime margin stood b k wish deadline at found
 
--- an outcome that is answered stood before, where that could be, or the place stands as decided at this reading, which the
--- holder then knows
-abbrev pub EachDecisionIsOfItsReading : {B : Type 0} → ℕ → (B → Fact → Type 0) → (B → Place → Outcome → Type 0) → Type 0
-EachDecisionIsOfItsReading {B} margin knows stood = (b c : B) (k : Place) (wish : Wish) (at : ℕ) (o : Outcome) →
+-- an outcome that is answered stood before, where that could be, or the place stands as decided at
+-- this reading, which the holder then knows
+abbrev pub EachDecisionIsOfItsReading : {B : Type 0} → ℕ → (B → Fact → Type 0) →
+    (B → Place → Outcome → Type 0) → Type 0
+EachDecisionIsOfItsReading {B} margin knows stood =
+    (b c : B) (k : Place) (wish : Wish) (at : ℕ) (o : Outcome) →
     Decides margin knows stood b k wish at (Some o) c →
-    stood b k o ⊎ (((t : Terms) × (deadline : ℕ) × Learns margin knows b k (decided t deadline o at) c) × knows c (about k (DecidedAt at)))
+    stood b k o
+    ⊎ (((t : Terms) × (deadline : ℕ) × Learns margin knows b k (decided t deadline o at) c)
+    × knows c (about k (DecidedAt at)))
 
--- by a look a holder learns no reading at which the place was decided, and by a decision none but its own
-abbrev pub OnlyOwnReadingsAreLearnt : {B : Type 0} → ℕ → (B → Fact → Type 0) → (B → ℕ → Type 0) → (B → Place → Outcome → Type 0) → Type 0
+-- by a look a holder learns no reading at which the place was decided, and by a decision none but
+-- its own
+abbrev pub OnlyOwnReadingsAreLearnt : {B : Type 0} → ℕ → (B → Fact → Type 0) → (B → ℕ → Type 0) →
+    (B → Place → Outcome → Type 0) → Type 0
 OnlyOwnReadingsAreLearnt {B} margin knows has_role stood = (b c : B) (k : Place) (moment : ℕ) →
     ¬ knows b (about k (DecidedAt moment)) → knows c (about k (DecidedAt moment)) →
     ((look : Look) → ¬ Looks margin knows has_role stood b k look c) ×
-    ((wish : Wish) (at : ℕ) (found : Option Outcome) → Decides margin knows stood b k wish at found c → moment ≡ at)
+    ((wish : Wish) (at : ℕ) (found : Option Outcome) →
+    Decides margin knows stood b k wish at found c → moment ≡ at)
 
--- the beneficiary that answers in time, and knows no outcome, is answered what it wanted, or that it was timed out
-abbrev pub OwnAnswersStand : {B : Type 0} → ℕ → (B → Fact → Type 0) → (B → ℕ → Type 0) → (B → Place → Outcome → Type 0) →
+-- the beneficiary that answers in time, and knows no outcome, is answered what it wanted, or that
+-- it was timed out
+abbrev pub OwnAnswersStand : {B : Type 0} → ℕ → (B → Fact → Type 0) → (B → ℕ → Type 0) →
+    (B → Place → Outcome → Type 0) →
     Type 0
-OwnAnswersStand {B} margin knows has_role stood = (b c : B) (k : Place) (t : Terms) (deadline at : ℕ)
+OwnAnswersStand {B} margin knows has_role stood =
+    (b c : B) (k : Place) (t : Terms) (deadline at : ℕ)
     (found : Option Outcome) →
-    KnowsOpening knows b k t deadline → has_role b t.to → ((o : Outcome) → ¬ knows b (about k (Decided o))) →
-    (at + margin < deadline → Decides margin knows stood b k Accept at found c → (found ≡ Some Accepted) ⊎ (found ≡ Some TimedOut)) ×
-    (at < deadline → (reason : List ℕ) → Decides margin knows stood b k (Reject reason) at found c → (found ≡ Some (Rejected reason)) ⊎
+    KnowsOpening knows b k t deadline → has_role b t.to →
+    ((o : Outcome) → ¬ knows b (about k (Decided o))) →
+    (at + margin < deadline → Decides margin knows stood b k Accept at found c →
+    (found ≡ Some Accepted) ⊎ (found ≡ Some TimedOut)) ×
+    (at < deadline → (reason : List ℕ) → Decides margin knows stood b k (Reject reason) at found c →
+    (found ≡ Some (Rejected reason)) ⊎
     (found ≡ Some TimedOut))
 
 -- who knows nothing knows truly, and each call keeps that
 pub record StaysTrue {B : Type 0} (margin : ℕ) (knows : B → Fact → Type 0) (b : B) : Type 0 where
   pub first : ((f : Fact) → ¬ knows b f) → (j : Place) → KnowsTruly margin knows b j
-  pub learning : (c : B) (k : Place) (p : Standing) → Learns margin knows b k p c → ((j : Place) → KnowsTruly margin knows b j) →
+  pub learning : (c : B) (k : Place) (p : Standing) → Learns margin knows b k p c →
+      ((j : Place) → KnowsTruly margin knows b j) →
       (j : Place) → KnowsTruly margin knows c j
-  pub writing : (c : B) → KnowTheSame knows b c → ((j : Place) → KnowsTruly margin knows b j) → (j : Place) →
+  pub writing : (c : B) → KnowTheSame knows b c → ((j : Place) → KnowsTruly margin knows b j) →
+      (j : Place) →
       KnowsTruly margin knows c j
   -- a known deadline is one
   pub due : (k : Place) (d : ℕ) → KnowsTruly margin knows b k → knows b (about k (Due d)) → 1 ≤ d
@@ -191,9 +239,11 @@ WhatIsKnownStaysTrue {B} margin knows = (b : B) → StaysTrue margin knows b
 abbrev pub StandingsFollowTheWordLaw : Type 0
 StandingsFollowTheWordLaw = (margin : ℕ) (t : Terms) (deadline : ℕ) →
     (IsLawful margin (pending t deadline) ↔ AreLawful margin (PendingWord deadline ∷ [])) ×
-    ((o : Outcome) (moment : ℕ) → IsLawful margin (decided t deadline o moment) ↔ AreLawful margin (PendingWord deadline ∷ DecidedWord o moment ∷ []))
+    ((o : Outcome) (moment : ℕ) → IsLawful margin (decided t deadline o moment) ↔
+    AreLawful margin (PendingWord deadline ∷ DecidedWord o moment ∷ []))
 
--- what a place shows is true of it; a decided one shows the same whatever its deadline was, since its word has none
+-- what a place shows is true of it; a decided one shows the same whatever its deadline was, since
+-- its word has none
 pub record ShowsItsWords : Type 0 where
   pub truly : (p : Standing) (a : About) → Shows p a → Says p a
   pub no_deadline : (t : Terms) (d e : ℕ) (o : Outcome) (moment : ℕ) (a : About) →
@@ -201,12 +251,14 @@ pub record ShowsItsWords : Type 0 where
 
 -- the settings have so many places of each participant
 abbrev pub WhichPlacesThereAre : Type 0
-WhichPlacesThereAre = (s : HubSettings) (k : Place) → IsPlace s k ↔ ((k.owner < participants s) × (k.index < s.places))
+WhichPlacesThereAre =
+    (s : HubSettings) (k : Place) → IsPlace s k ↔
+    ((k.owner < participants s) × (k.index < s.places))
 
 -- each place has a number of its own
 abbrev pub EachPlaceHasItsNumber : Type 0
 EachPlaceHasItsNumber = (s : HubSettings) (j k : Place) → IsPlace s j → IsPlace s k →
-    (number_of s j < s.places * participants s) × (number_of s j ≡ number_of s k → j ≡ k)
+    (place_number s j < s.places * participants s) × (place_number s j ≡ place_number s k → j ≡ k)
 
 -- each place has its own rank, below the number of all places
 abbrev pub EachPlaceHasItsRank : Type 0
@@ -227,7 +279,8 @@ abbrev pub PlainDecidesExactly : Type 0
 PlainDecidesExactly = (b c : Contents) (k : Place) (wish : Wish) (at : ℕ) (found : Option Outcome) →
     plain_knows b (about k Opened) →
     Decides b.settings.margin plain_knows plain_stood b k wish at found c →
-    (found ≡ outcome_of (after b.settings.margin wish at (standing_at b k))) × Stands b k (after b.settings.margin wish at (standing_at b k)) c
+    (found ≡ outcome_of_standing (standing_after b.settings.margin wish at (standing_at b k)))
+    × Stands b k (standing_after b.settings.margin wish at (standing_at b k)) c
 
 -- on a plain board a look shows what is there, and leaves it
 abbrev pub PlainLooksExactly : Type 0
@@ -241,8 +294,11 @@ PlainOpensExactly = (b c : Contents) (k : Place) (t : Terms) (deadline : ℕ) �
     Learns b.settings.margin plain_knows b k (pending t deadline) c →
     Stands b k (pending t deadline) c
 
--- what becomes of a pending place: it stays so before the deadline, or is decided at this moment, in time
+-- what becomes of a pending place: it stays so before the deadline, or is decided at this moment,
+-- in time
 abbrev pub WhatIsDecidedIsInTime : Type 0
 WhatIsDecidedIsInTime = (margin : ℕ) (wish : Wish) (at : ℕ) (t : Terms) (deadline : ℕ) →
-    ((after margin wish at (pending t deadline) ≡ pending t deadline) × StaysPending margin wish deadline at) ⊎
-    ((o : Outcome) × (after margin wish at (pending t deadline) ≡ decided t deadline o at) × InTime margin o deadline at)
+    ((standing_after margin wish at (pending t deadline) ≡ pending t deadline)
+    × StaysPending margin wish deadline at) ⊎
+    ((o : Outcome) × (standing_after margin wish at (pending t deadline) ≡ decided t deadline o at)
+    × InTime margin o deadline at)

@@ -1,17 +1,20 @@
--- What a plain board keeps: one value for each place, up to the last one that was written. All of it is known to its one
--- holder. How places lie in a list is this hub's own choice.
-use Rattle.std.specs.Prelude.{◌≡◌, ◌≢◌, ◌≤◌, ℕ, ◌+◌, ◌*◌, List, Option, Some, None, true, false, IsTrue, refl, if◌then◌else◌, length, get_or, slice_get}
+-- What a plain board keeps: one value for each place, up to the last one that was written. All of
+-- it is known to its one holder. How places lie in a list is this hub's own choice.
+use Rattle.std.specs.Prelude.{◌≡◌, ◌≢◌, ◌≤◌, ℕ, ◌+◌, ◌*◌, List, Option, Some, None, true, false}
+use Rattle.std.specs.Prelude.{IsTrue, refl, if◌then◌else◌, length, get_or, slice_get}
 use Rattle.inst_command.specs.declared.outcome.Outcome.{Outcome}
 use Rattle.inst_settings.specs.Settings.{HubSettings, participants}
 use Rattle.inst_terms.specs.declared.terms.Terms.{Terms}
-use Rattle.inst_board.specs.declared.place.Place.{Place}
+use Rattle.inst_command.specs.declared.place.Place.{Place}
 use Rattle.inst_board.specs.declared.wish.Wish.{Wish}
 use Rattle.inst_board.specs.declared.about.About.{About}
 use Rattle.inst_board.specs.declared.about.About.TheVariants.{Decided}
 use Rattle.inst_board.specs.declared.about.Fact.{Fact}
 use Rattle.inst_board.specs.declared.plain.Kept.{Kept}
-use Rattle.inst_board.specs.declared.plain.Kept.TheVariants.{Unused, Written, Pending, Decided as DecidedKept}
-use Rattle.inst_board.specs.Standing.{Standing, unused, pending, decided, is_place, IsPlace, IsLawful, Says, about}
+use Rattle.inst_board.specs.declared.plain.Kept.TheVariants.{Unused, Written, Pending}
+use Rattle.inst_board.specs.declared.plain.Kept.TheVariants.{Decided as DecidedKept}
+use Rattle.inst_board.specs.Standing.{Standing, unused, pending, decided, is_place, IsPlace}
+use Rattle.inst_board.specs.Standing.{IsLawful, Says, about}
 use Rattle.inst_board.specs.Wish.{wanted}
 
 -- settings: those of the hub
@@ -21,16 +24,19 @@ pub record Contents : Type 0 where
   pub kept : List Kept
 
 -- the place's number among all, one originator after another
-abbrev pub number_of : HubSettings → Place → ℕ
-number_of s place = place.owner * s.places + place.index
+abbrev pub place_number : HubSettings → Place → ℕ
+place_number s place = place.owner * s.places + place.index
 
--- where a plain board keeps the place: those of one index stand side by side, since originators use their places in order
+-- where a plain board keeps the place: those of one index stand side by side, since originators use
+-- their places in order
 abbrev pub rank_of : HubSettings → Place → ℕ
 rank_of s place = place.index * participants s + place.owner
 
 -- what is kept of a place, and nothing of one that the settings don't have
 abbrev pub kept_at : Contents → Place → Kept
-kept_at board place = if is_place board.settings place then get_or board.kept (rank_of board.settings place) Unused else Unused
+kept_at board place =
+    if is_place board.settings place then get_or board.kept (rank_of board.settings place) Unused
+    else Unused
 
 -- what a place is of which this is kept
 abbrev pub standing_of : Kept → Standing
@@ -48,10 +54,12 @@ abbrev pub plain_knows : Contents → Fact → Type 0
 plain_knows board fact = Says (standing_at board fact.place) fact.about
 
 -- nothing is known of a place that the settings don't have
-pub known_is_place : (board : Contents) (place : Place) (a : About) → plain_knows board (about place a) →
+pub known_is_place : (board : Contents) (place : Place) (a : About) →
+    plain_knows board (about place a) →
     IsPlace board.settings place
 known_is_place board place a = elim (is_place board.settings place) as (λ has.
-    let kept : Kept = if has then get_or board.kept (rank_of board.settings place) Unused else Unused in
+    let kept : Kept =
+    if has then get_or board.kept (rank_of board.settings place) Unused else Unused in
     Says (standing_of kept) a → IsTrue has
     ) [
       | true ↦ λ _. refl
@@ -67,19 +75,20 @@ abbrev pub plain_stood : Contents → Place → Outcome → Type 0
 plain_stood board place outcome = Says (standing_at board place) (Decided outcome)
 
 -- what a place is after a wish was read at the moment
-abbrev pub after : ℕ → Wish → ℕ → Standing → Standing
-after margin wish at unused = unused
-after margin wish at (pending terms deadline) = elim (wanted margin wish deadline at) [
+abbrev pub standing_after : ℕ → Wish → ℕ → Standing → Standing
+standing_after margin wish at unused = unused
+standing_after margin wish at (pending terms deadline) = elim (wanted margin wish deadline at) [
   | None ↦ pending terms deadline
   | Some outcome ↦ decided terms deadline outcome at
 ]
-after margin wish at (decided terms deadline outcome moment) = decided terms deadline outcome moment
+standing_after margin wish at (decided terms deadline outcome moment) =
+    decided terms deadline outcome moment
 
 -- the outcome that stands
-abbrev pub outcome_of : Standing → Option Outcome
-outcome_of unused = None
-outcome_of (pending terms deadline) = None
-outcome_of (decided terms deadline outcome at) = Some outcome
+abbrev pub outcome_of_standing : Standing → Option Outcome
+outcome_of_standing unused = None
+outcome_of_standing (pending terms deadline) = None
+outcome_of_standing (decided terms deadline outcome at) = Some outcome
 
 -- no value is kept of more places than there are, and each is lawful
 pub record IsContents (board : Contents) : Type 0 where
@@ -95,7 +104,9 @@ terms_of (DecidedKept terms deadline outcome at) = Some terms
 
 -- the terms that are kept of each place lie at its rank
 abbrev pub HaveTerms : List Kept → List Terms → Type 0
-HaveTerms kept all = (k : ℕ) (terms : Terms) → terms_of (get_or kept k Unused) ≡ Some terms → slice_get all k ≡ Some terms
+HaveTerms kept all =
+    (k : ℕ) (terms : Terms) → terms_of (get_or kept k Unused) ≡ Some terms →
+    slice_get all k ≡ Some terms
 
 -- from the first to the second, the place k comes to be kept so, and all others stay
 pub record Becomes (old : Contents) (k : Place) (kept : Kept) (new : Contents) : Type 0 where

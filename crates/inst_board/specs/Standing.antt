@@ -1,20 +1,25 @@
--- What a place is at a moment, and what is true of it: unused, pending with the terms and the deadline of its transfer,
--- or decided. A transfer is pending, accepted, rejected or timed out as in the rulebook (EPC004-16, chapter 4:
--- processing flow); places are this hub's own choice.
+-- What a place is at a moment, and what is true of it: unused, pending with the terms and the
+-- deadline of its transfer, or decided. A transfer is pending, accepted, rejected or timed out as
+-- in the rulebook (EPC004-16, chapter 4: processing flow); places are this hub's own choice.
 use Rattle.std.specs.Prelude.{◌≡◌, ℕ, ◌≤◌, IsTrue, Bool, ◌&&◌, nat_lt}
 use Rattle.inst_command.specs.declared.outcome.Outcome.{Outcome}
 use Rattle.inst_settings.specs.Settings.{HubSettings, participants}
 use Rattle.inst_terms.specs.declared.terms.Terms.{Terms}
 use Rattle.inst_terms.specs.declared.word.Word.{Word}
-use Rattle.inst_terms.specs.declared.word.Word.TheVariants.{Unused as UnusedWord, Pending as PendingWord, Decided as DecidedWord}
+use Rattle.inst_terms.specs.declared.word.Word.TheVariants.{Unused as UnusedWord}
+use Rattle.inst_terms.specs.declared.word.Word.TheVariants.{Pending as PendingWord}
+use Rattle.inst_terms.specs.declared.word.Word.TheVariants.{Decided as DecidedWord}
 use Rattle.inst_terms.specs.WordLaw.{InTime}
-use Rattle.inst_board.specs.declared.place.Place.{Place}
-use Rattle.inst_board.specs.declared.glance.Glance.{Glance}
-use Rattle.inst_board.specs.declared.glance.Glance.TheVariants.{Unused as UnusedGlance, Pending as PendingGlance, Decided as DecidedGlance}
+use Rattle.inst_command.specs.declared.place.Place.{Place}
+use Rattle.inst_board.specs.declared.place_state.PlaceState.{PlaceState}
+use Rattle.inst_board.specs.declared.place_state.PlaceState.TheVariants.{Unused as UnusedGlance}
+use Rattle.inst_board.specs.declared.place_state.PlaceState.TheVariants.{Pending as PendingGlance}
+use Rattle.inst_board.specs.declared.place_state.PlaceState.TheVariants.{Decided as DecidedGlance}
 use Rattle.inst_board.specs.declared.look.Look.{Look}
 use Rattle.inst_board.specs.declared.look.Look.TheVariants.{Unused, Pending, Decided as DecidedLook}
 use Rattle.inst_board.specs.declared.about.About.{About}
-use Rattle.inst_board.specs.declared.about.About.TheVariants.{Opened, HasTerms, Due, Decided, DecidedAt}
+use Rattle.inst_board.specs.declared.about.About.TheVariants.{Opened, HasTerms, Due, Decided}
+use Rattle.inst_board.specs.declared.about.About.TheVariants.{DecidedAt}
 use Rattle.inst_board.specs.declared.about.Fact.{Fact}
 
 -- whether the settings have the place
@@ -31,11 +36,13 @@ pub data Standing : Type 0 where
   -- the terms, the deadline, the outcome and the deciding moment
   decided : Terms → ℕ → Outcome → ℕ → Standing
 
--- what a place may be: a deadline is at least 1, an outcome is in time, with this margin for acceptances
+-- what a place may be: a deadline is at least 1, an outcome is in time, with this margin for
+-- acceptances
 abbrev pub IsLawful : ℕ → Standing → Type 0
 IsLawful margin unused = Unit {0}
 IsLawful margin (pending terms deadline) = 1 ≤ deadline
-IsLawful margin (decided terms deadline outcome at) = (1 ≤ deadline) × InTime margin outcome deadline at
+IsLawful margin (decided terms deadline outcome at) =
+    (1 ≤ deadline) × InTime margin outcome deadline at
 
 -- what is true of a place
 abbrev pub Says : Standing → About → Type 0
@@ -51,8 +58,8 @@ Says (decided terms deadline outcome at) (Due other) = other ≡ deadline
 Says (decided terms deadline outcome at) (Decided other) = other ≡ outcome
 Says (decided terms deadline outcome at) (DecidedAt other) = other ≡ at
 
--- what one who reads the place's words learns of that: a decided word does not show the deadline, and at which reading a
--- transfer was decided only who decides it learns
+-- what one who reads the place's words learns of that: a decided word does not show the deadline,
+-- and at which reading a transfer was decided only who decides it learns
 abbrev pub Shows : Standing → About → Type 0
 Shows unused about = ⊥
 Shows (pending terms deadline) about = Says (pending terms deadline) about
@@ -75,10 +82,10 @@ look_of (pending terms deadline) = Pending terms deadline
 look_of (decided terms deadline outcome at) = DecidedLook terms outcome
 
 -- what a look shows without the terms
-abbrev pub glance_of : Look → Glance
-glance_of Unused = UnusedGlance
-glance_of (Pending terms deadline) = PendingGlance deadline
-glance_of (DecidedLook terms outcome) = DecidedGlance outcome
+abbrev pub place_state_of : Look → PlaceState
+place_state_of Unused = UnusedGlance
+place_state_of (Pending terms deadline) = PendingGlance deadline
+place_state_of (DecidedLook terms outcome) = DecidedGlance outcome
 
 abbrev pub about : Place → About → Fact
 about place what = record { place = place; about = what }

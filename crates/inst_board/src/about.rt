@@ -1,6 +1,5 @@
-use crate::Place;
 use inst_base::Moment;
-use inst_command::Outcome;
+use inst_command::{Outcome, Place};
 use inst_terms::Terms;
 
 /// What a holder can know of one place. Contracts speak of it; no value of it is made.
@@ -13,7 +12,8 @@ pub enum About {
     Due(Moment),
     /// It ended so.
     Decided(Outcome),
-    /// It was decided at this reading: only who decided it learns that, and who is told by that one.
+    /// It was decided at this reading: only who decided it learns that, and who is told by that
+    /// one.
     DecidedAt(Moment),
 }
 

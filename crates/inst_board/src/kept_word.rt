@@ -10,8 +10,8 @@ use inst_terms::{Word, pack_outcome, read_outcome};
 use std::marker::Model;
 use std::snapshot::Snapshot;
 
-/// The outcome word of a place, in eight bytes. Clauses see all that is kept of the place: its terms lie
-/// elsewhere, and the deadline of a decided one nowhere, since nothing reads it.
+/// The outcome word of a place, in eight bytes. Clauses see all that is kept of the place: its
+/// terms lie elsewhere, and the deadline of a decided one nowhere, since nothing reads it.
 #[derive(Drop)]
 pub(crate) struct KeptWord {
     number: u64,
@@ -21,7 +21,7 @@ pub(crate) struct KeptWord {
 
 impl Model for KeptWord {
     ghost use Rattle.std.specs.Prelude.{◌≡◌};
-    ghost use Rattle.inst_terms.specs.Word.{IsWord, number_of};
+    ghost use Rattle.inst_terms.specs.Word.{IsWord, word_number};
     ghost use Rattle.inst_board.specs.declared.plain.Kept.{Kept};
     ghost use Rattle.inst_board.specs.Standing.{word_of};
     ghost use Rattle.inst_board.specs.Plain.{standing_of};
@@ -31,7 +31,7 @@ impl Model for KeptWord {
     ghost view = { λ word. word.kept.value };
 
     ghost invariant = { λ word. IsWord (word_of (standing_of word.kept.value))
-        × (number_of (word_of (standing_of word.kept.value)) ≡ word.number) };
+        × (word_number (word_of (standing_of word.kept.value)) ≡ word.number) };
 }
 
 impl KeptWord {

@@ -4,20 +4,27 @@ ghost use Rattle.std.specs.Prelude.{◌≡◌, ◌≢◌, ◌≤◌, ℕ, Some, 
 ghost use Rattle.inst_board.specs.declared.about.About.TheVariants.{Opened};
 ghost use Rattle.inst_board.specs.Standing.{about};
 ghost use Rattle.inst_board.specs.Learning.{MayDecide, Decides};
-ghost use Rattle.inst_board.specs.Plain.{plain_knows, standing_at, after, outcome_of};
-ghost use Rattle.inst_board.specs.Laws.{KnowsMore, KnowsOpening, CanOpen, DecidedOnce, OnlyPartiesDecide};
-ghost use Rattle.inst_board.specs.Laws.{OnlyTheBeneficiaryAnswers, EachPartyMayDecide, AnOpeningIsKnown, ALookIsKnown};
-ghost use Rattle.inst_board.specs.Laws.{ALookShowsWhatIsKnown, OwnOpeningsAreKnown, OwnAnswersAreKnown};
-ghost use Rattle.inst_board.specs.Laws.{ADecisionIsKnown, EachWishWantsByItsReading, EachDecisionIsInTime};
+ghost use Rattle.inst_board.specs.Plain.{plain_knows, standing_at, standing_after};
+ghost use Rattle.inst_board.specs.Plain.{outcome_of_standing};
+ghost use Rattle.inst_board.specs.Laws.{KnowsMore, KnowsOpening, CanOpen, DecidedOnce};
+ghost use Rattle.inst_board.specs.Laws.{OnlyPartiesDecide};
+ghost use Rattle.inst_board.specs.Laws.{OnlyTheBeneficiaryAnswers, EachPartyMayDecide};
+ghost use Rattle.inst_board.specs.Laws.{AnOpeningIsKnown, ALookIsKnown};
+ghost use Rattle.inst_board.specs.Laws.{ALookShowsWhatIsKnown, OwnOpeningsAreKnown};
+ghost use Rattle.inst_board.specs.Laws.{OwnAnswersAreKnown};
+ghost use Rattle.inst_board.specs.Laws.{ADecisionIsKnown, EachWishWantsByItsReading};
+ghost use Rattle.inst_board.specs.Laws.{EachDecisionIsInTime};
 ghost use Rattle.inst_board.specs.Laws.{EachDecisionIsOfItsReading, OnlyOwnReadingsAreLearnt};
 ghost use Rattle.inst_board.specs.Laws.{OwnAnswersStand, WhatIsKnownStaysTrue};
 ghost use Rattle.inst_board.specs.Laws.{StandingsFollowTheWordLaw, ShowsItsWords};
-ghost use Rattle.inst_board.specs.Laws.{WhichPlacesThereAre, EachPlaceHasItsNumber, EachPlaceHasItsRank, PlainDecidesExactly};
-ghost use Rattle.inst_board.specs.Laws.{PlainLooksExactly, PlainOpensExactly, WhatIsDecidedIsInTime};
+ghost use Rattle.inst_board.specs.Laws.{WhichPlacesThereAre, EachPlaceHasItsNumber};
+ghost use Rattle.inst_board.specs.Laws.{EachPlaceHasItsRank, PlainDecidesExactly};
+ghost use Rattle.inst_board.specs.Laws.{PlainLooksExactly, PlainOpensExactly};
+ghost use Rattle.inst_board.specs.Laws.{WhatIsDecidedIsInTime};
 
-use crate::{Board, Place, PlainBoard, Wish};
+use crate::{Board, PlainBoard, Wish};
 use inst_base::Moment;
-use inst_command::Outcome;
+use inst_command::{Outcome, Place};
 use inst_terms::Terms;
 
 /// Over any board a place is decided once.
@@ -60,7 +67,8 @@ pub fn own_openings_are_known<B: Board>()
     ensures { (margin : ℕ) → OwnOpeningsAreKnown margin B.knows B.has_role B.stood }
 {}
 
-/// By a look the beneficiary's holder learns no acceptance and no rejection of what is addressed to it.
+/// By a look the beneficiary's holder learns no acceptance and no rejection of what is addressed to
+/// it.
 pub fn own_answers_are_known<B: Board>()
     ensures { (margin : ℕ) → OwnAnswersAreKnown margin B.knows B.has_role B.stood }
 {}
@@ -70,8 +78,8 @@ pub fn a_decision_is_known<B: Board>()
     ensures { (margin : ℕ) → ADecisionIsKnown margin B.knows B.stood }
 {}
 
-/// Before the deadline an answer is wanted, an acceptance only before the margin; from the deadline on
-/// the time-out.
+/// Before the deadline an answer is wanted, an acceptance only before the margin; from the deadline
+/// on the time-out.
 pub fn each_wish_wants_by_its_reading()
     ensures { EachWishWantsByItsReading }
 {}
@@ -160,8 +168,10 @@ pub fn decide_twice<B: Board>(
 
     ensures once { IfSome result.0 (λ o. result.1 ≡ Some o) }
     ensures decides { (between : B)
-        × Decides (B.settings board.old).margin B.knows B.stood board.old place first at result.0 between
-        × Decides (B.settings board.old).margin B.knows B.stood between place second later result.1 board.new }
+        × Decides (B.settings board.old).margin B.knows B.stood board.old place first at result.0
+        between
+        × Decides (B.settings board.old).margin B.knows B.stood between place second later result.1
+        board.new }
     ensures stays { B.stays board.old board.new }
 {
     let answer = board.decide(place, first, at);
@@ -181,9 +191,11 @@ pub fn decide_plain_twice(
 ) -> (Option<Outcome>, Option<Outcome>)
     requires { plain_knows board.old (about place Opened) }
 
-    ensures first { result.0 ≡ outcome_of (after board.old.settings.margin first at (standing_at board.old place)) }
-    ensures second { result.1 ≡ outcome_of (after board.old.settings.margin second later
-        (after board.old.settings.margin first at (standing_at board.old place))) }
+    ensures first { result.0 ≡ outcome_of_standing
+        (standing_after board.old.settings.margin first at (standing_at board.old place)) }
+    ensures second { result.1 ≡ outcome_of_standing
+        (standing_after board.old.settings.margin second later
+        (standing_after board.old.settings.margin first at (standing_at board.old place))) }
 {
     decide_twice(board, place, first, at, second, later)
 }

@@ -1,21 +1,19 @@
-//! Who holds the outcome words of places: the trait between a slot and the words, and the plain board
-//! of a hub on one thread.
+//! Who holds the outcome words of places: the trait between a slot and the words, and the plain
+//! board of a hub on one thread.
 #![tactic(auto)]
 
 mod about;
 mod board;
-mod glance;
 mod kept_word;
 pub mod laws;
 mod look;
-mod place;
+mod place_state;
 mod plain;
 mod wish;
 
 pub use about::{About, Fact};
 pub use board::Board;
-pub use glance::Glance;
 pub use look::Look;
-pub use place::Place;
+pub use place_state::PlaceState;
 pub use plain::{Kept, PlainBoard};
 pub use wish::Wish;

@@ -1,12 +1,13 @@
 //! The board of a hub on one thread.
-ghost use Rattle.std.specs.Prelude.{◌≡◌, ◌+◌, ◌*◌, ◌<◌, ◌≤◌, ℕ, Some, IfOk, length, get_or, vec_capacity};
+ghost use Rattle.std.specs.Prelude.{◌≡◌, ◌+◌, ◌*◌, ◌<◌, ◌≤◌, ℕ, Some, IfOk, length, get_or};
+ghost use Rattle.std.specs.Prelude.{vec_capacity};
 ghost use Rattle.inst_board.specs.declared.plain.Kept.TheVariants.{Unused as KeptUnused};
 ghost use Rattle.inst_board.specs.inner.Plain.{Puts, PutsTerms};
 
 use crate::kept_word::KeptWord;
-use crate::{Board, Glance, Look, Place, Wish};
+use crate::{Board, Look, PlaceState, Wish};
 use inst_base::Moment;
-use inst_command::Outcome;
+use inst_command::{Outcome, Place};
 use inst_settings::Settings;
 use inst_terms::{Terms, Word};
 use std::alloc::{AllocError, Global};
@@ -26,10 +27,11 @@ pub enum Kept {
     Decided(Terms, Moment, Outcome, Moment),
 }
 
-/// A board that one holder has alone, with all roles. It knows all that is true of the places. Each call
-/// takes one look at one place; one that writes a place behind all that were written before also clears the
-/// places up to it. Room for all places is set aside at once, and is touched as they are used. The outcome
-/// words lie apart from the terms, so that a decision touches eight bytes of a place.
+/// A board that one holder has alone, with all roles. It knows all that is true of the places. Each
+/// call takes one look at one place; one that writes a place behind all that were written before
+/// also clears the places up to it. Room for all places is set aside at once, and is touched as
+/// they are used. The outcome words lie apart from the terms, so that a decision touches eight
+/// bytes of a place.
 ///
 /// ```text
 /// let mut board = PlainBoard::new(alloc, &settings)?;
@@ -69,14 +71,15 @@ impl Model for PlainBoard {
 
 impl PlainBoard {
     ghost use Rattle.inst_terms.specs.declared.terms.Terms.{Terms};
-    ghost use Rattle.inst_board.specs.declared.place.Place.{Place};
+    ghost use Rattle.inst_command.specs.declared.place.Place.{Place};
     ghost use Rattle.inst_board.specs.declared.plain.Kept.TheVariants.{Unused as KeptUnused};
     ghost use Rattle.inst_board.specs.Standing.{IsPlace, IsLawful, is_place, look_of, word_of};
     ghost use Rattle.inst_board.specs.Plain.{Becomes, kept_at, standing_at, standing_of, terms_of};
 
     /// The board of a hub that opens: each place is unused.
     pub fn new(alloc: Global, settings: &Settings) -> Result<PlainBoard, AllocError>
-        ensures unused { IfOk result (λ b. (b.settings ≡ settings.now) × ((place : Place) → kept_at b place ≡ KeptUnused)) }
+        ensures unused { IfOk result (λ b. (b.settings ≡ settings.now)
+            × ((place : Place) → kept_at b place ≡ KeptUnused)) }
     {
         let participants = settings.participants();
         let places = settings.places();
@@ -147,7 +150,8 @@ impl PlainBoard {
     /// Keeps this of a place whose terms were written.
     #[inline(always)]
     fn keep(&mut self, place: Place, kept: &Kept)
-        requires written { (terms : Terms) × (terms_of (kept_at self.old place) ≡ Some terms) × (terms_of kept.now ≡ Some terms) }
+        requires written { (terms : Terms) × (terms_of (kept_at self.old place) ≡ Some terms)
+            × (terms_of kept.now ≡ Some terms) }
         requires lawful { IsLawful self.old.settings.margin (standing_of kept.now) }
         ensures { Becomes self.old place kept.now self.new }
     {
@@ -155,7 +159,8 @@ impl PlainBoard {
     }
 }
 
-/// Where the place is kept: those of one index stand side by side, since originators use theirs in order.
+/// Where the place is kept: those of one index stand side by side, since originators use theirs in
+/// order.
 fn rank_of(participants: u16, place: Place) -> usize
     ensures { result ≡ place.index * participants + place.owner }
 {
@@ -180,7 +185,8 @@ fn put(words: &mut Vec<KeptWord>, rank: usize, word: KeptWord)
 fn fill(words: &mut Vec<KeptWord>, len: usize)
     requires room { len ≤ vec_capacity words.old }
     requires less { length words.old.items ≤ len }
-    ensures same { (j : ℕ) → get_or words.new.items j KeptUnused ≡ get_or words.old.items j KeptUnused }
+    ensures same { (j : ℕ) →
+        get_or words.new.items j KeptUnused ≡ get_or words.old.items j KeptUnused }
     ensures len { length words.new.items ≡ len }
     ensures room { vec_capacity words.old ≤ vec_capacity words.new }
 {
@@ -216,12 +222,13 @@ fn ended(terms: Terms, deadline: Moment, outcome: &Outcome, at: Moment) -> Kept
 impl Board for PlainBoard {
     ghost use Rattle.std.specs.Prelude.{◌≡◌, ◌≢◌, ◌≤◌};
     ghost use Rattle.inst_terms.specs.declared.terms.Terms.{Terms};
-    ghost use Rattle.inst_board.specs.declared.place.Place.{Place};
+    ghost use Rattle.inst_command.specs.declared.place.Place.{Place};
     ghost use Rattle.inst_board.specs.declared.look.Look.{Look};
     ghost use Rattle.inst_board.specs.declared.about.About.TheVariants.{Opened, HasTerms};
-    ghost use Rattle.inst_board.specs.Standing.{IsPlace, pending, about, look_of, glance_of};
+    ghost use Rattle.inst_board.specs.Standing.{IsPlace, pending, about, look_of, place_state_of};
     ghost use Rattle.inst_board.specs.Learning.{Learns, KnowTheSame, KeepsWritten, Looks, Decides};
-    ghost use Rattle.inst_board.specs.Plain.{Becomes, after, outcome_of, kept_at, standing_at};
+    ghost use Rattle.inst_board.specs.Plain.{Becomes, standing_after, outcome_of_standing, kept_at};
+    ghost use Rattle.inst_board.specs.Plain.{standing_at};
     ghost use Rattle.std.proofs.Common.{refl, ◌∙◌, inl};
     ghost use Rattle.inst_board.specs.Plain.{plain_knows, plain_wrote, plain_stood, known_is_place};
 
@@ -270,9 +277,11 @@ impl Board for PlainBoard {
         requires written { (terms : Terms) × plain_wrote self.old place terms }
         requires deadline { 1 ≤ deadline }
 
-        ensures exact { (terms : Terms) → plain_wrote self.old place terms → Becomes self.old place (Kept.Pending terms deadline) self.new }
+        ensures exact { (terms : Terms) → plain_wrote self.old place terms →
+            Becomes self.old place (Kept.Pending terms deadline) self.new }
         ensures opened { (terms : Terms) → plain_wrote self.old place terms →
-            Learns self.old.settings.margin plain_knows self.old place (pending terms deadline) self.new }
+            Learns self.old.settings.margin plain_knows self.old place (pending terms deadline)
+            self.new }
         ensures others { KeepsWritten plain_wrote self.old (λ k. k ≢ place) self.new }
         ensures stays { self.new.settings ≡ self.old.settings }
     {
@@ -283,7 +292,8 @@ impl Board for PlainBoard {
     #[inline(always)]
     fn look(&mut self, place: Place) -> Look
         ensures exact { (result ≡ look_of (standing_at self.old place)) × (self.new ≡ self.old) }
-        ensures look { Looks self.old.settings.margin plain_knows (λ _ _. Unit {0}) plain_stood self.old place result self.new }
+        ensures look { Looks self.old.settings.margin plain_knows (λ _ _.
+            Unit {0}) plain_stood self.old place result self.new }
         ensures outside { ¬ IsPlace self.old.settings place → result ≡ Look.Unused }
         ensures written { KeepsWritten plain_wrote self.old (λ _. Unit {0}) self.new }
         ensures stays { self.new.settings ≡ self.old.settings }
@@ -292,29 +302,34 @@ impl Board for PlainBoard {
     }
 
     #[inline(always)]
-    fn glance(&mut self, place: Place) -> Glance
+    fn place_state(&mut self, place: Place) -> PlaceState
         requires terms { (terms : Terms) × plain_knows self.old (about place (HasTerms terms)) }
 
-        ensures exact { (result ≡ glance_of (look_of (standing_at self.old place))) × (self.new ≡ self.old) }
-        ensures look { (look : Look) × Looks self.old.settings.margin plain_knows (λ _ _. Unit {0}) plain_stood self.old place look self.new
-            × (result ≡ glance_of look) }
+        ensures exact { (result ≡ place_state_of (look_of (standing_at self.old place)))
+            × (self.new ≡ self.old) }
+        ensures look { (look : Look)
+            × Looks self.old.settings.margin plain_knows (λ _ _.
+            Unit {0}) plain_stood self.old place look self.new
+            × (result ≡ place_state_of look) }
         ensures written { KeepsWritten plain_wrote self.old (λ _. Unit {0}) self.new }
         ensures stays { self.new.settings ≡ self.old.settings }
     {
         match self.look(place) {
-            Look::Unused => Glance::Unused,
-            Look::Pending(_, deadline) => Glance::Pending(deadline),
-            Look::Decided(_, outcome) => Glance::Decided(outcome),
+            Look::Unused => PlaceState::Unused,
+            Look::Pending(_, deadline) => PlaceState::Pending(deadline),
+            Look::Decided(_, outcome) => PlaceState::Decided(outcome),
         }
     }
 
     fn decide(&mut self, place: Place, wish: Wish, at: Moment) -> Option<Outcome>
         requires { plain_knows self.old (about place Opened) }
 
-        ensures answer { result ≡ outcome_of (standing_at self.new place) }
-        ensures here { standing_at self.new place ≡ after self.old.settings.margin wish at (standing_at self.old place) }
+        ensures answer { result ≡ outcome_of_standing (standing_at self.new place) }
+        ensures here { standing_at self.new place
+            ≡ standing_after self.old.settings.margin wish at (standing_at self.old place) }
         ensures elsewhere { (j : Place) → j ≢ place → kept_at self.new j ≡ kept_at self.old j }
-        ensures decides { Decides self.old.settings.margin plain_knows plain_stood self.old place wish at result self.new }
+        ensures decides { Decides self.old.settings.margin plain_knows plain_stood self.old place
+            wish at result self.new }
         ensures written { KeepsWritten plain_wrote self.old (λ _. Unit {0}) self.new }
         ensures stays { self.new.settings ≡ self.old.settings }
     {

@@ -17,8 +17,9 @@ pub enum Wish {
 impl Wish {
     ghost use Rattle.inst_board.specs.Wish.{wanted};
 
-    /// What the wish makes of a transfer that is pending until `deadline`, read at `at`: `None` where
-    /// it stays pending. An acceptance must come before the deadline by more than `margin` milliseconds.
+    /// What the wish makes of a transfer that is pending until `deadline`, read at `at`: `None`
+    /// where it stays pending. An acceptance must come before the deadline by more than `margin`
+    /// milliseconds.
     pub fn outcome(self, margin: u32, deadline: Moment, at: Moment) -> Option<Outcome>
         ensures { result ≡ wanted margin self deadline at }
     {

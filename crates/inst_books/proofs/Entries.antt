@@ -20,8 +20,8 @@ use Rattle.inst_json.specs.Fields.{code_in, reason_in, count_in}
 use Rattle.inst_books.specs.Events.{event_data, outcome_data, event_can_be_written}
 use Rattle.inst_books.specs.Reading.{identifier_in, amount_in, moment_in, participant_in, outcome_in, funded_in, defunded_in, taken_in, forwarded_in, booked_in, fetched_in, entry_in}
 use Rattle.inst_books.specs.Laws.{event_has_form, outcome_has_form}
-use Rattle.inst_books.proofs.Forms.{code_has_form, code_tells}
-use Rattle.inst_json.proofs.Telling.{past_base}
+use Rattle.inst_books.proofs.ParticipantCodes.{code_has_form, code_tells}
+use Rattle.inst_json.proofs.ReplyTextTellsReply.{past_base}
 
 -- ---- what stands under a name
 
@@ -66,12 +66,12 @@ module _ (s : HubSettings) (who : ℕ) (lawful : IsSettings s) (all : list_all i
 
   pub entry_again : (event : Event) → event_can_be_written s event ≡ true → event_has_form event ≡ true → entry_in s (event_data s who event) ≡ Ok (who, event)
   unfolding entry_in funded_in defunded_in taken_in forwarded_in booked_in fetched_in
-  entry_again (Funded reference cents) writable form =
-      let parts = and_parts (is_identifier reference) (is_amount cents) form in
-      rw (at_book, identifier_again reference parts.0, amount_again cents parts.1) refl
-  entry_again (Defunded reference cents) writable form =
-      let parts = and_parts (is_identifier reference) (is_amount cents) form in
-      rw (at_book, identifier_again reference parts.0, amount_again cents parts.1) refl
+  entry_again (Funded funding) writable form =
+      let parts = and_parts (is_identifier funding.reference) (is_amount funding.cents) form in
+      rw (at_book, identifier_again funding.reference parts.0, amount_again funding.cents parts.1) refl
+  entry_again (Defunded funding) writable form =
+      let parts = and_parts (is_identifier funding.reference) (is_amount funding.cents) form in
+      rw (at_book, identifier_again funding.reference parts.0, amount_again funding.cents parts.1) refl
   entry_again (Taken id to cents stamp) writable form =
       let parts = and_parts (is_identifier id && is_amount cents) (is_moment stamp) form in
       let first = and_parts (is_identifier id) (is_amount cents) parts.0 in

@@ -1,12 +1,12 @@
--- The books of all participants as text: the lines of one book behind those of another, in the order of the
--- participants' numbers, each with its newline. This hub's own choice.
+-- The books of all participants as text: the lines of one book behind those of another, in the
+-- order of the participants' numbers, each with its newline. This hub's own choice.
 use Rattle.std.specs.Prelude.{◌≡◌, ℕ, zero, suc, ◌+◌, ◌==◌, true, if◌then◌else◌, Result, Ok, Err}
 use Rattle.std.specs.Prelude.{List, [], ◌∷◌, ◌++◌, length, map, replicate}
 use Rattle.std.specs.List.{list_all}
 use Rattle.inst_settings.specs.Settings.{HubSettings, participants}
 use Rattle.inst_journal.specs.declared.event.Event.{Event}
 use Rattle.inst_journal.specs.History.{History}
-use Rattle.inst_log.specs.Layout.{recovered, blocks}
+use Rattle.inst_log.specs.Layout.{recovered_lines, blocks}
 use Rattle.inst_books.specs.declared.fault.BookFault.{BookFault}
 use Rattle.inst_books.specs.declared.fault.BookFault.TheVariants.{BadLine}
 use Rattle.inst_books.specs.Events.{event_line, event_can_be_written}
@@ -43,20 +43,23 @@ with_event who event [] = []
 with_event zero event (book ∷ books) = (book ++ event ∷ []) ∷ books
 with_event (suc who) event (book ∷ books) = book ∷ with_event who event books
 
--- an event that was read goes into its book, and then the others into theirs; the first bad line stands
+-- an event that was read goes into its book, and then the others into theirs; the first bad line
+-- stands
 abbrev pub go_on : (List (List Event) → Result (List (List Event)) BookFault) → List (List Event) →
     Result Entry BookFault → Result (List (List Event)) BookFault
 go_on others books (Ok entry) = others (with_event entry.0 entry.1 books)
 go_on others books (Err fault) = Err fault
 
 -- the books, with the events that these lines say put into them in order
-abbrev pub with_lines : HubSettings → List (List ℕ) → List (List Event) → Result (List (List Event)) BookFault
+abbrev pub with_lines : HubSettings → List (List ℕ) → List (List Event) →
+    Result (List (List Event)) BookFault
 with_lines s [] books = Ok books
 with_lines s (line ∷ lines) books = go_on (with_lines s lines) books (event_of_line s line)
 
--- The books that a text tells, one for each participant. The text is whole lines, each of which begins as a line of a
--- log does.
+-- The books that a text tells, one for each participant. The text is whole lines, each of which
+-- begins as a line of a log does.
 unfoldable pub books_of_text : HubSettings → List ℕ → Result (List (List Event)) BookFault
 books_of_text s text =
-    if length (blocks (recovered text)) == length text then with_lines s (recovered text) (no_books s)
+    if length (blocks (recovered_lines text)) == length text
+    then with_lines s (recovered_lines text) (no_books s)
     else Err BadLine

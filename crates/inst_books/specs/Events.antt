@@ -1,11 +1,13 @@
--- The events of participants' books as JSON objects, one a line. Each is a table of its members, with the keys in
--- byte order. Moments are absolute milliseconds, amounts cents, and participants codes. This hub's own choice.
+-- The events of participants' books as JSON objects, one a line. Each is a table of its members,
+-- with the keys in byte order. Moments are absolute milliseconds, amounts cents, and participants
+-- codes. This hub's own choice.
 use Rattle.std.specs.Prelude.{ℕ, ◌+◌, Bool, true, List, [], ◌∷◌, codes}
 use Rattle.serde_json.specs.Data.{Data, object, string}
 use Rattle.serde_json.specs.Written.{compact_text}
 use Rattle.inst_settings.specs.Settings.{HubSettings, is_participant}
 use Rattle.inst_command.specs.Ask.{is_count}
 use Rattle.inst_command.specs.LineText.{code_numbered}
+use Rattle.inst_command.specs.declared.funding.Funding.{Funding}
 use Rattle.inst_command.specs.declared.outcome.Outcome.{Outcome}
 use Rattle.inst_command.specs.declared.outcome.Outcome.TheVariants.{Accepted, Rejected, TimedOut}
 use Rattle.inst_journal.specs.declared.event.Event.{Event}
@@ -14,25 +16,25 @@ use Rattle.inst_journal.specs.declared.event.Event.TheVariants.{Booked, Fetched,
 use Rattle.inst_json.specs.Replies.{members, whole}
 
 -- an event, by its name
-abbrev pub named : List ℕ → List ℕ × Data
-named name = (codes "event", string name)
+abbrev pub event_member : List ℕ → List ℕ × Data
+event_member name = (codes "event", string name)
 
 -- the participant in whose book it stands
 abbrev pub in_book : List ℕ → List ℕ × Data
 in_book book = (codes "book", string book)
 
-abbrev pub funding_data : List ℕ → List ℕ → List ℕ → ℕ → Data
-funding_data book name reference cents = object (members (
+abbrev pub funding_data : List ℕ → List ℕ → Funding → Data
+funding_data book name funding = object (members (
     in_book book
-    ∷ (codes "cents", whole cents)
-    ∷ named name
-    ∷ (codes "ref", string reference) ∷ []))
+    ∷ (codes "cents", whole funding.cents)
+    ∷ event_member name
+    ∷ (codes "ref", string funding.reference) ∷ []))
 
 abbrev pub taken_data : List ℕ → List ℕ → List ℕ → ℕ → ℕ → Data
 taken_data book id to cents stamp = object (members (
     in_book book
     ∷ (codes "cents", whole cents)
-    ∷ named (codes "taken")
+    ∷ event_member (codes "taken")
     ∷ (codes "id", string id)
     ∷ (codes "stamp", whole stamp)
     ∷ (codes "to", string to) ∷ []))
@@ -42,7 +44,7 @@ forwarded_data book from id cents deadline = object (members (
     in_book book
     ∷ (codes "cents", whole cents)
     ∷ (codes "deadline", whole deadline)
-    ∷ named (codes "forwarded")
+    ∷ event_member (codes "forwarded")
     ∷ (codes "from", string from)
     ∷ (codes "id", string id) ∷ []))
 
@@ -50,7 +52,7 @@ forwarded_data book from id cents deadline = object (members (
 abbrev pub booked_data : List ℕ → List ℕ → List ℕ → List ℕ → Data
 booked_data book from id outcome = object (members (
     in_book book
-    ∷ named (codes "booked")
+    ∷ event_member (codes "booked")
     ∷ (codes "from", string from)
     ∷ (codes "id", string id)
     ∷ (codes "outcome", string outcome) ∷ []))
@@ -58,7 +60,7 @@ booked_data book from id outcome = object (members (
 abbrev pub rejected_data : List ℕ → List ℕ → List ℕ → List ℕ → Data
 rejected_data book from id reason = object (members (
     in_book book
-    ∷ named (codes "booked")
+    ∷ event_member (codes "booked")
     ∷ (codes "from", string from)
     ∷ (codes "id", string id)
     ∷ (codes "outcome", string (codes "rejected"))
@@ -68,12 +70,12 @@ abbrev pub fetched_data : List ℕ → ℕ → Data
 fetched_data book count = object (members (
     in_book book
     ∷ (codes "count", whole count)
-    ∷ named (codes "fetched") ∷ []))
+    ∷ event_member (codes "fetched") ∷ []))
 
 abbrev pub opened_data : List ℕ → Data
 opened_data book = object (members (
     in_book book
-    ∷ named (codes "opened") ∷ []))
+    ∷ event_member (codes "opened") ∷ []))
 
 -- an outcome is named as replies of state name it
 abbrev pub outcome_data : List ℕ → List ℕ → List ℕ → Outcome → Data
@@ -83,9 +85,10 @@ outcome_data book from id TimedOut = booked_data book from id (codes "timed_out"
 
 -- an event in the book that has this code
 abbrev pub data_in : HubSettings → List ℕ → Event → Data
-data_in s book (Funded reference cents) = funding_data book (codes "funded") reference cents
-data_in s book (Defunded reference cents) = funding_data book (codes "defunded") reference cents
-data_in s book (Taken id to cents stamp) = taken_data book id (code_numbered s to) cents (s.base + stamp)
+data_in s book (Funded funding) = funding_data book (codes "funded") funding
+data_in s book (Defunded funding) = funding_data book (codes "defunded") funding
+data_in s book (Taken id to cents stamp) =
+    taken_data book id (code_numbered s to) cents (s.base + stamp)
 data_in s book (Forwarded from id cents deadline) =
     forwarded_data book (code_numbered s from) id cents (s.base + deadline)
 data_in s book (Booked from id outcome) = outcome_data book (code_numbered s from) id outcome
@@ -100,10 +103,11 @@ event_data s who event = data_in s (code_numbered s who) event
 unfoldable pub event_line : HubSettings → ℕ → Event → List ℕ
 event_line s who event = compact_text (event_data s who event)
 
--- whether the event is one of a hub with these settings: whom it names is there, and a fetch gave 1 to 100
+-- whether the event is one of a hub with these settings: whom it names is there, and a fetch gave 1
+-- to 100
 abbrev pub event_can_be_written : HubSettings → Event → Bool
-event_can_be_written s (Funded reference cents) = true
-event_can_be_written s (Defunded reference cents) = true
+event_can_be_written s (Funded funding) = true
+event_can_be_written s (Defunded funding) = true
 event_can_be_written s (Taken id to cents stamp) = is_participant s to
 event_can_be_written s (Forwarded from id cents deadline) = is_participant s from
 event_can_be_written s (Booked from id outcome) = is_participant s from

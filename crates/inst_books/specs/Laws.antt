@@ -1,5 +1,6 @@
 -- The laws of books as text: what is written is read as it was. They are this hub's own promises.
-use Rattle.std.specs.Prelude.{◌≡◌, ℕ, Bool, true, ◌&&◌, ◌==◌, nat_le, if◌then◌else◌, Result, Ok, Err, IsOkAnd}
+use Rattle.std.specs.Prelude.{◌≡◌, ℕ, Bool, true, ◌&&◌, ◌==◌, nat_le, if◌then◌else◌, Result, Ok}
+use Rattle.std.specs.Prelude.{Err, IsOkAnd}
 use Rattle.std.specs.Prelude.{List, [], ◌∷◌, length, get_or, take, flat_map}
 use Rattle.std.specs.List.{list_all}
 use Rattle.inst_base.specs.Cents.{is_amount}
@@ -14,7 +15,7 @@ use Rattle.inst_journal.specs.declared.event.Event.TheVariants.{Funded, Defunded
 use Rattle.inst_journal.specs.declared.event.Event.TheVariants.{Booked, Fetched, Opened}
 use Rattle.inst_journal.specs.Sound.{IsSound}
 use Rattle.inst_base.specs.Newline.{NoNewline}
-use Rattle.inst_log.specs.Layout.{gate, recovered, blocks, IsWhole}
+use Rattle.inst_log.specs.Layout.{gate, recovered_lines, blocks, AreWholeLines}
 use Rattle.inst_books.specs.Events.{event_line, event_can_be_written}
 use Rattle.inst_books.specs.declared.fault.BookFault.{BookFault}
 use Rattle.inst_books.specs.Reading.{Entry, event_of_line}
@@ -28,10 +29,11 @@ outcome_has_form TimedOut = true
 
 -- whether identifiers, amounts and moments are such, as they are in the program
 abbrev pub event_has_form : Event → Bool
-event_has_form (Funded reference cents) = is_identifier reference && is_amount cents
-event_has_form (Defunded reference cents) = is_identifier reference && is_amount cents
+event_has_form (Funded funding) = is_identifier funding.reference && is_amount funding.cents
+event_has_form (Defunded funding) = is_identifier funding.reference && is_amount funding.cents
 event_has_form (Taken id to cents stamp) = is_identifier id && is_amount cents && is_moment stamp
-event_has_form (Forwarded from id cents deadline) = is_identifier id && is_amount cents && is_moment deadline
+event_has_form (Forwarded from id cents deadline) =
+    is_identifier id && is_amount cents && is_moment deadline
 event_has_form (Booked from id outcome) = is_identifier id && outcome_has_form outcome
 event_has_form (Fetched count) = true
 event_has_form Opened = true
@@ -70,15 +72,18 @@ pub record IsSameEntry (who : ℕ) (a : Event) (other : ℕ) (b : Event) : Type 
 
 -- two events with the same line are the same, and of one book
 abbrev pub ALineTellsItsEvent : Type 0
-ALineTellsItsEvent = (s : HubSettings) (who other : ℕ) (a b : Event) → IsEventOf s who a → IsEventOf s other b →
+ALineTellsItsEvent =
+    (s : HubSettings) (who other : ℕ) (a b : Event) → IsEventOf s who a → IsEventOf s other b →
     event_line s who a ≡ event_line s other b → IsSameEntry who a other b
 
 -- each event of a sound history can be written in the book of its participant
 abbrev pub ASoundHistoryCanBeWritten : Type 0
-ASoundHistoryCanBeWritten = (s : HubSettings) (who : ℕ) (J : List Event) → is_participant s who ≡ true →
+ASoundHistoryCanBeWritten =
+    (s : HubSettings) (who : ℕ) (J : List Event) → is_participant s who ≡ true →
     IsSound s who J → list_all (event_can_be_written s) J ≡ true
 
--- the books of the participants of a hub with these settings, one for each in the order of their numbers
+-- the books of the participants of a hub with these settings, one for each in the order of their
+-- numbers
 pub record AreBooksOf (s : HubSettings) (books : List (List Event)) : Type 0 where
   pub settings : IsSettings s
   pub codes : list_all is_code s.codes ≡ true
@@ -99,7 +104,7 @@ ArePlainLines (line ∷ lines) = IsPlainLine line × ArePlainLines lines
 -- the lines of books are plain, and a log whose lines they are has them as they are
 pub record AreLinesOfALog (lines : List (List ℕ)) : Type 0 where
   pub plain : ArePlainLines lines
-  pub kept : recovered (blocks lines) ≡ lines
+  pub kept : recovered_lines (blocks lines) ≡ lines
 
 abbrev pub BooksArePlainLines : Type 0
 BooksArePlainLines = (s : HubSettings) (books : List (List Event)) → AreBooksOf s books →
@@ -114,16 +119,19 @@ said_of p (Err fault) = []
 abbrev pub EachSaysAnEvent : HubSettings → List (List ℕ) → Type 0
 EachSaysAnEvent s [] = Unit {0}
 EachSaysAnEvent s (line ∷ lines) =
-    IsOkAnd (event_of_line s line) (λ entry. is_participant s entry.0 ≡ true) × EachSaysAnEvent s lines
+    IsOkAnd (event_of_line s line) (λ entry. is_participant s entry.0 ≡ true)
+    × EachSaysAnEvent s lines
 
--- The text is whole lines, each of which says an event, and the book of each participant has the events that the
--- lines say to be of it, in the order of the lines.
-pub record TellsTheBooks (s : HubSettings) (text : List ℕ) (books : List (List Event)) : Type 0 where
-  pub whole : IsWhole text
-  pub events : EachSaysAnEvent s (recovered text)
-  pub one_each : length books ≡ participants s
-  pub book : (p : ℕ) → is_participant s p ≡ true →
-      get_or books p [] ≡ flat_map (λ line. said_of p (event_of_line s line)) (recovered text)
+-- The text is whole lines, each of which says an event, and the book of each participant has the
+-- events that the lines say to be of it, in the order of the lines.
+pub record TellsTheBooks (s : HubSettings) (text : List ℕ) (books : List (List Event)) : Type 0
+  where
+    pub whole : AreWholeLines text
+    pub events : EachSaysAnEvent s (recovered_lines text)
+    pub one_each : length books ≡ participants s
+    pub book : (p : ℕ) → is_participant s p ≡ true →
+        get_or books p []
+        ≡ flat_map (λ line. said_of p (event_of_line s line)) (recovered_lines text)
 
 -- what is read of a text is what its lines say
 abbrev pub ATextTellsWhatItsLinesSay : Type 0

@@ -1,5 +1,6 @@
--- What a line of a book says. A line is a JSON object; which book it stands in, which event it is and what the event
--- has are found by their names, in any order, and other names are let go. This hub's own choice.
+-- What a line of a book says. A line is a JSON object; which book it stands in, which event it is
+-- and what the event has are found by their names, in any order, and other names are let go. This
+-- hub's own choice.
 use Rattle.std.specs.Prelude.{◌≡◌, ◌⊎◌, ℕ, List, Result, Ok, Err, codes, if◌then◌else◌}
 use Rattle.serde_json.specs.Data.{Data}
 use Rattle.serde_json.specs.Find.{get}
@@ -14,7 +15,7 @@ use Rattle.inst_command.specs.declared.outcome.Outcome.TheVariants.{Accepted, Re
 use Rattle.inst_journal.specs.declared.event.Event.{Event}
 use Rattle.inst_journal.specs.declared.event.Event.TheVariants.{Funded, Defunded, Taken, Forwarded}
 use Rattle.inst_journal.specs.declared.event.Event.TheVariants.{Booked, Fetched, Opened}
-use Rattle.inst_json.specs.LineFields.{Found, found}
+use Rattle.inst_json.specs.LineFields.{FoundValue, value_found}
 use Rattle.inst_json.specs.Refusals.{◌>>=◌}
 use Rattle.inst_json.specs.Fields.{text_in, whole_in, code_in, reason_in, count_in}
 use Rattle.inst_json.specs.Checks.{participant_of}
@@ -23,23 +24,23 @@ use Rattle.inst_books.specs.declared.fault.BookFault.{BookFault}
 use Rattle.inst_books.specs.declared.fault.BookFault.TheVariants.{BadLine, Memory}
 
 -- what a line has under a name
-abbrev pub field : Data → List ℕ → Found
-field line name = found (get name line)
+abbrev pub field : Data → List ℕ → FoundValue
+field line name = value_found (get name line)
 
 -- an identifier
-unfoldable pub identifier_in : Found → Result (List ℕ) Fault
+unfoldable pub identifier_in : FoundValue → Result (List ℕ) Fault
 identifier_in field = text_in field >>= identifier_of
 
 -- an amount
-unfoldable pub amount_in : Found → Result ℕ Fault
+unfoldable pub amount_in : FoundValue → Result ℕ Fault
 amount_in field = whole_in field >>= cents_of
 
 -- a moment, which stands there in absolute milliseconds
-unfoldable pub moment_in : HubSettings → Found → Result ℕ Fault
+unfoldable pub moment_in : HubSettings → FoundValue → Result ℕ Fault
 moment_in s field = whole_in field >>= moment_of s.base
 
 -- a participant, which stands there by its code
-unfoldable pub participant_in : HubSettings → Found → Result ℕ Fault
+unfoldable pub participant_in : HubSettings → FoundValue → Result ℕ Fault
 participant_in s field = code_in field >>= participant_of s
 
 -- how a transfer ended
@@ -58,13 +59,13 @@ unfoldable pub funded_in : Data → Result Event Fault
 funded_in line = do
   reference ← identifier_in (field line (codes "ref"))
   cents ← amount_in (field line (codes "cents"))
-  Ok (Funded reference cents)
+  Ok (Funded (record { reference = reference; cents = cents }))
 
 unfoldable pub defunded_in : Data → Result Event Fault
 defunded_in line = do
   reference ← identifier_in (field line (codes "ref"))
   cents ← amount_in (field line (codes "cents"))
-  Ok (Defunded reference cents)
+  Ok (Defunded (record { reference = reference; cents = cents }))
 
 unfoldable pub taken_in : HubSettings → Data → Result Event Fault
 taken_in s line = do
@@ -131,7 +132,8 @@ abbrev pub IsUnlessMemory : {X : Type 0} → Result X BookFault → Result X Boo
 IsUnlessMemory returned wanted = (returned ≡ Err Memory) ⊎ (returned ≡ wanted)
 
 -- what is returned, seen by view, is what is wanted, or that memory was refused, whenever that is
-abbrev pub GivesUnlessMemory : {X Y : Type 0} → (X → Y) → Result X BookFault → Result Y BookFault → Type 0
+abbrev pub GivesUnlessMemory : {X Y : Type 0} → (X → Y) → Result X BookFault → Result Y BookFault →
+    Type 0
 GivesUnlessMemory view (Ok x) wanted = Ok (view x) ≡ wanted
 GivesUnlessMemory view (Err fault) wanted = (fault ≡ Memory) ⊎ (Err fault ≡ wanted)
 

@@ -12,10 +12,12 @@ use inst_ledger::Ledger;
 use inst_settings::Settings;
 use std::alloc::{AllocError, Global};
 
-/// Keeps a history again event by event, and tells whether it can be a book. One that can't is kept as far as it may be.
+/// Keeps a history again event by event, and tells whether it can be a book. One that can't is kept
+/// as far as it may be.
 fn keep_all(replay: &mut Replay, journal: &Journal) -> Result<bool, AllocError>
     requires blank { replay.old.events ≡ [] }
-    ensures can { IfOk result (λ can. IsTrue can ↔ CanBeBook replay.old.settings replay.old.who journal.now.events) }
+    ensures can { IfOk result (λ can. IsTrue can ↔
+        CanBeBook replay.old.settings replay.old.who journal.now.events) }
     ensures same { IfOk result (λ can. IsTrue can → replay.new.events ≡ journal.now.events) }
 {
     mention::<Outcome>();
@@ -28,14 +30,16 @@ fn keep_all(replay: &mut Replay, journal: &Journal) -> Result<bool, AllocError>
     Ok(replay.may_open())
 }
 
-/// The books of the participant `who`, kept again event by event, or nothing where the journal can't be its book.
+/// The books of the participant `who`, kept again event by event, or nothing where the journal
+/// can't be its book.
 fn replayed(
     alloc: Global,
     settings: &Settings,
     who: u8,
     journal: &Journal,
 ) -> Result<Option<Ledger>, AllocError>
-    ensures can { IfOk result (λ kept. IsSome kept ↔ CanBeBook settings.now who journal.now.events) }
+    ensures can { IfOk result (λ kept. IsSome kept ↔
+        CanBeBook settings.now who journal.now.events) }
     ensures same { IfOk result (λ kept. IfSome kept (λ l. l.book.events ≡ journal.now.events)) }
 {
     let mut replay = Replay::open(alloc, settings, who)?;
@@ -50,8 +54,10 @@ fn all_replayed(
     journals: &[Journal],
 ) -> Result<Option<Vec<Ledger>>, AllocError>
     requires { length journals.now ≤ 256 }
-    ensures kept { IfOk result (λ kept. IfSome kept (λ ledgers. AreAllKept settings.now journals.now ledgers.items)) }
-    ensures can { IfOk result (λ kept. ((p : ℕ) → CanBeBook settings.now p (books_of journals.now p)) → IsSome kept) }
+    ensures kept { IfOk result (λ kept.
+        IfSome kept (λ ledgers. AreAllKept settings.now journals.now ledgers.items)) }
+    ensures can { IfOk result (λ kept.
+        ((p : ℕ) → CanBeBook settings.now p (books_of journals.now p)) → IsSome kept) }
 {
     let mut ledgers = Vec::new(alloc);
     for (who, journal) in journals.iter().enumerate() {
@@ -63,10 +69,10 @@ fn all_replayed(
     Ok(Some(ledgers))
 }
 
-/// Whether a hub of these settings can open from the journals, one for each participant by number: each is a history
-/// that its participant can have, opened from fewer than 500 times, and both sides of each transfer agree, so that
-/// the books are closed. It makes a copy of them with its tables, and costs a few looks at a table for each event,
-/// whatever the journals hold.
+/// Whether a hub of these settings can open from the journals, one for each participant by number:
+/// each is a history that its participant can have, opened from fewer than 500 times, and both
+/// sides of each transfer agree, so that the books are closed. It makes a copy of them with its
+/// tables, and costs a few looks at a table for each event, whatever the journals hold.
 pub fn can_open(
     alloc: Global,
     settings: &Settings,

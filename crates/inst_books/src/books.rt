@@ -9,9 +9,10 @@ ghost use Rattle.inst_log.specs.Layout.{blocks};
 ghost use Rattle.inst_books.specs.Events.{event_line, event_can_be_written};
 ghost use Rattle.inst_books.specs.Laws.{event_has_form, AreBooksOf};
 ghost use Rattle.inst_books.specs.Reading.{GivesUnlessMemory, event_of_line};
-ghost use Rattle.inst_books.specs.Books.{all_events, books_text, books_of_text, no_books, with_event};
+ghost use Rattle.inst_books.specs.Books.{all_events, books_text, books_of_text, no_books};
+ghost use Rattle.inst_books.specs.Books.{with_event};
 ghost use Rattle.inst_books.specs.Books.{AreWritable};
-ghost use Rattle.inst_books.specs.inner.Books.{Keeps};
+ghost use Rattle.inst_books.specs.inner.Books.{KeepsEvent};
 
 use crate::write::append_event;
 use crate::{BookFault, read_event};
@@ -23,8 +24,9 @@ use inst_log::{first_line, whole_lines};
 use inst_settings::Settings;
 use std::alloc::{AllocError, Global};
 
-/// Puts the lines of all books at the end of `out`, each with its newline: of one journal for each participant, in
-/// the order of their numbers. After an error a part of the text may stand at the end.
+/// Puts the lines of all books at the end of `out`, each with its newline: of one journal for each
+/// participant, in the order of their numbers. After an error a part of the text may stand at the
+/// end.
 #[tactic(auto, unfolding(crate::specs::Books::books_text))]
 pub fn append_books(
     settings: &Settings,
@@ -37,7 +39,8 @@ pub fn append_books(
         ≡ out.old.items ++ books_text settings.now (all_events journals.now)) }
 
     // So what was written is read as the books.
-    ensures books { OnOk result (IsSettings settings.now → AreBooksOf settings.now (all_events journals.now)) }
+    ensures books { OnOk result (IsSettings settings.now →
+        AreBooksOf settings.now (all_events journals.now)) }
 {
     for who in 0..settings.participants() {
         append_book(
@@ -73,10 +76,10 @@ fn append_book(
     Ok(())
 }
 
-/// The journals that a text tells, one for each participant in the order of their numbers, or `BadLine` where a line
-/// is no event, a line begins with no brace or the end is no newline. The events of a book stand in the order of its
-/// lines, whatever lines of other books stand between them. `Memory` comes only where memory was refused. The text is
-/// passed over twice.
+/// The journals that a text tells, one for each participant in the order of their numbers, or
+/// `BadLine` where a line is no event, a line begins with no brace or the end is no newline. The
+/// events of a book stand in the order of its lines, whatever lines of other books stand between
+/// them. `Memory` comes only where memory was refused. The text is passed over twice.
 #[tactic(auto, unfolding(crate::specs::Books::books_of_text))]
 pub fn read_books(
     alloc: Global,
@@ -88,7 +91,8 @@ pub fn read_books(
 
     // So they can be written again.
     ensures one_each { IfOk result (λ journals. length journals.items ≡ participants settings.now) }
-    ensures writable { IfOk result (λ journals. AreWritable settings.now (all_events journals.items)) }
+    ensures writable { IfOk result (λ journals.
+        AreWritable settings.now (all_events journals.items)) }
 {
     if whole_lines(text).len() != text.len() {
         return Err(BookFault::BadLine);
@@ -111,7 +115,7 @@ fn read_line(
 ) -> Result<(), BookFault>
     requires one_each { length journals.old ≡ participants settings.now }
     requires writable { AreWritable settings.now (all_events journals.old) }
-    ensures kept { Keeps (event_of_line settings.now line.now) result
+    ensures kept { KeepsEvent (event_of_line settings.now line.now) result
         (all_events journals.old) (all_events journals.new) }
     ensures writable { OnOk result (AreWritable settings.now (all_events journals.new)) }
 {
@@ -135,7 +139,8 @@ fn no_journals(alloc: Global, settings: &Settings) -> Result<Vec<Journal>, Alloc
 /// Puts an event at the end of the participant's journal.
 fn keep(journals: &mut [Journal], who: u8, event: Event) -> Result<(), AllocError>
     requires { who < length journals.old }
-    ensures { OnOk result (all_events journals.new ≡ with_event who event (all_events journals.old)) }
+    ensures { OnOk result (all_events journals.new
+        ≡ with_event who event (all_events journals.old)) }
 {
     mention::<Outcome>();
     match journals[usize::from(who)].push(event) {

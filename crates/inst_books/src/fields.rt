@@ -2,7 +2,8 @@
 ghost use Rattle.std.specs.Prelude.{◌≡◌, true, IfOk};
 ghost use Rattle.serde_json.specs.View.{view};
 ghost use Rattle.inst_settings.specs.Settings.{is_participant};
-ghost use Rattle.inst_books.specs.Reading.{field, identifier_in, amount_in, moment_in, participant_in, outcome_in};
+ghost use Rattle.inst_books.specs.Reading.{field, identifier_in, amount_in, moment_in};
+ghost use Rattle.inst_books.specs.Reading.{participant_in, outcome_in};
 
 use inst_base::{Cents, Fault, Ident, Moment};
 use inst_command::Outcome;
@@ -35,7 +36,8 @@ pub(crate) fn moment(settings: &Settings, line: &Value, name: &str) -> Result<Mo
     Moment::new(settings.base(), whole(field_at(line, name))?)
 }
 
-/// The number of the participant whose code stands under a name, or `BadField` or `UnknownParticipant`.
+/// The number of the participant whose code stands under a name, or `BadField` or
+/// `UnknownParticipant`.
 #[tactic(auto, unfolding(crate::specs::Reading::participant_in))]
 pub(crate) fn participant_at(settings: &Settings, line: &Value, name: &str) -> Result<u8, Fault>
     ensures value { result ≡ participant_in settings.now (field (view line.now) name.now) }

@@ -1,8 +1,9 @@
-//! The laws of books as text. Each is a function without a body whose contract is the law, so that the check
-//! proves it.
+//! The laws of books as text. Each is a function without a body whose contract is the law, so that
+//! the check proves it.
 ghost use Rattle.inst_books.specs.Laws.{AnEventReadsBack, AnEventIsAPlainLine, ALineTellsItsEvent};
 ghost use Rattle.inst_books.specs.Laws.{ASoundHistoryCanBeWritten, BooksReadBack};
-ghost use Rattle.inst_books.specs.Laws.{BooksArePlainLines, ATextTellsWhatItsLinesSay, ATextTellsItsBooks};
+ghost use Rattle.inst_books.specs.Laws.{BooksArePlainLines, ATextTellsWhatItsLinesSay};
+ghost use Rattle.inst_books.specs.Laws.{ATextTellsItsBooks};
 
 /// What is written of an event is read as the event, in the same book.
 pub fn an_event_reads_back()
@@ -29,13 +30,14 @@ pub fn books_read_back()
     ensures { BooksReadBack }
 {}
 
-/// Each line of books begins with a brace, and has neither a newline nor a zero byte: a log of these lines has them
-/// as they are.
+/// Each line of books begins with a brace, and has neither a newline nor a zero byte: a log of
+/// these lines has them as they are.
 pub fn books_are_plain_lines()
     ensures { BooksArePlainLines }
 {}
 
-/// What is read of a text is what its lines say, also where lines of several books stand between one another.
+/// What is read of a text is what its lines say, also where lines of several books stand between
+/// one another.
 pub fn a_text_tells_what_its_lines_say()
     ensures { ATextTellsWhatItsLinesSay }
 {}

@@ -6,12 +6,15 @@ ghost use Rattle.inst_settings.specs.Settings.{HubSettings, is_participant};
 ghost use Rattle.inst_json.specs.Lines.{json_of};
 ghost use Rattle.inst_json.specs.inner.Refusals.{GivesUnlessMemory};
 ghost use Rattle.inst_books.specs.Events.{event_can_be_written};
-ghost use Rattle.inst_books.specs.Reading.{event_of_line, entry_of_line, entry_in, event_named, IsUnlessMemory};
-ghost use Rattle.inst_books.specs.Reading.{funded_in, defunded_in, taken_in, forwarded_in, booked_in, fetched_in};
+ghost use Rattle.inst_books.specs.Reading.{event_of_line, entry_of_line, entry_in, event_named};
+ghost use Rattle.inst_books.specs.Reading.{IsUnlessMemory};
+ghost use Rattle.inst_books.specs.Reading.{funded_in, defunded_in, taken_in, forwarded_in};
+ghost use Rattle.inst_books.specs.Reading.{booked_in, fetched_in};
 
 use crate::BookFault;
 use crate::fields::{amount, identifier, moment, outcome, participant_at};
 use inst_base::Fault;
+use inst_command::Funding;
 use inst_journal::Event;
 use inst_json::field_at;
 use inst_json::fields::{count, text};
@@ -19,9 +22,10 @@ use inst_settings::Settings;
 use serde_json::Value;
 use std::alloc::Global;
 
-/// The event of a line without its newline, and the number of the participant in whose book it stands, or `BadLine`.
-/// The members may stand in any order, those that the event doesn't have are ignored, and of one given twice the last
-/// counts. `Memory` comes only where memory was refused. A line has a tree while it is read.
+/// The event of a line without its newline, and the number of the participant in whose book it
+/// stands, or `BadLine`. The members may stand in any order, those that the event doesn't have are
+/// ignored, and of one given twice the last counts. `Memory` comes only where memory was refused. A
+/// line has a tree while it is read.
 pub fn read_event(alloc: Global, settings: &Settings, line: &[u8]) -> Result<(u8, Event), BookFault>
     ensures value { IsUnlessMemory result (event_of_line settings.now line.now) }
     ensures book { IfOk result (λ entry. is_participant settings.now entry.0 ≡ true) }
@@ -89,21 +93,23 @@ fn event_named(settings: &Settings, line: &Value, name: &str) -> Result<Event, F
 #[tactic(auto, unfolding(crate::specs::Reading::funded_in))]
 fn funded(line: &Value) -> Result<Event, Fault>
     ensures value { result ≡ funded_in (view line.now) }
-    ensures writable { IfOk result (λ event. (s : HubSettings) → event_can_be_written s event ≡ true) }
+    ensures writable { IfOk result (λ event. (s : HubSettings) →
+        event_can_be_written s event ≡ true) }
 {
     let reference = identifier(line, "ref")?;
     let cents = amount(line, "cents")?;
-    Ok(Event::Funded { reference, cents })
+    Ok(Event::Funded(Funding { reference, cents }))
 }
 
 #[tactic(auto, unfolding(crate::specs::Reading::defunded_in))]
 fn defunded(line: &Value) -> Result<Event, Fault>
     ensures value { result ≡ defunded_in (view line.now) }
-    ensures writable { IfOk result (λ event. (s : HubSettings) → event_can_be_written s event ≡ true) }
+    ensures writable { IfOk result (λ event. (s : HubSettings) →
+        event_can_be_written s event ≡ true) }
 {
     let reference = identifier(line, "ref")?;
     let cents = amount(line, "cents")?;
-    Ok(Event::Defunded { reference, cents })
+    Ok(Event::Defunded(Funding { reference, cents }))
 }
 
 #[tactic(auto, unfolding(crate::specs::Reading::taken_in))]
@@ -154,7 +160,8 @@ fn booked(settings: &Settings, line: &Value) -> Result<Event, Fault>
 #[tactic(auto, unfolding(crate::specs::Reading::fetched_in))]
 fn fetched(line: &Value) -> Result<Event, Fault>
     ensures value { result ≡ fetched_in (view line.now) }
-    ensures writable { IfOk result (λ event. (s : HubSettings) → event_can_be_written s event ≡ true) }
+    ensures writable { IfOk result (λ event. (s : HubSettings) →
+        event_can_be_written s event ≡ true) }
 {
     let count = count(field_at(line, "count"))?;
     Ok(Event::Fetched { count })

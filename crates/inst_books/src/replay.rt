@@ -3,20 +3,22 @@ ghost use Rattle.std.specs.Prelude.{◌≡◌, ◌≢◌, ◌↔◌, ◌<◌, �
 ghost use Rattle.inst_settings.specs.Settings.{is_participant, is_within_ceiling};
 ghost use Rattle.inst_journal.specs.Money.{available};
 ghost use Rattle.inst_journal.specs.Opened.{live_submissions, live_forwarded};
-ghost use Rattle.inst_journal.specs.Sound.{Fits, FundedFits, TakenFits, ForwardedFits, BookedFits, FetchedFits, OpenedFits};
+ghost use Rattle.inst_journal.specs.Sound.{Fits, FundedFits, TakenFits, ForwardedFits, BookedFits};
+ghost use Rattle.inst_journal.specs.Sound.{FetchedFits, OpenedFits};
 ghost use Rattle.inst_ledger.specs.Book.{with_event};
 
 use crate::tally::Tally;
 use inst_base::{Cents, Ident, Moment};
-use inst_command::is_count;
+use inst_command::{Funding, is_count};
 use inst_journal::{Event, MOST_OPENINGS};
 use inst_ledger::Ledger;
 use inst_settings::Settings;
 use std::alloc::{AllocError, Global};
 use std::marker::Model;
 
-/// The books of one participant that are kept again event by event, of which each is told whether it may come
-/// next. Beside the ledger stands what it doesn't count, which would cost a running hub room and time for nothing.
+/// The books of one participant that are kept again event by event, of which each is told whether
+/// it may come next. Beside the ledger stands what it doesn't count, which would cost a running hub
+/// room and time for nothing.
 ///
 /// ```text
 /// let mut replay = Replay::open(alloc, &settings, who)?;
@@ -43,7 +45,8 @@ impl Model for Replay {
 impl Replay {
     /// No events yet of the participant `who`. It has a copy of the settings.
     pub fn open(alloc: Global, settings: &Settings, who: u8) -> Result<Replay, AllocError>
-        ensures ok { IfOk result (λ r. r ≡ record { settings = settings.now; who = who; events = [] }) }
+        ensures ok { IfOk result (λ r.
+            r ≡ record { settings = settings.now; who = who; events = [] }) }
     {
         Ok(Replay {
             ledger: Ledger::open(alloc, settings, who)?,
@@ -52,18 +55,19 @@ impl Replay {
     }
 
     /// Whether the funding may come next, but for what is available.
-    fn may_fund(&self, reference: &Ident, cents: Cents) -> bool
-        ensures { IsTrue result ↔ FundedFits self.now.settings self.now.events reference.now cents }
+    fn may_fund(&self, funding: &Funding) -> bool
+        ensures { IsTrue result ↔ FundedFits self.now.settings self.now.events funding.now }
     {
         let settings = self.ledger.settings();
-        !self.ledger.has_reference(reference)
+        !self.ledger.has_reference(&funding.reference)
             && self.ledger.fundings() < usize::from(settings.fundings())
-            && settings.allows(cents.get())
+            && settings.allows(funding.cents.get())
     }
 
     /// Whether another participant has this number.
     fn is_another(&self, number: u8) -> bool
-        ensures { IsTrue result ↔ ((is_participant self.now.settings number ≡ true) × (number ≢ self.now.who)) }
+        ensures { IsTrue result ↔
+            ((is_participant self.now.settings number ≡ true) × (number ≢ self.now.who)) }
     {
         self.ledger.settings().has_participant(number) && number != self.ledger.who()
     }
@@ -77,8 +81,10 @@ impl Replay {
 
     /// Whether there is a place for one more submission, and its amount may be reserved.
     fn may_reserve(&self, cents: Cents) -> bool
-        ensures { IsTrue result ↔ ((live_submissions self.now.who self.now.events < self.now.settings.places)
-            × (is_within_ceiling self.now.settings cents ≡ true) × (cents ≤ available self.now.events)) }
+        ensures { IsTrue result ↔
+            ((live_submissions self.now.who self.now.events < self.now.settings.places)
+            × (is_within_ceiling self.now.settings cents ≡ true)
+            × (cents ≤ available self.now.events)) }
     {
         let settings = self.ledger.settings();
         self.ledger.live_submissions() < usize::from(settings.places())
@@ -88,7 +94,8 @@ impl Replay {
 
     /// Whether the submission may come next.
     fn may_take(&self, id: &Ident, to: u8, cents: Cents, stamp: Moment) -> bool
-        ensures { IsTrue result ↔ TakenFits self.now.settings self.now.who self.now.events id.now to cents stamp }
+        ensures { IsTrue result ↔
+            TakenFits self.now.settings self.now.who self.now.events id.now to cents stamp }
     {
         self.is_another(to)
             && stamp.has_deadline(self.ledger.settings().limit())
@@ -106,7 +113,8 @@ impl Replay {
 
     /// Whether this transfer may come next.
     fn may_forward(&self, from: u8, id: &Ident) -> bool
-        ensures { IsTrue result ↔ ForwardedFits self.now.settings self.now.who self.now.events from id.now }
+        ensures { IsTrue result ↔
+            ForwardedFits self.now.settings self.now.who self.now.events from id.now }
     {
         self.is_another(from)
             && !self.ledger.is_forwarded(from, id)
@@ -135,15 +143,14 @@ impl Replay {
         self.tally.openings < MOST_OPENINGS
     }
 
-    /// Whether the event may come next. It costs three looks at a table at most, and no walk over events.
+    /// Whether the event may come next. It costs three looks at a table at most, and no walk over
+    /// events.
     pub fn may_keep(&self, event: &Event) -> bool
         ensures { IsTrue result ↔ Fits self.now.settings self.now.who self.now.events event.now }
     {
         match event {
-            Event::Funded { reference, cents } => self.may_fund(reference, *cents),
-            Event::Defunded { reference, cents } => {
-                self.may_fund(reference, *cents) && self.covers(*cents)
-            }
+            Event::Funded(funding) => self.may_fund(funding),
+            Event::Defunded(funding) => self.may_fund(funding) && self.covers(funding.cents),
             Event::Taken {
                 id,
                 to,
@@ -174,10 +181,8 @@ impl Replay {
                 }
             }
             Event::Opened => self.tally.begin(),
-            Event::Funded { .. }
-            | Event::Defunded { .. }
-            | Event::Taken { .. }
-            | Event::Fetched { .. } => {}
+            Event::Funded(_) | Event::Defunded(_) | Event::Taken { .. } | Event::Fetched { .. } =>
+                {}
         }
         Ok(())
     }

@@ -4,7 +4,8 @@ ghost use Rattle.std.specs.List.{All};
 ghost use Rattle.inst_base.specs.TimeLimit.{deadline_of};
 ghost use Rattle.inst_journal.specs.Booked.{first_some, booked};
 ghost use Rattle.inst_ledger.specs.Kept.{sending_of, forwarding_of};
-ghost use Rattle.inst_books.specs.inner.Agreeing.{IsReleased, IsReceived, IsSent, Agrees, histories_of};
+ghost use Rattle.inst_books.specs.inner.Agreeing.{IsReleased, IsReceived, IsSent, Agrees};
+ghost use Rattle.inst_books.specs.inner.Agreeing.{histories_of};
 
 use inst_base::{Cents, Ident, Moment, mention};
 use inst_command::Outcome;
@@ -34,8 +35,8 @@ fn is_deadline(stamp: Moment, limit: u32, deadline: Moment) -> bool
     stamp.has_deadline(limit) && stamp.deadline(limit) == deadline
 }
 
-/// Whether what came to the beneficiary agrees with what was submitted at `stamp`, and what was booked `there` with what
-/// its originator has booked `here`.
+/// Whether what came to the beneficiary agrees with what was submitted at `stamp`, and what was
+/// booked `there` with what its originator has booked `here`.
 fn is_received(
     came: &Option<Forwarding>,
     cents: Cents,
@@ -44,7 +45,8 @@ fn is_received(
     here: &Option<Outcome>,
     there: &Option<Outcome>,
 ) -> bool
-    ensures { IsTrue result ↔ IsReceived cents (deadline_of limit stamp) here.now there.now came.now }
+    ensures { IsTrue result ↔
+        IsReceived cents (deadline_of limit stamp) here.now there.now came.now }
 {
     match came {
         Some(forwarding) => {
@@ -91,8 +93,8 @@ fn booked(ledgers: &[Ledger], who: u8, from: u8, id: &Ident) -> Option<Outcome>
     ledgers.get(usize::from(who))?.booked(from, id)
 }
 
-/// Whether what the event of the participant `who` says of a transfer agrees with what the other side has. It
-/// costs three looks at a table at most.
+/// Whether what the event of the participant `who` says of a transfer agrees with what the other
+/// side has. It costs three looks at a table at most.
 fn agrees(ledgers: &[Ledger], limit: u32, who: u8, event: &Event) -> bool
     ensures { IsTrue result ↔ Agrees limit (histories_of ledgers.now) who event.now }
 {
@@ -116,8 +118,8 @@ fn agrees(ledgers: &[Ledger], limit: u32, who: u8, event: &Event) -> bool
             cents,
             deadline,
         } => is_sent(&sending(ledgers, *from, id), limit, who, *cents, *deadline),
-        Event::Funded { .. }
-        | Event::Defunded { .. }
+        Event::Funded(_)
+        | Event::Defunded(_)
         | Event::Booked { .. }
         | Event::Fetched { .. }
         | Event::Opened => true,
@@ -137,7 +139,8 @@ fn all_agree(ledgers: &[Ledger], limit: u32, who: u8, events: &[Event]) -> bool
 /// Whether all that the ledgers have of each transfer agrees, event by event.
 pub(crate) fn books_agree(ledgers: &[Ledger], limit: u32) -> bool
     requires { length ledgers.now ≤ 256 }
-    ensures { IsTrue result ↔ ((p : ℕ) → All (Agrees limit (histories_of ledgers.now) p) (histories_of ledgers.now p)) }
+    ensures { IsTrue result ↔
+        ((p : ℕ) → All (Agrees limit (histories_of ledgers.now) p) (histories_of ledgers.now p)) }
 {
     for (who, ledger) in ledgers.iter().enumerate() {
         if !all_agree(ledgers, limit, who as u8, ledger.journal().events()) {

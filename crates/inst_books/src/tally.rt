@@ -4,8 +4,8 @@ ghost use Rattle.inst_settings.specs.declared.ranges.TheConstants.{MOST_PARTICIP
 
 use inst_settings::MOST_PARTICIPANTS;
 
-/// How many transfers came from each originator, by its number, and how often the hub was opened: an entry for each
-/// number that a participant may have.
+/// How many transfers came from each originator, by its number, and how often the hub was opened:
+/// an entry for each number that a participant may have.
 #[derive(Clone, Copy, Drop)]
 pub(crate) struct Tally {
     /// Those that are live.
@@ -19,7 +19,8 @@ impl Tally {
     /// Of an empty history.
     pub(crate) fn new() -> Tally
         ensures live { (from : ℕ) → from < MOST_PARTICIPANTS → slice_index result.live from ≡ 0 }
-        ensures waiting { (from : ℕ) → from < MOST_PARTICIPANTS → slice_index result.waiting from ≡ 0 }
+        ensures waiting { (from : ℕ) → from < MOST_PARTICIPANTS →
+            slice_index result.waiting from ≡ 0 }
         ensures openings { result.openings ≡ 0 }
     {
         Tally {
@@ -33,8 +34,10 @@ impl Tally {
     pub(crate) fn arrive(&mut self, from: u8)
         requires live { slice_index self.old.live from + 1 < 2 ^ 64 }
         requires waiting { slice_index self.old.waiting from + 1 < 2 ^ 64 }
-        ensures live { self.new.live ≡ slice_set self.old.live from (slice_index self.old.live from + 1) }
-        ensures waiting { self.new.waiting ≡ slice_set self.old.waiting from (slice_index self.old.waiting from + 1) }
+        ensures live { self.new.live
+            ≡ slice_set self.old.live from (slice_index self.old.live from + 1) }
+        ensures waiting { self.new.waiting
+            ≡ slice_set self.old.waiting from (slice_index self.old.waiting from + 1) }
         ensures openings { self.new.openings ≡ self.old.openings }
     {
         self.live[usize::from(from)] += 1;
@@ -45,7 +48,8 @@ impl Tally {
     pub(crate) fn settle(&mut self, from: u8)
         requires { 1 ≤ slice_index self.old.waiting from }
         ensures live { self.new.live ≡ self.old.live }
-        ensures waiting { self.new.waiting ≡ slice_set self.old.waiting from (slice_index self.old.waiting from - 1) }
+        ensures waiting { self.new.waiting
+            ≡ slice_set self.old.waiting from (slice_index self.old.waiting from - 1) }
         ensures openings { self.new.openings ≡ self.old.openings }
     {
         self.waiting[usize::from(from)] -= 1;

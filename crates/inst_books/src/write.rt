@@ -8,20 +8,21 @@ ghost use Rattle.inst_settings.specs.Settings.{is_participant};
 ghost use Rattle.inst_books.specs.Events.{data_in, event_can_be_written};
 ghost use Rattle.inst_books.specs.inner.Events.{is_name};
 ghost use Rattle.inst_books.specs.Laws.{event_has_form, outcome_has_form};
-ghost use Rattle.inst_books.specs.Events.{funding_data, taken_data, forwarded_data, booked_data, rejected_data};
+ghost use Rattle.inst_books.specs.Events.{funding_data, taken_data, forwarded_data, booked_data};
+ghost use Rattle.inst_books.specs.Events.{rejected_data};
 ghost use Rattle.inst_books.specs.Events.{outcome_data, fetched_data, opened_data};
 
 use crate::members::{push_book, push_end, push_text_member, push_whole_member};
 use inst_base::{Cents, Ident, Moment, Reason};
-use inst_command::Outcome;
+use inst_command::{Funding, Outcome};
 use inst_journal::Event;
 use inst_json::code_text;
 use inst_settings::Settings;
 use std::alloc::AllocError;
 
-/// Puts the line of an event in the book of the participant with this code, without its newline, at the end of `out`:
-/// compact JSON with the keys in byte order. Moments are absolute milliseconds, and amounts are cents. After an error
-/// a part of the line may stand at the end.
+/// Puts the line of an event in the book of the participant with this code, without its newline, at
+/// the end of `out`: compact JSON with the keys in byte order. Moments are absolute milliseconds,
+/// and amounts are cents. After an error a part of the line may stand at the end.
 pub(crate) fn append_event(
     settings: &Settings,
     book: &str,
@@ -35,12 +36,8 @@ pub(crate) fn append_event(
     ensures form { event_has_form event.now ≡ true }
 {
     match event {
-        Event::Funded { reference, cents } => {
-            append_funding(out, book, "funded", reference, *cents)
-        }
-        Event::Defunded { reference, cents } => {
-            append_funding(out, book, "defunded", reference, *cents)
-        }
+        Event::Funded(funding) => append_funding(out, book, "funded", funding),
+        Event::Defunded(funding) => append_funding(out, book, "defunded", funding),
         Event::Taken {
             id,
             to,
@@ -80,18 +77,18 @@ fn append_funding<'a>(
     out: &mut Vec<u8>,
     book: &'a str,
     name: &'a str,
-    reference: &'a Ident,
-    cents: Cents,
+    funding: &'a Funding,
 ) -> Result<(), AllocError>
     requires book { IsTrue (is_code book.now) }
     requires name { is_name name.now ≡ true }
     ensures text { OnOk result (out.new.items
-        ≡ out.old.items ++ compact_text (funding_data book.now name.now reference.now cents)) }
-    ensures form { (is_identifier reference.now && is_amount cents) ≡ true }
+        ≡ out.old.items ++ compact_text (funding_data book.now name.now funding.now)) }
+    ensures form { (is_identifier funding.now.reference && is_amount funding.now.cents) ≡ true }
 {
-    let reference = reference.text();
+    let reference = funding.reference.text();
+    let cents = funding.cents.get();
     push_book(out, book)?;
-    push_whole_member(out, "cents", cents.get())?;
+    push_whole_member(out, "cents", cents)?;
     push_text_member(out, "event", name)?;
     push_text_member(out, "ref", reference)?;
     push_end(out)
@@ -218,7 +215,8 @@ fn append_rejected<'a>(
 
 fn append_fetched(out: &mut Vec<u8>, book: &str, count: u32) -> Result<(), AllocError>
     requires { IsTrue (is_code book.now) }
-    ensures { OnOk result (out.new.items ≡ out.old.items ++ compact_text (fetched_data book.now count)) }
+    ensures { OnOk result (out.new.items
+        ≡ out.old.items ++ compact_text (fetched_data book.now count)) }
 {
     push_book(out, book)?;
     push_whole_member(out, "count", u64::from(count))?;

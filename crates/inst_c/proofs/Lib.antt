@@ -1,2 +1,2 @@
-mod AsBox
-mod Calling
+mod HeldHubAsBox
+mod HandleAfterCall

@@ -1,12 +1,14 @@
--- What the calls of C do to the hub of a handle, and which status they answer. This hub's own choice.
-use Rattle.std.specs.Prelude.{◌≡◌, ◌⊎◌, ◌<◌, ◌≤◌, ℕ, false, List, [], ◌++◌, length, drop, Option, Some, None}
+-- What the calls of C do to the hub of a handle, and which status they answer. This hub's own
+-- choice.
+use Rattle.std.specs.Prelude.{◌≡◌, ◌⊎◌, ◌<◌, ◌≤◌, ℕ, false, List, [], ◌++◌, length, drop, Option}
+use Rattle.std.specs.Prelude.{Some, None}
 use Rattle.inst_base.specs.Fault.{number_of}
 use Rattle.inst_base.specs.declared.fault.Fault.TheVariants.{BadSettings, Memory}
 use Rattle.inst_settings.specs.Settings.{HubSettings}
 use Rattle.inst_settings.specs.Lawful.{AreOfAHub}
 use Rattle.inst_lines.specs.declared.mode.Mode.{Mode}
 use Rattle.inst_lines.specs.Answers.{AnswersLine}
-use Rattle.inst_lines.specs.Answering.{answering, Keeps}
+use Rattle.inst_lines.specs.Answering.{hub_answerer, Keeps}
 use Rattle.inst_c.specs.declared.line_hub.LineHub.{LineHub}
 use Rattle.inst_c.specs.declared.calls.Told.{Told}
 use Rattle.inst_c.specs.declared.status.TheConstants.{DONE, CLOSED, STILL_OPEN, SHORT}
@@ -28,12 +30,15 @@ Opens s mode None new status =
     ⊎ ((status ≡ number_of BadSettings) × ((new ≡ None) × ¬ (AreOfAHub s))))
 
 -- the hub has answered the line: as the model does, whatever it had gone through
-pub record HasAnswered (line : List ℕ) (old : LineHub) (new : Option LineHub) (told : Told) : Type 0 where
-  pub hub : LineHub
-  pub is : new ≡ Some hub
-  pub mode_is : hub.mode ≡ old.mode
-  pub answers : AnswersLine (answering old.mode) (Keeps old.mode) false line old.runner hub.runner [] hub.reply.items told.is_refused
-  pub length_is : told.length ≡ length hub.reply.items
+pub record HasAnswered (line : List ℕ) (old : LineHub) (new : Option LineHub) (told : Told) : Type 0
+  where
+    pub hub : LineHub
+    pub is : new ≡ Some hub
+    pub mode_is : hub.mode ≡ old.mode
+    pub answers : AnswersLine (hub_answerer old.mode) (Keeps old.mode) false line old.runner
+        hub.runner
+        [] hub.reply.items told.is_refused
+    pub length_is : told.length ≡ length hub.reply.items
 
 -- a line is answered where a hub is open; where there is no memory for that, the hub is closed
 abbrev pub Answers : List ℕ → Option LineHub → Option LineHub → Told → Told → ℕ → Type 0

@@ -1,4 +1,5 @@
--- The settings of a hub as C chooses them: participants as one text with commas, and numbers. This hub's own choice.
+-- The settings of a hub as C chooses them: participants as one text with commas, and numbers. This
+-- hub's own choice.
 use Rattle.std.specs.Prelude.{◌≡◌, ◌⊎◌, ℕ, Bool, List, if◌then◌else◌}
 use Rattle.inst_base.specs.declared.fault.Fault.{Fault}
 use Rattle.inst_base.specs.declared.fault.Fault.TheVariants.{BadSettings, Memory}
@@ -12,7 +13,8 @@ use Rattle.inst_c.specs.declared.chosen.Chosen.{Chosen}
 -- the settings that are chosen
 abbrev pub chosen : List ℕ → Chosen → HubSettings
 chosen participants s =
-    settings_with (parts_of participants) s.places s.fundings s.limit s.margin s.ahead s.ceiling s.base
+    settings_with (parts_of participants) s.places s.fundings s.limit s.margin s.ahead s.ceiling
+    s.base
 
 -- what a line stands for
 abbrev pub mode_of : Bool → Mode

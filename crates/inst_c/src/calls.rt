@@ -31,7 +31,8 @@ pub extern "C" fn inst_open(
     settings: &Chosen,
     is_play: bool,
 ) -> u32
-    ensures { Opens (chosen participants.now settings.now) (mode_of is_play) handle.old.held.hub handle.new.held.hub result }
+    ensures { Opens (chosen participants.now settings.now) (mode_of is_play) handle.old.held.hub
+        handle.new.held.hub result }
 {
     if handle.is_open {
         return STILL_OPEN;
@@ -52,7 +53,8 @@ fn opened(
     settings: &Chosen,
     is_play: bool,
 ) -> Result<Box<LineHub>, Fault>
-    ensures opened { IfOk result (λ hub. HasOpened (mode_of is_play) (chosen participants.now settings.now) hub.value) }
+    ensures opened { IfOk result (λ hub.
+        HasOpened (mode_of is_play) (chosen participants.now settings.now) hub.value) }
     ensures good { IfOk result (λ _. AreOfAHub (chosen participants.now settings.now)) }
     ensures fault { IfErr result (IsRefusal (chosen participants.now settings.now)) }
 {

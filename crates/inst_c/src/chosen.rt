@@ -4,7 +4,7 @@ ghost use Rattle.inst_c.specs.Chosen.{mode_of};
 
 use inst_base::Fault;
 use inst_lines::Mode;
-use inst_settings::{Numbers, Settings, parse_codes};
+use inst_settings::{HubParameters, Settings, parse_codes};
 use std::alloc::Global;
 
 /// The settings of a hub but for its participants. The header has their ranges.
@@ -31,15 +31,15 @@ impl Chosen {
     ghost use Rattle.inst_settings.specs.Lawful.{AreOfAHub};
     ghost use Rattle.inst_c.specs.Chosen.{chosen, IsRefusal};
 
-    /// The settings, with the participants whose codes stand in the text with commas between them. `BadSettings` where
-    /// no hub can have them, and `Memory` where there is no room for the codes.
+    /// The settings, with the participants whose codes stand in the text with commas between them.
+    /// `BadSettings` where no hub can have them, and `Memory` where there is no room for the codes.
     pub fn settings(&self, alloc: Global, participants: &[u8]) -> Result<Settings, Fault>
         ensures chosen { IfOk result (λ settings. settings ≡ chosen participants.now self.now) }
         ensures good { IfOk result AreOfAHub }
         ensures fault { IfErr result (IsRefusal (chosen participants.now self.now)) }
     {
         let codes = parse_codes(alloc, participants)?;
-        let numbers = Numbers {
+        let numbers = HubParameters {
             places: self.places,
             fundings: self.fundings,
             limit: self.limit,

@@ -7,7 +7,8 @@ use crate::line_hub::LineHub;
 use std::alloc::Global;
 use std::mem;
 
-/// A hub, if one is open. In C it is a struct of a pointer and a `bool`, which begins with all bytes 0.
+/// A hub, if one is open. In C it is a struct of a pointer and a `bool`, which begins with all
+/// bytes 0.
 #[repr(C)]
 #[derive(Drop)]
 pub struct Handle {

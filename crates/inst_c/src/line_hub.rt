@@ -1,7 +1,7 @@
 //! A hub that answers one line after another, and keeps the last reply.
 ghost use Rattle.std.specs.Prelude.{◌≡◌, false, [], IfOk};
 ghost use Rattle.inst_lines.specs.Answers.{AnswersLine};
-ghost use Rattle.inst_lines.specs.Answering.{answering, Keeps};
+ghost use Rattle.inst_lines.specs.Answering.{hub_answerer, Keeps};
 
 use inst_agenda::Runner;
 use inst_json::LineReader;
@@ -37,10 +37,11 @@ impl LineHub {
         })
     }
 
-    /// Answers a line, whose newline is not among its bytes, and says whether it is refused. The reply to the line
-    /// before is let go. After an error the hub may have gone on: let it go.
+    /// Answers a line, whose newline is not among its bytes, and says whether it is refused. The
+    /// reply to the line before is let go. After an error the hub may have gone on: let it go.
     pub fn answer(&mut self, line: &[u8]) -> Result<bool, AllocError>
-        ensures answers { IfOk result (λ refused. AnswersLine (answering self.old.mode) (Keeps self.old.mode) false line.now
+        ensures answers { IfOk result (λ refused.
+            AnswersLine (hub_answerer self.old.mode) (Keeps self.old.mode) false line.now
             self.old.runner self.new.runner [] self.new.reply.items refused) }
         ensures mode { self.new.mode ≡ self.old.mode }
     {

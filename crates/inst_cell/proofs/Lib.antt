@@ -1,10 +1,10 @@
 mod Tally
-mod Stepping
-pub mod Knowing
-mod Moving
+mod RuleAfterStep
+pub mod KnowledgeOfOneStanding
+mod RuleAllowsEachStep
 mod Numbers
-mod Boards
-mod Learnt
-mod Meeting
-pub mod Opening
-mod Seeing
+mod KnowledgeAfterStep
+mod FactsLearntFromStep
+mod TwoBoardsThatMeet
+pub mod BoardsAtOpening
+mod StateShownByLook

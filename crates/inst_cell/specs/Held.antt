@@ -1,5 +1,5 @@
--- What the holder of a shared board has and knows: which places, with which terms and deadlines, and how they ended;
--- and whose roles it has. Roles and seats are this hub's own choice.
+-- What the holder of a shared board has and knows: which places, with which terms and deadlines,
+-- and how they ended; and whose roles it has. Roles and seats are this hub's own choice.
 use Rattle.std.proofs.Common.{sym, subst}
 use Rattle.std.specs.Prelude.{◌≡◌, ◌⊎◌, ◌↔◌, ℕ, ◌<◌, List, Contains}
 use Rattle.std.specs.Arc.{arc_value}
@@ -9,11 +9,11 @@ use Rattle.inst_command.specs.declared.outcome.Outcome.TheVariants.{TimedOut}
 use Rattle.inst_settings.specs.Settings.{HubSettings}
 use Rattle.inst_terms.specs.declared.terms.Terms.{Terms}
 use Rattle.inst_terms.specs.Terms.{IsTerms}
-use Rattle.inst_board.specs.declared.place.Place.{Place}
+use Rattle.inst_command.specs.declared.place.Place.{Place}
 use Rattle.inst_board.specs.declared.about.About.TheVariants.{HasTerms, Decided}
 use Rattle.inst_board.specs.declared.about.Fact.{Fact}
 use Rattle.inst_board.specs.Standing.{IsPlace, about}
-use Rattle.inst_board.specs.Plain.{number_of}
+use Rattle.inst_board.specs.Plain.{place_number}
 use Rattle.inst_cell.specs.declared.view.View.{View}
 use Rattle.inst_cell.specs.declared.shared_board.SharedBoard.{SharedBoard}
 use Rattle.inst_cell.specs.View.{known, all_of, count, HasNoted}
@@ -34,7 +34,7 @@ abbrev pub roles_of : SharedBoard → List ℕ
 roles_of b = (view_of b).roles
 
 abbrev pub knows_at : HubSettings → View → Fact → Type 0
-knows_at s v f = IsPlace s f.place × Contains (all_of v) (known (number_of s f.place) f.about)
+knows_at s v f = IsPlace s f.place × Contains (all_of v) (known (place_number s f.place) f.about)
 
 abbrev pub knows : SharedBoard → Fact → Type 0
 knows b f = knows_at (settings_of b) (view_of b) f
@@ -44,7 +44,8 @@ has_role b p = 0 < count p (roles_of b)
 
 -- the five words of the terms were written last to the place
 abbrev pub wrote : SharedBoard → Place → Terms → Type 0
-wrote b k t = IsPlace (settings_of b) k × IsTerms t × HasNoted (view_of b) (number_of (settings_of b) k) t
+wrote b k t =
+    IsPlace (settings_of b) k × IsTerms t × HasNoted (view_of b) (place_number (settings_of b) k) t
 
 -- who is the beneficiary knows what it answered: else only the time-out may have stood
 abbrev pub stood : SharedBoard → Place → Outcome → Type 0

@@ -1,9 +1,9 @@
--- What holders over the same words know together: what one has seen is true for the other. That holders tell each other
--- what they saw is this hub's own choice.
+-- What holders over the same words know together: what one has seen is true for the other. That
+-- holders tell each other what they saw is this hub's own choice.
 use Rattle.std.specs.Prelude.{◌↔◌, ◌⊎◌}
 use Rattle.inst_command.specs.declared.outcome.Outcome.{Outcome}
 use Rattle.inst_terms.specs.declared.terms.Terms.{Terms}
-use Rattle.inst_board.specs.declared.place.Place.{Place}
+use Rattle.inst_command.specs.declared.place.Place.{Place}
 use Rattle.inst_board.specs.declared.about.About.{About}
 use Rattle.inst_board.specs.declared.about.About.TheVariants.{HasTerms, Decided}
 use Rattle.inst_board.specs.declared.about.Fact.{Fact}
@@ -20,10 +20,12 @@ KnowsBoth a b c = (f : Fact) → knows c f ↔ (knows a f ⊎ knows b f)
 abbrev pub KnowsTruth : SharedBoard → Type 0
 KnowsTruth b = (k : Place) → KnowsTruly (settings_of b).margin knows b k
 
--- opening: what the other knows of the opening of a place whose originator's role the board has, the board knows
--- answer: what the other knows to be accepted or rejected the board knows, where it has the beneficiary's role
+-- opening: what the other knows of the opening of a place whose originator's role the board has,
+-- the board knows answer: what the other knows to be accepted or rejected the board knows, where it
+-- has the beneficiary's role
 pub record Vouches (board other : SharedBoard) : Type 0 where
-  pub opening : (k : Place) (a : About) → has_role board k.owner → IsOfOpening a → knows other (about k a) →
+  pub opening : (k : Place) (a : About) → has_role board k.owner → IsOfOpening a →
+      knows other (about k a) →
       knows board (about k a)
   pub answer : (k : Place) (t : Terms) (o : Outcome) → has_role board t.to → IsAnswer o →
       knows board (about k (HasTerms t)) ⊎ knows other (about k (HasTerms t)) →

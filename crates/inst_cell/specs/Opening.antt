@@ -1,6 +1,6 @@
--- The boards and sights of a hub that opens. At first one board has the roles of all participants, and nobody knows of
--- any place; then each participant's board gets that one's role alone, and knows what the one board knew. The sights
--- have no role. This hub's own choice.
+-- The boards and sights of a hub that opens. At first one board has the roles of all participants,
+-- and nobody knows of any place; then each participant's board gets that one's role alone, and
+-- knows what the one board knew. The sights have no role. This hub's own choice.
 use Rattle.std.specs.Prelude.{◌≡◌, ◌↔◌, ℕ, ◌≤◌, List, [], length, slice_get, Some}
 use Rattle.atomic_table.specs.Seated.{TableId}
 use Rattle.inst_settings.specs.Settings.{HubSettings, participants}
@@ -27,7 +27,8 @@ pub record IsWhole (s : HubSettings) (b : SharedBoard) : Type 0 where
   pub nothing : (f : Fact) → ¬ knows b f
 
 -- the board of p, over these words: it has that role alone, and knows exactly these facts
-pub record IsDealt (s : HubSettings) (id : TableId) (facts : Fact → Type 0) (p : ℕ) (b : SharedBoard) : Type 0 where
+pub record IsDealt (s : HubSettings) (id : TableId) (facts : Fact →
+    Type 0) (p : ℕ) (b : SharedBoard) : Type 0 where
   pub settings : settings_of b ≡ s
   pub table : table_of b ≡ id
   pub role : (q : ℕ) → has_role b q ↔ (q ≡ p)
@@ -53,10 +54,13 @@ pub record AreDealt (all : SharedBoard) (boards : List SharedBoard) : Type 0 whe
 -- so many sights, over the words of `all`
 pub record AreAdmitted (all : SharedBoard) (n : ℕ) (sights : List Sight) : Type 0 where
   pub enough : length sights ≡ n
-  pub each : (i : ℕ) (t : Sight) → slice_get sights i ≡ Some t → IsAdmitted (settings_of all) (table_of all) t
+  pub each : (i : ℕ) (t : Sight) → slice_get sights i ≡ Some t →
+      IsAdmitted (settings_of all) (table_of all) t
 
--- over one table, a board for each participant, by number, and as many sights as tellers were wanted
-pub record AreOpened (s : HubSettings) (n : ℕ) (boards : List SharedBoard) (sights : List Sight) : Type 0 where
+-- over one table, a board for each participant, by number, and as many sights as tellers were
+-- wanted
+pub record AreOpened (s : HubSettings) (n : ℕ) (boards : List SharedBoard) (sights : List Sight) :
+    Type 0 where
   pub table : TableId
   pub participants : length boards ≡ participants s
   pub board : (p : ℕ) (b : SharedBoard) → slice_get boards p ≡ Some b → IsOpened s table p b

@@ -1,8 +1,10 @@
--- What holds of the words of all places and of what all seats know, between any two steps of any number of threads: an
--- outcome word goes from unused to pending, then once to decided, in time, and stays; the terms words of an opened place
--- stay; what a seat knows is true of the words. How transfers are accepted, rejected and timed out is the rulebook's
--- (EPC004-16, chapter 4: processing flow); the words, the roles and the seats are this hub's own choice.
-use Rattle.std.specs.Prelude.{◌≡◌, ◌⊎◌, ℕ, ◌+◌, ◌*◌, ◌/◌, ◌<◌, ◌≤◌, List, [], ◌∷◌, length, slice_index, Contains, Some}
+-- What holds of the words of all places and of what all seats know, between any two steps of any
+-- number of threads: an outcome word goes from unused to pending, then once to decided, in time,
+-- and stays; the terms words of an opened place stay; what a seat knows is true of the words. How
+-- transfers are accepted, rejected and timed out is the rulebook's (EPC004-16, chapter 4:
+-- processing flow); the words, the roles and the seats are this hub's own choice.
+use Rattle.std.specs.Prelude.{◌≡◌, ◌⊎◌, ℕ, ◌+◌, ◌*◌, ◌/◌, ◌<◌, ◌≤◌, List, [], ◌∷◌, length}
+use Rattle.std.specs.Prelude.{slice_index, Contains, Some}
 use mathlib.Core.Option.{some}
 use lib.ListN.{get_elem?}
 use Rattle.atomic_table.specs.Table.{State}
@@ -12,7 +14,7 @@ use Rattle.inst_settings.specs.Settings.{HubSettings, participants}
 use Rattle.inst_terms.specs.declared.terms.Terms.{Terms}
 use Rattle.inst_terms.specs.declared.word.Word.TheVariants.{Pending, Decided as DecidedWord}
 use Rattle.inst_terms.specs.Terms.{IsTerms, words_of}
-use Rattle.inst_terms.specs.Word.{IsWord, number_of}
+use Rattle.inst_terms.specs.Word.{IsWord, word_number}
 use Rattle.inst_terms.specs.WordLaw.{InTime}
 use Rattle.inst_board.specs.declared.about.About.{About}
 use Rattle.inst_board.specs.declared.about.About.TheVariants.{Opened, HasTerms, Decided, DecidedAt}
@@ -24,14 +26,15 @@ use Rattle.inst_cell.specs.View.{known, all_of, count, note}
 
 -- the outcome word of a place as a number
 abbrev pub encode : Standing → ℕ
-encode p = number_of (word_of p)
+encode p = word_number (word_of p)
 
 -- how a place may stand: as its six words can show, and in time, with this margin for acceptances
 abbrev pub IsShowable : ℕ → Standing → Type 0
 IsShowable margin unused = Unit {0}
 IsShowable margin (pending terms deadline) = IsTerms terms × IsWord (Pending deadline)
 IsShowable margin (decided terms deadline outcome at) =
-    IsTerms terms × (1 ≤ deadline) × InTime margin outcome deadline at × IsWord (DecidedWord outcome at)
+    IsTerms terms × (1 ≤ deadline) × InTime margin outcome deadline at
+    × IsWord (DecidedWord outcome at)
 
 -- how often all seats have the role of p
 abbrev pub held : ℕ → List View → ℕ
@@ -44,40 +47,48 @@ total s = s.places * participants s
 
 -- each seat with this role learnt it by a step of its own
 abbrev pub AllLearnt : List View → ℕ → Known → Type 0
-AllLearnt views p f = (id : ℕ) (v : View) → get_elem? views id ≡ some v → 0 < count p v.roles → Contains v.facts f
+AllLearnt views p f =
+    (id : ℕ) (v : View) → get_elem? views id ≡ some v → 0 < count p v.roles → Contains v.facts f
 
--- world: each place stands somehow
--- sized, shown, written: the words are those of how the places stand; the terms words of an unused place may be any
--- showable: each place stands as it may
--- honest: what a seat knows is true
--- whole: who has the originator's role knows what is opened, with its terms and its deadline
--- answered: who has the beneficiary's role knows, with the terms, what was accepted or rejected
--- ended: each seat with the originator's role, or each with the beneficiary's, learnt of a time-out by a step of its own
--- decided: so one of the two learnt at which reading a place was decided
--- noted: who noted a terms word has the originator's role, and while the place is unused the word is as noted
--- alone: no two seats have one role
-pub record Keeps (s : HubSettings) (words : List ℕ) (views : List View) : Type 0 where
+-- world: each place stands somehow sized, shown, written: the words are those of how the places
+-- stand; the terms words of an unused place may be any showable: each place stands as it may
+-- honest: what a seat knows is true whole: who has the originator's role knows what is opened, with
+-- its terms and its deadline answered: who has the beneficiary's role knows, with the terms, what
+-- was accepted or rejected ended: each seat with the originator's role, or each with the
+-- beneficiary's, learnt of a time-out by a step of its own decided: so one of the two learnt at
+-- which reading a place was decided noted: who noted a terms word has the originator's role, and
+-- while the place is unused the word is as noted alone: no two seats have one role
+pub record KeepsBoard (s : HubSettings) (words : List ℕ) (views : List View) : Type 0 where
   pub world : ℕ → Standing
   pub sized : length words ≡ total s * 6
   pub shown : (k : ℕ) → k < total s → slice_index words (k * 6 + 5) ≡ encode (world k)
   pub written : (k i : ℕ) (t : Terms) → k < total s → i < 5 → Says (world k) (HasTerms t) →
       slice_index words (k * 6 + i) ≡ slice_index (words_of t) i
   pub showable : (k : ℕ) → IsShowable s.margin (world k)
-  pub honest : (id : ℕ) (v : View) → get_elem? views id ≡ some v → (f : Known) → Contains (all_of v) f →
+  pub honest : (id : ℕ) (v : View) → get_elem? views id ≡ some v → (f : Known) →
+      Contains (all_of v) f →
       Says (world f.place) f.about
-  pub whole : (id : ℕ) (v : View) → get_elem? views id ≡ some v → (k : ℕ) → 0 < count (k / s.places) v.roles →
+  pub whole : (id : ℕ) (v : View) → get_elem? views id ≡ some v → (k : ℕ) →
+      0 < count (k / s.places) v.roles →
       (a : About) → IsOfOpening a → Says (world k) a → Contains v.facts (known k a)
   pub answered : (id : ℕ) (v : View) → get_elem? views id ≡ some v → (k : ℕ) (t : Terms) →
-      Says (world k) (HasTerms t) → 0 < count t.to v.roles → (o : Outcome) → IsAnswer o → Says (world k) (Decided o) →
+      Says (world k) (HasTerms t) → 0 < count t.to v.roles → (o : Outcome) → IsAnswer o →
+      Says (world k) (Decided o) →
       Contains v.facts (known k (HasTerms t)) × Contains v.facts (known k (Decided o))
-  pub ended : (k : ℕ) (t : Terms) → Says (world k) (HasTerms t) → Says (world k) (Decided TimedOut) →
-      AllLearnt views (k / s.places) (known k (Decided TimedOut)) ⊎ AllLearnt views t.to (known k (Decided TimedOut))
-  pub decided : (k : ℕ) (t : Terms) (at : ℕ) → Says (world k) (HasTerms t) → Says (world k) (DecidedAt at) →
-      AllLearnt views (k / s.places) (known k (DecidedAt at)) ⊎ AllLearnt views t.to (known k (DecidedAt at))
-  pub noted : (id : ℕ) (v : View) → get_elem? views id ≡ some v → (k i n : ℕ) → k < total s → i < 5 →
+  pub ended : (k : ℕ) (t : Terms) → Says (world k) (HasTerms t) →
+      Says (world k) (Decided TimedOut) →
+      AllLearnt views (k / s.places) (known k (Decided TimedOut))
+      ⊎ AllLearnt views t.to (known k (Decided TimedOut))
+  pub decided : (k : ℕ) (t : Terms) (at : ℕ) → Says (world k) (HasTerms t) →
+      Says (world k) (DecidedAt at) →
+      AllLearnt views (k / s.places) (known k (DecidedAt at))
+      ⊎ AllLearnt views t.to (known k (DecidedAt at))
+  pub noted : (id : ℕ) (v : View) → get_elem? views id ≡ some v → (k i n : ℕ) → k < total s →
+      i < 5 →
       note v.notes (k * 6 + i) ≡ Some n →
-      (0 < count (k / s.places) v.roles) × (¬ Says (world k) Opened → slice_index words (k * 6 + i) ≡ n)
+      (0 < count (k / s.places) v.roles)
+      × (¬ Says (world k) Opened → slice_index words (k * 6 + i) ≡ n)
   pub alone : (p : ℕ) → held p views ≤ 1
 
-abbrev pub IsKept : HubSettings → State (Unit {0}) View → Type 0
-IsKept s st = Keeps s st.words st.views
+abbrev pub IsKeptBoard : HubSettings → State (Unit {0}) View → Type 0
+IsKeptBoard s st = KeepsBoard s st.words st.views

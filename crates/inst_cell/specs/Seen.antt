@@ -1,9 +1,9 @@
--- What a caller sees of a transfer: that it is pending, or how it ended, and never less than what it saw before. That
--- callers may look at any time is this hub's own choice.
+-- What a caller sees of a transfer: that it is pending, or how it ended, and never less than what
+-- it saw before. That callers may look at any time is this hub's own choice.
 use Rattle.std.specs.Prelude.{◌≡◌}
 use Rattle.inst_command.specs.declared.outcome.State.{State}
 use Rattle.inst_command.specs.declared.outcome.State.TheVariants.{Unused, Pending, Decided}
-use Rattle.inst_board.specs.declared.place.Place.{Place}
+use Rattle.inst_command.specs.declared.place.Place.{Place}
 use Rattle.inst_board.specs.Standing.{Standing, unused, pending, decided}
 use Rattle.inst_board.specs.Learning.{Learns}
 use Rattle.inst_board.specs.declared.about.Fact.{Fact}
@@ -25,4 +25,5 @@ state_of (decided terms deadline outcome at) = Decided outcome
 
 -- what the teller learns of the place as it peeks, and what it answers of that
 abbrev pub Peeks : Sight → Place → State → Sight → Type 0
-Peeks t k found u = (p : Standing) × Learns (settings_of (board_of t)).margin sees t k p u × (found ≡ state_of p)
+Peeks t k found u =
+    (p : Standing) × Learns (settings_of (board_of t)).margin sees t k p u × (found ≡ state_of p)

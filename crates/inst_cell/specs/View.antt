@@ -1,8 +1,9 @@
--- What a seat at the shared words has and knows: the roles of participants, the terms words that it wrote, what it
--- learnt and what it heard. That only a participant's slot opens its places and answers what is addressed to it, and
--- that a caller's seat has no role, is this hub's own choice.
+-- What a seat at the shared words has and knows: the roles of participants, the terms words that it
+-- wrote, what it learnt and what it heard. That only a participant's slot opens its places and
+-- answers what is addressed to it, and that a caller's seat has no role, is this hub's own choice.
 use Rattle.std.proofs.Props.{props}
-use Rattle.std.specs.Prelude.{◌≡◌, ℕ, Bool, zero, suc, ◌+◌, ◌*◌, ◌<◌, cond, ◌==◌, List, [], ◌∷◌, ◌++◌, slice_index, take, drop, Contains, Option, Some, None}
+use Rattle.std.specs.Prelude.{◌≡◌, ℕ, Bool, zero, suc, ◌+◌, ◌*◌, ◌<◌, cond, ◌==◌, List, [], ◌∷◌}
+use Rattle.std.specs.Prelude.{◌++◌, slice_index, take, drop, Contains, Option, Some, None}
 use Rattle.std.specs.Option.{option_or, unwrap_or}
 use Rattle.inst_command.specs.declared.outcome.Outcome.{Outcome}
 use Rattle.inst_command.specs.declared.outcome.Outcome.TheVariants.{TimedOut}
@@ -10,7 +11,8 @@ use Rattle.inst_settings.specs.Settings.{HubSettings, participants}
 use Rattle.inst_terms.specs.declared.terms.Terms.{Terms}
 use Rattle.inst_terms.specs.Terms.{words_of}
 use Rattle.inst_board.specs.declared.about.About.{About}
-use Rattle.inst_board.specs.declared.about.About.TheVariants.{Opened, HasTerms, Due, Decided, DecidedAt}
+use Rattle.inst_board.specs.declared.about.About.TheVariants.{Opened, HasTerms, Due, Decided}
+use Rattle.inst_board.specs.declared.about.About.TheVariants.{DecidedAt}
 use Rattle.inst_board.specs.Standing.{Standing, unused, pending, decided, Says}
 use Rattle.inst_cell.specs.declared.view.Known.{Known}
 use Rattle.inst_cell.specs.declared.view.View.{View}
@@ -36,18 +38,21 @@ note (n ∷ ns) x = cond (n.0 == x) (Some n.1) (note ns x)
 abbrev pub HasNoted : View → ℕ → Terms → Type 0
 HasNoted v k t = (i : ℕ) → i < 5 → note v.notes (k * 6 + i) ≡ Some (slice_index (words_of t) i)
 
--- what a step learns of a place that stands so: all that is true of it, but at which reading it was decided only where
--- this step decided it
+-- what a step learns of a place that stands so: all that is true of it, but at which reading it was
+-- decided only where this step decided it
 abbrev pub facts_of : ℕ → Standing → Bool → List Known
 facts_of k unused mine = []
-facts_of k (pending terms deadline) mine = known k Opened ∷ known k (HasTerms terms) ∷ known k (Due deadline) ∷ []
-facts_of k (decided terms deadline outcome at) mine = known k Opened ∷ known k (HasTerms terms) ∷ known k (Due deadline)
+facts_of k (pending terms deadline) mine =
+    known k Opened ∷ known k (HasTerms terms) ∷ known k (Due deadline) ∷ []
+facts_of k (decided terms deadline outcome at) mine =
+    known k Opened ∷ known k (HasTerms terms) ∷ known k (Due deadline)
     ∷ known k (Decided outcome) ∷ cond mine (known k (DecidedAt at) ∷ []) []
 
 -- the first thing of a kind that is known of a place
 abbrev pub first_of : {X : Type 0} → (About → Option X) → ℕ → List Known → Option X
 first_of pick k [] = None
-first_of pick k (f ∷ fs) = cond (f.place == k) (option_or (pick f.about) (first_of pick k fs)) (first_of pick k fs)
+first_of pick k (f ∷ fs) =
+    cond (f.place == k) (option_or (pick f.about) (first_of pick k fs)) (first_of pick k fs)
 
 abbrev pub terms_in : About → Option Terms
 terms_in Opened = None
@@ -63,12 +68,12 @@ due_in (Due deadline) = Some deadline
 due_in (Decided outcome) = None
 due_in (DecidedAt moment) = None
 
-abbrev pub outcome_in : About → Option Outcome
-outcome_in Opened = None
-outcome_in (HasTerms terms) = None
-outcome_in (Due deadline) = None
-outcome_in (Decided outcome) = Some outcome
-outcome_in (DecidedAt moment) = None
+abbrev pub outcome_about : About → Option Outcome
+outcome_about Opened = None
+outcome_about (HasTerms terms) = None
+outcome_about (Due deadline) = None
+outcome_about (Decided outcome) = Some outcome
+outcome_about (DecidedAt moment) = None
 
 abbrev pub moment_in : About → Option ℕ
 moment_in Opened = None
@@ -81,12 +86,20 @@ moment_in (DecidedAt moment) = Some moment
 abbrev pub standing_with : Terms → ℕ → Option Outcome → Option ℕ → Standing
 standing_with terms deadline None None = pending terms deadline
 standing_with terms deadline None (Some moment) = decided terms deadline TimedOut moment
-standing_with terms deadline (Some outcome) moment = decided terms deadline outcome (unwrap_or moment 0)
+standing_with terms deadline (Some outcome) moment =
+    decided terms deadline outcome (unwrap_or moment 0)
 
 -- how the place stands, as far as it is known: what isn't known may be anything
 abbrev pub known_standing : View → ℕ → Standing
-known_standing v k = standing_with (unwrap_or (first_of terms_in k (all_of v)) (record { to = 0; cents = 0; id = [] }))
-    (unwrap_or (first_of due_in k (all_of v)) 0) (first_of outcome_in k (all_of v)) (first_of moment_in k (all_of v))
+known_standing v k =
+    standing_with (unwrap_or (first_of terms_in k (all_of v)) (record {
+      to = 0;
+      cents = 0;
+      id =
+          [];
+    }))
+    (unwrap_or (first_of due_in k (all_of v)) 0) (first_of outcome_about k (all_of v))
+    (first_of moment_in k (all_of v))
 
 -- all that a seat knows of a place is true of one standing
 abbrev pub KnowsOne : View → Type 0
@@ -126,8 +139,8 @@ first_view s = record {
 }
 
 -- after the place was seen to stand so, or was decided so
-abbrev pub learnt : View → ℕ → Standing → Bool → View
-learnt v k p mine = record {
+abbrev pub view_after_learning : View → ℕ → Standing → Bool → View
+view_after_learning v k p mine = record {
   places = v.places;
   margin = v.margin;
   roles = v.roles;
@@ -173,12 +186,20 @@ abbrev pub same_view : View → View
 same_view v = v
 
 -- a seat that was told what this one knows, and has no role
-abbrev pub told : View → View
-told v = record { places = v.places; margin = v.margin; roles = []; notes = []; facts = []; heard = all_of v }
+abbrev pub informed_view : View → View
+informed_view v = record {
+  places = v.places;
+  margin = v.margin;
+  roles = [];
+  notes = [];
+  facts = [];
+  heard =
+      all_of v;
+}
 
 -- one seat that has and knows what two had and knew
-abbrev pub united : View → View → View
-united v w = record {
+abbrev pub united_view : View → View → View
+united_view v w = record {
   places = v.places;
   margin = v.margin;
   roles = v.roles ++ w.roles;

@@ -7,13 +7,15 @@ ghost use Rattle.inst_cell.specs.Held.{knows, Stays, AtOneTable};
 ghost use Rattle.inst_cell.specs.Meeting.{KnowsBoth};
 
 use crate::SharedBoard;
-use inst_board::Place;
+use inst_command::Place;
 
 /// Two holders never know two outcomes of a place.
 pub fn same_outcome(first: &mut SharedBoard, second: &mut SharedBoard, place: Place)
     requires one { AtOneTable first.old second.old }
-    ensures same { (o z : Outcome) → knows first.old (about place (Decided o)) → knows second.old (about place (Decided z)) → o ≡ z }
-    ensures both { KnowsBoth first.old second.old first.new × KnowsBoth first.old second.old second.new }
+    ensures same { (o z : Outcome) → knows first.old (about place (Decided o)) →
+        knows second.old (about place (Decided z)) → o ≡ z }
+    ensures both { KnowsBoth first.old second.old first.new
+        × KnowsBoth first.old second.old second.new }
     ensures stays { Stays first.old first.new × Stays second.old second.new }
 {
     first.meet(second);

@@ -1,5 +1,5 @@
-//! The board that the slots of a hub on many threads share: six atomic words a place, a seat for each
-//! slot that may change them, and seats for callers that only see.
+//! The board that the slots of a hub on many threads share: six atomic words a place, a seat for
+//! each slot that may change them, and seats for callers that only see.
 #![tactic(auto)]
 
 pub mod laws;

@@ -7,10 +7,10 @@ use std::snapshot::Snapshot;
 pub struct Law;
 
 impl TableRule<(), View, Snapshot<Settings>> for Law {
-    ghost use Rattle.inst_cell.specs.Rule.{IsKept};
+    ghost use Rattle.inst_cell.specs.Rule.{IsKeptBoard};
     ghost use Rattle.inst_cell.specs.View.{first_view};
 
-    ghost holds = { λ key s. IsKept key.value s };
+    ghost holds = { λ key s. IsKeptBoard key.value s };
 
     ghost first = { λ key. first_view key.value };
 }

@@ -9,7 +9,7 @@ mod stepping;
 
 use crate::{Law, View};
 use atomic_table::{Seat, Table};
-use inst_board::Place;
+use inst_command::Place;
 use inst_settings::Settings;
 pub use opening::MOST_TELLERS;
 use std::alloc::Global;
@@ -18,9 +18,10 @@ use std::sync::Arc;
 
 type Words = Table<(), View, Snapshot<Settings>, Law, Global>;
 
-/// One holder's board over the words that all boards and sights of a hub share. Only opening and dealing
-/// out take memory, and no call waits. A look costs one load, and five more where the place is opened; a
-/// glance one load; a decision one load and at most one exchange, which is never tried again.
+/// One holder's board over the words that all boards and sights of a hub share. Only opening and
+/// dealing out take memory, and no call waits. A look costs one load, and five more where the place
+/// is opened; a glance one load; a decision one load and at most one exchange, which is never tried
+/// again.
 ///
 /// ```text
 /// let (boards, sights) = SharedBoard::open(alloc, &settings, 2)?;
@@ -50,7 +51,7 @@ pub struct SharedBoard {
 
 impl SharedBoard {
     ghost use Rattle.inst_board.specs.Standing.{IsPlace, is_place};
-    ghost use Rattle.inst_board.specs.Plain.{number_of};
+    ghost use Rattle.inst_board.specs.Plain.{place_number};
     ghost use Rattle.inst_cell.specs.Held.{settings_of};
 
     /// Whether the settings have the place.
@@ -63,7 +64,7 @@ impl SharedBoard {
     /// The number of the place's first word.
     fn first_word(&self, place: Place) -> usize
         requires { IsPlace (settings_of self.now) place }
-        ensures value { result ≡ number_of (settings_of self.now) place * 6 }
+        ensures value { result ≡ place_number (settings_of self.now) place * 6 }
         ensures within { result + 6 ≤ self.now.places * self.now.participants * 6 }
     {
         (usize::from(place.owner) * usize::from(self.places) + usize::from(place.index)) * 6

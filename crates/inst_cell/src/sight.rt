@@ -6,8 +6,8 @@ mod telling;
 
 use crate::SharedBoard;
 
-/// What a teller sees of the shared words: a seat without a role, which knows what was seen by it and what it was told.
-/// No call of it takes memory or waits.
+/// What a teller sees of the shared words: a seat without a role, which knows what was seen by it
+/// and what it was told. No call of it takes memory or waits.
 ///
 /// ```text
 /// let ticket = board.tell(&mut sight, place);

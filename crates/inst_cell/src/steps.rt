@@ -71,20 +71,20 @@ impl Split<View> for HandOver {
 pub struct Tell;
 
 impl Split<View> for Tell {
-    ghost use Rattle.inst_cell.specs.View.{same_view, told};
+    ghost use Rattle.inst_cell.specs.View.{same_view, informed_view};
 
     ghost left = { same_view };
 
-    ghost right = { told };
+    ghost right = { informed_view };
 }
 
 /// One seat knows what both knew, with the roles of both.
 pub struct Unite;
 
 impl Join<View> for Unite {
-    ghost use Rattle.inst_cell.specs.View.{united, nobody};
+    ghost use Rattle.inst_cell.specs.View.{united_view, nobody};
 
-    ghost both = { united };
+    ghost both = { united_view };
 
     ghost spent = { nobody };
 }

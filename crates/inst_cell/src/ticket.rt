@@ -1,6 +1,6 @@
 ghost use Rattle.std.specs.Prelude.{◌≡◌};
 
-use inst_board::Place;
+use inst_command::Place;
 use std::marker::Model;
 
 /// Names a place, for a caller that asks later what became of it. Contracts see it as the place.
@@ -10,7 +10,7 @@ pub struct Ticket {
 }
 
 impl Model for Ticket {
-    ghost use Rattle.inst_board.specs.declared.place.Place.{Place};
+    ghost use Rattle.inst_command.specs.declared.place.Place.{Place};
 
     ghost Value = { Place };
 

@@ -35,7 +35,8 @@ pub(crate) fn decided_word(outcome: &Outcome, at: Moment) -> u64
 /// What the outcome word of a place says.
 pub(crate) fn read_word(word: u64) -> Word
     requires { (margin : ℕ) × (p : Standing) × IsShowable margin p × (word ≡ encode p) }
-    ensures { (margin : ℕ) (p : Standing) → IsShowable margin p → word ≡ encode p → result ≡ word_of p }
+    ensures { (margin : ℕ) (p : Standing) → IsShowable margin p → word ≡ encode p →
+        result ≡ word_of p }
 {
     match read_outcome(word) {
         Some(read) => read,

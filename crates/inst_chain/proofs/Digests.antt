@@ -5,7 +5,7 @@ use Rattle.std.specs.Int.{w32, byte_at, bytes_high_first, to_be_bytes}
 use Rattle.std.proofs.lemmas.Bool.Decides.{nat_tests}
 use Rattle.inst_base.specs.Newline.{newline, NoNewline}
 use Rattle.std.proofs.lemmas.List.{append-nil}
-use Rattle.inst_log.specs.Layout.{recovered}
+use Rattle.inst_log.specs.Layout.{recovered_lines}
 use Rattle.inst_log.proofs.Lines.{IsLine, AllLines, recovered_blocks}
 use Rattle.sha2.specs.Sha256.{sha256, digest_bytes, final_hash, initial_hash_256}
 use Rattle.sha2.proofs.Facts256.{length-sha256}
@@ -74,11 +74,11 @@ encode_injective a b in_a in_b same = cc (decode_of-encode_lower a in_a, decode_
 -- ---- marks
 
 -- a mark with its newline is one line
-pub mark_line : (digest : List ℕ) → IsBytes digest → recovered ((123 ∷ 1 ∷ 123 ∷ encode_lower digest) ++ newline ∷ []) ≡ (123 ∷ 1 ∷ 123 ∷ encode_lower digest) ∷ []
+pub mark_line : (digest : List ℕ) → IsBytes digest → recovered_lines ((123 ∷ 1 ∷ 123 ∷ encode_lower digest) ++ newline ∷ []) ≡ (123 ∷ 1 ∷ 123 ∷ encode_lower digest) ∷ []
 mark_line digest all =
     let line = 123 ∷ 1 ∷ 123 ∷ encode_lower digest in
     let is : AllLines (line ∷ []) = ((refl, (λ e. omega (arith, e), (λ e. omega (arith, e), no_newline digest all))), tt) in
-    ap recovered (sym (append-nil (line ++ newline ∷ []))) ∙ recovered_blocks (line ∷ []) [] is
+    ap recovered_lines (sym (append-nil (line ++ newline ∷ []))) ∙ recovered_blocks (line ∷ []) [] is
 
 pub mark_is_line : (text : List ℕ) → IsLine (mark_of text)
 mark_is_line text = (refl, (λ e. omega (arith, e), (λ e. omega (arith, e), no_newline (sha256 text) (IsBytes-sha256 text))))

@@ -1,7 +1,7 @@
 pub mod Chains
-mod Checks
+mod ProgressOfChecker
 mod Digests
-pub mod Next
-pub mod Said
-mod Summing
-mod Wrong
+pub mod BatchBehindChain
+pub mod LinesWithoutMarks
+mod SummaryOfLines
+mod PlaceOfDamage

@@ -1,36 +1,41 @@
--- A log whose batches end with marks. A mark is a line with the SHA-256 digest of what stands in the file from the mark
--- before it, that one included, up to itself; the first mark's digest covers the file from its beginning. So each digest
--- stands for all that is before it.
-use Rattle.std.specs.Prelude.{◌≡◌, ◌≢◌, ◌⊎◌, ◌<◌, ℕ, Bool, true, false, List, [], ◌∷◌, ◌++◌, length, ◌==◌, ◌&&◌, ◌||◌, not, bytes_eq, if◌then◌else◌, Option, None, Some}
+-- A log whose batches end with marks. A mark is a line with the SHA-256 digest of what stands in
+-- the file from the mark before it, that one included, up to itself; the first mark's digest covers
+-- the file from its beginning. So each digest stands for all that is before it.
+use Rattle.std.specs.Prelude.{◌≡◌, ◌≢◌, ◌⊎◌, ◌<◌, ℕ, Bool, true, false, List, [], ◌∷◌, ◌++◌, length}
+use Rattle.std.specs.Prelude.{◌==◌, ◌&&◌, ◌||◌, not, bytes_eq, if◌then◌else◌, Option, None, Some}
 use Rattle.inst_base.specs.Newline.{newline}
-use Rattle.inst_log.specs.Layout.{gate, recovered, blocks, IsShut}
+use Rattle.inst_log.specs.Layout.{gate, recovered_lines, blocks, IsShut}
 use Rattle.inst_log.specs.Escape.{escape}
 use Rattle.inst_log.specs.Opening.{kept}
 use Rattle.sha2.specs.Sha256.{sha256}
 use Rattle.hex.specs.Hex.{encode_lower}
 use Rattle.inst_chain.specs.declared.digest.Digest.{Digest}
 
--- The line is a mark: it has an escape before what would need none, so that no line that was read is written so.
+-- The line is a mark: it has an escape before what would need none, so that no line that was read
+-- is written so.
 abbrev pub is_mark : List ℕ → Bool
 is_mark [] = false
 is_mark (a ∷ []) = false
 is_mark (a ∷ b ∷ []) = false
 is_mark (a ∷ b ∷ c ∷ []) = false
-is_mark (a ∷ b ∷ c ∷ d ∷ rest) = (a == gate) && ((b == escape) && ((c == gate) && not (d == escape)))
+is_mark (a ∷ b ∷ c ∷ d ∷ rest) =
+    (a == gate) && ((b == escape) && ((c == gate) && not (d == escape)))
 
 -- the mark with the digest of this text
 abbrev pub mark_of : List ℕ → List ℕ
 mark_of text = gate ∷ escape ∷ gate ∷ encode_lower (sha256 text)
 
--- Of batches, the newest first: what the next digest covers ahead of its batch, which is the last mark with its newline.
+-- Of batches, the newest first: what the next digest covers ahead of its batch, which is the last
+-- mark with its newline.
 abbrev pub front_of : List (List (List ℕ)) → List ℕ
 front_of [] = []
 front_of (batch ∷ older) = mark_of (front_of older ++ blocks batch) ++ newline ∷ []
 
 -- Of batches, the newest first: their lines, the oldest first, each batch with its mark behind it.
-abbrev pub chained : List (List (List ℕ)) → List (List ℕ)
-chained [] = []
-chained (batch ∷ older) = chained older ++ (batch ++ mark_of (front_of older ++ blocks batch) ∷ [])
+abbrev pub chained_lines : List (List (List ℕ)) → List (List ℕ)
+chained_lines [] = []
+chained_lines (batch ∷ older) =
+    chained_lines older ++ (batch ++ mark_of (front_of older ++ blocks batch) ∷ [])
 
 -- no line is a mark
 abbrev pub HasNoMark : List (List ℕ) → Type 0
@@ -46,11 +51,11 @@ pub record IsChain (lines : List (List ℕ)) : Type 0 where
   pub batches : List (List (List ℕ))
   pub some : 0 < length batches
   pub unmarked : HaveNoMark batches
-  pub split : lines ≡ chained batches
+  pub split : lines ≡ chained_lines batches
 
 -- a log whose marks are right up to the closed byte
 pub record IsSealed (file : List ℕ) : Type 0 where
-  pub chain : IsChain (recovered file)
+  pub chain : IsChain (recovered_lines file)
   pub shut : IsShut file
 
 -- the lines of a log without its marks
@@ -75,11 +80,11 @@ pub record Collision (a b : List ℕ) : Type 0 where
 
 -- a file that is no damaged log: it has no line, or its marks are right
 abbrev pub IsTaken : List ℕ → Type 0
-IsTaken file = (recovered file ≡ []) ⊎ IsSealed file
+IsTaken file = (recovered_lines file ≡ []) ⊎ IsSealed file
 
 -- the lines of a file, without its marks
 abbrev pub lines_said : List ℕ → List (List ℕ)
-lines_said file = said (recovered file)
+lines_said file = said (recovered_lines file)
 
 -- the lines that a log has behind its settings, without its marks
 abbrev pub kept_said : List ℕ → List ℕ → List (List ℕ)

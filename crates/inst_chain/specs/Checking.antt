@@ -1,8 +1,8 @@
 -- What a marker and a checker stand for.
 use Rattle.std.specs.Prelude.{◌≡◌, ◌<◌, ◌^◌, ℕ, true, false, List, [], ◌∷◌, ◌++◌, length}
-use Rattle.inst_log.specs.Layout.{recovered, blocks}
+use Rattle.inst_log.specs.Layout.{recovered_lines, blocks}
 use Rattle.sha2.specs.Hashers.{Holds256}
-use Rattle.inst_chain.specs.Chain.{is_mark, mark_of, front_of, chained, HasNoMark, HaveNoMark}
+use Rattle.inst_chain.specs.Chain.{is_mark, mark_of, front_of, chained_lines, HasNoMark, HaveNoMark}
 use Rattle.inst_chain.specs.declared.marker.Marker.{Marker}
 use Rattle.inst_chain.specs.declared.prefix.Prefix.{Prefix}
 use Rattle.inst_chain.specs.declared.checker.Checker.{Checker}
@@ -13,7 +13,9 @@ Digests marker text = Holds256 marker.hasher text
 
 -- so many lines, with so many bytes, where a file can have as many
 abbrev pub Counts : Prefix → List (List ℕ) → Type 0
-Counts prefix lines = length (blocks lines) < 2 ^ 64 → (prefix.lines ≡ length lines) × (prefix.bytes ≡ length (blocks lines))
+Counts prefix lines =
+    length (blocks lines) < 2 ^ 64 →
+    (prefix.lines ≡ length lines) × (prefix.bytes ≡ length (blocks lines))
 
 -- the last line is a mark
 pub record EndsMarked (lines : List (List ℕ)) : Type 0 where
@@ -22,27 +24,30 @@ pub record EndsMarked (lines : List (List ℕ)) : Type 0 where
   pub is : is_mark mark ≡ true
   pub split : lines ≡ before ++ mark ∷ []
 
--- these lines came so far: batches with their right marks, the newest first, and the lines behind the last mark
+-- these lines came so far: batches with their right marks, the newest first, and the lines behind
+-- the last mark
 pub record Stands (checker : Checker) (lines : List (List ℕ)) : Type 0 where
   pub older : List (List (List ℕ))
   pub part : List (List ℕ)
   pub unmarked : HaveNoMark older
   pub plain : HasNoMark part
-  pub split : lines ≡ chained older ++ part
+  pub split : lines ≡ chained_lines older ++ part
   pub digests : Digests checker.marker (front_of older ++ blocks part)
   pub whole : checker.sealed ≡ true → (part ≡ []) × (0 < length older)
   pub open_end : checker.sealed ≡ false → EndsMarked lines → ⊥
   pub came : Counts checker.came lines
-  pub right : Counts checker.right (chained older)
+  pub right : Counts checker.right (chained_lines older)
 
--- Of lines that come next, one is a mark that is wrong, and the lines up to the mark before it are counted so.
+-- Of lines that come next, one is a mark that is wrong, and the lines up to the mark before it are
+-- counted so.
 pub record IsWrongAt (checker : Checker) (bytes : List ℕ) (right : Prefix) : Type 0 where
   pub mid : Checker
   pub done : List (List ℕ)
   pub line : List ℕ
   pub rest : List (List ℕ)
-  pub split : recovered bytes ≡ done ++ line ∷ rest
+  pub split : recovered_lines bytes ≡ done ++ line ∷ rest
   pub stands : (lines : List (List ℕ)) → Stands checker lines → Stands mid (lines ++ done)
   pub mark : is_mark line ≡ true
-  pub wrong : (lines : List (List ℕ)) → (s : Stands mid lines) → line ≡ mark_of (front_of s.older ++ blocks s.part) → ⊥
+  pub wrong : (lines : List (List ℕ)) → (s : Stands mid lines) →
+      line ≡ mark_of (front_of s.older ++ blocks s.part) → ⊥
   pub same : right ≡ mid.right

@@ -1,8 +1,9 @@
 -- What a log that was read from its first byte has.
 use Rattle.std.specs.Prelude.{◌≡◌, ◌<◌, ◌^◌, ◌∷◌, ℕ, List, [], ◌++◌, length, MatchResult}
-use Rattle.inst_log.specs.Layout.{recovered}
+use Rattle.inst_log.specs.Layout.{recovered_lines}
 use Rattle.inst_log.specs.declared.error.LogError.{LogError}
-use Rattle.inst_log.specs.declared.error.LogError.TheVariants.{Disk, Memory, Full, Write, Told, OtherSettings, NoLog}
+use Rattle.inst_log.specs.declared.error.LogError.TheVariants.{Disk, Memory, Full, Write, Told}
+use Rattle.inst_log.specs.declared.error.LogError.TheVariants.{OtherSettings, NoLog}
 use Rattle.inst_chain.specs.Chain.{mark_with, said, IsSealed}
 use Rattle.inst_chain.specs.Verifying.{IsDamagedAfter}
 use Rattle.inst_chain.specs.declared.digest.Digest.{Digest}
@@ -22,21 +23,22 @@ pub record EndsBy (lines : List (List ℕ)) (digest : Digest) : Type 0 where
 -- the file is a log whose marks are right, and its last one has this digest
 pub record IsSealedBy (file : List ℕ) (digest : Digest) : Type 0 where
   pub sealed : IsSealed file
-  pub last : EndsBy (recovered file) digest
+  pub last : EndsBy (recovered_lines file) digest
 
 -- the file is damaged behind these lines, or has no marks, so that it is no log that is whole
 abbrev pub IsUnsealed : List ℕ → Prefix → Type 0
 IsUnsealed file right = length file < 2 ^ 64 → IsDamagedAfter file right
 
--- the file has this first line, so many lines without marks, and this last mark if its marks are right
+-- the file has this first line, so many lines without marks, and this last mark if its marks are
+-- right
 pub record IsSummary (file : List ℕ) (summary : Summary) : Type 0 where
-  pub first : HasFirst (recovered file) summary.first.items
-  pub count : summary.lines ≡ length (said (recovered file))
+  pub first : HasFirst (recovered_lines file) summary.first.items
+  pub count : summary.lines ≡ length (said (recovered_lines file))
   pub chain : MatchResult summary.chain (IsSealedBy file) (IsUnsealed file)
 
 -- why it wasn't read: of no log, since it has no line
 abbrev pub Unsummed : List ℕ → LogError → Type 0
-Unsummed file NoLog = recovered file ≡ []
+Unsummed file NoLog = recovered_lines file ≡ []
 Unsummed file (Disk error) = Unit {0}
 Unsummed file Memory = Unit {0}
 Unsummed file Full = Unit {0}

@@ -1,7 +1,7 @@
 //! The lines of a log are checked one after the other.
 ghost use Rattle.std.specs.Prelude.{◌≡◌, ◌++◌, [], ◌∷◌, List, ℕ, true, false, IfErr, OnOk};
 ghost use Rattle.inst_chain.specs.Chain.{is_mark, mark_of, front_of};
-ghost use Rattle.inst_log.specs.Layout.{recovered, blocks};
+ghost use Rattle.inst_log.specs.Layout.{recovered_lines, blocks};
 
 use crate::marker::{Marker, is_mark};
 use crate::prefix::Prefix;
@@ -33,9 +33,11 @@ impl Checker {
         }
     }
 
-    /// Takes the next line, without its newline. Returns `false` if it is a mark that is wrong; then drop the checker.
+    /// Takes the next line, without its newline. Returns `false` if it is a mark that is wrong;
+    /// then drop the checker.
     fn check(&mut self, line: &[u8]) -> bool
-        ensures right { result ≡ true → (lines : List (List ℕ)) → Stands self.old lines → Stands self.new (lines ++ line.now ∷ []) }
+        ensures right { result ≡ true → (lines : List (List ℕ)) → Stands self.old lines →
+            Stands self.new (lines ++ line.now ∷ []) }
         ensures mark { result ≡ false → is_mark line.now ≡ true }
         ensures wrong { result ≡ false → (lines : List (List ℕ)) → (s : Stands self.old lines)
             → line.now ≡ mark_of (front_of s.older ++ blocks s.part) → ⊥ }
@@ -63,7 +65,7 @@ impl Checker {
     /// A mark among them is wrong: the lines up to the mark before it. Then drop the checker.
     pub fn check_lines(&mut self, bytes: &[u8]) -> Result<(), Prefix>
         ensures right { OnOk result ((lines : List (List ℕ)) → Stands self.old lines
-            → Stands self.new (lines ++ recovered bytes.now)) }
+            → Stands self.new (lines ++ recovered_lines bytes.now)) }
         ensures wrong { IfErr result (λ right. IsWrongAt self.old bytes.now right) }
     {
         let mut rest = bytes;

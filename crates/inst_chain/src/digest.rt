@@ -11,7 +11,8 @@ pub struct Digest {
 }
 
 impl Digest {
-    /// Returns the digest of this text, or `None` if it hasn't 64 bytes. A text with other characters is no log's digest.
+    /// Returns the digest of this text, or `None` if it hasn't 64 bytes. A text with other
+    /// characters is no log's digest.
     pub fn of(text: &str) -> Option<Digest>
         ensures { MatchOption result (length text.now ≢ 64) (λ digest. digest.text ≡ text.now) }
     {

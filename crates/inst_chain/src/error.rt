@@ -14,7 +14,8 @@ pub enum ChainError {
     /// The log below failed.
     #[error("{0}")]
     Log(LogError),
-    /// The log is damaged after this prefix: the next mark is wrong, or the end. It was left as it is.
+    /// The log is damaged after this prefix: the next mark is wrong, or the end. It was left as it
+    /// is.
     #[error("the log is damaged after line {}, byte {}", .0.lines, .0.bytes)]
     Damaged(Prefix),
 }

@@ -1,6 +1,6 @@
 //! Laws of chains.
 ghost use Rattle.std.specs.Prelude.{◌≡◌, ◌⊎◌, ◌++◌, ◌∷◌, [], List, ℕ, true, false};
-ghost use Rattle.inst_log.specs.Layout.{recovered};
+ghost use Rattle.inst_log.specs.Layout.{recovered_lines};
 ghost use Rattle.inst_log.specs.Escape.{raw_of};
 ghost use Rattle.inst_chain.specs.Chain.{is_mark, IsChain, IsSealed, Collision};
 
@@ -9,10 +9,11 @@ pub fn no_line_is_a_mark()
     ensures { (line : List ℕ) → is_mark (raw_of line) ≡ false }
 {}
 
-/// Where two logs have a mark in common, they have the same lines up to it, or two texts with one digest stand in them.
+/// Where two logs have a mark in common, they have the same lines up to it, or two texts with one
+/// digest stand in them.
 pub fn one_digest_one_log()
     ensures { (a b : List ℕ) (mark : List ℕ) (old new : List (List ℕ)) (late later : List (List ℕ))
         → IsSealed a → IsSealed b → is_mark mark ≡ true
-        → recovered a ≡ old ++ mark ∷ late → recovered b ≡ new ++ mark ∷ later
+        → recovered_lines a ≡ old ++ mark ∷ late → recovered_lines b ≡ new ++ mark ∷ later
         → (old ≡ new) ⊎ Collision a b }
 {}

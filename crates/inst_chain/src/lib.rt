@@ -1,4 +1,5 @@
-//! A log whose batches end with marks: a chain of SHA-256 digests, by which damage is told from what a crash leaves.
+//! A log whose batches end with marks: a chain of SHA-256 digests, by which damage is told from
+//! what a crash leaves.
 #![tactic(auto)]
 
 mod checker;

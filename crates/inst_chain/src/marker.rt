@@ -1,8 +1,10 @@
 //! The digest of what was written since the last mark.
-ghost use Rattle.std.specs.Prelude.{◌≡◌, ◌<◌, ◌++◌, [], ◌∷◌, List, ℕ, slice_index, bytes_eq, true, false, OnOk};
+ghost use Rattle.std.specs.Prelude.{◌≡◌, ◌<◌, ◌++◌, [], ◌∷◌, List, ℕ, slice_index, bytes_eq, true};
+ghost use Rattle.std.specs.Prelude.{false, OnOk};
 ghost use Rattle.inst_base.specs.Newline.{newline};
-ghost use Rattle.inst_log.specs.Layout.{recovered, IsWhole};
-ghost use Rattle.inst_chain.specs.Chain.{is_mark, mark_of, mark_with, has_mark, has_digest, said, HasNoMark};
+ghost use Rattle.inst_log.specs.Layout.{recovered_lines, AreWholeLines};
+ghost use Rattle.inst_chain.specs.Chain.{is_mark, mark_of, mark_with, has_mark, has_digest, said};
+ghost use Rattle.inst_chain.specs.Chain.{HasNoMark};
 ghost use Rattle.inst_chain.specs.Checking.{Digests};
 ghost use Rattle.hex.specs.Hex.{encode_lower};
 
@@ -38,12 +40,14 @@ impl Marker {
         self.hasher.update(bytes);
     }
 
-    /// Returns the mark of what was added, and adds it, with its newline: the next mark covers it too.
+    /// Returns the mark of what was added, and adds it, with its newline: the next mark covers it
+    /// too.
     pub fn mark(&mut self) -> [u8; MARK_LEN]
-        ensures line { recovered (result ++ newline ∷ []) ≡ result ∷ [] }
+        ensures line { recovered_lines (result ++ newline ∷ []) ≡ result ∷ [] }
         ensures is { is_mark result ≡ true }
         ensures mark { (text : List ℕ) → Digests self.old text → result ≡ mark_of text }
-        ensures next { (text : List ℕ) → Digests self.old text → Digests self.new (mark_of text ++ newline ∷ []) }
+        ensures next { (text : List ℕ) → Digests self.old text →
+            Digests self.new (mark_of text ++ newline ∷ []) }
     {
         let mark = mark_by(&self.hasher.finalize_reset());
         self.hasher.update(&mark);
@@ -75,13 +79,15 @@ pub fn is_mark(line: &[u8]) -> bool
 
 /// Adds their mark to the lines of a batch that isn't closed. At `Err`, drop both.
 pub fn mark_lines(marker: &mut Marker, batch: &mut Vec<u8>) -> Result<(), AllocError>
-    requires { IsWhole batch.old.items }
-    ensures whole { OnOk result (IsWhole batch.new.items) }
+    requires { AreWholeLines batch.old.items }
+    ensures whole { OnOk result (AreWholeLines batch.new.items) }
     ensures lines { OnOk result ((text : List ℕ) → Digests marker.old text
-        → recovered batch.new.items ≡ recovered batch.old.items ++ mark_of (text ++ batch.old.items) ∷ []) }
+        → recovered_lines batch.new.items
+        ≡ recovered_lines batch.old.items ++ mark_of (text ++ batch.old.items) ∷ []) }
     ensures digests { OnOk result ((text : List ℕ) → Digests marker.old text
         → Digests marker.new (mark_of (text ++ batch.old.items) ++ newline ∷ [])) }
-    ensures said { OnOk result (said (recovered batch.new.items) ≡ said (recovered batch.old.items)) }
+    ensures said { OnOk result (said (recovered_lines batch.new.items)
+        ≡ said (recovered_lines batch.old.items)) }
 {
     marker.add(batch);
     let mark = marker.mark();
@@ -92,7 +98,7 @@ pub fn mark_lines(marker: &mut Marker, batch: &mut Vec<u8>) -> Result<(), AllocE
 
 /// Returns `true` if one of the lines with which bytes begin is a mark.
 pub fn has_mark(bytes: &[u8]) -> bool
-    ensures { result ≡ has_mark (recovered bytes.now) }
+    ensures { result ≡ has_mark (recovered_lines bytes.now) }
 {
     let mut rest = bytes;
     while let Some(len) = first_line(rest) {
@@ -106,7 +112,7 @@ pub fn has_mark(bytes: &[u8]) -> bool
 
 /// Returns `true` if one of the lines with which bytes begin is the mark with this digest.
 pub fn has_digest(bytes: &[u8], digest: &Digest) -> bool
-    ensures { result ≡ has_digest digest.now (recovered bytes.now) }
+    ensures { result ≡ has_digest digest.now (recovered_lines bytes.now) }
 {
     let mut rest = bytes;
     while let Some(len) = first_line(rest) {

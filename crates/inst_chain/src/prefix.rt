@@ -22,7 +22,8 @@ impl Prefix {
 
     /// Counts one line more, which is given without its newline.
     pub(crate) fn add(&mut self, line: &[u8])
-        ensures { (lines : List (List ℕ)) → Counts self.old lines → Counts self.new (lines ++ line.now ∷ []) }
+        ensures { (lines : List (List ℕ)) → Counts self.old lines →
+            Counts self.new (lines ++ line.now ∷ []) }
     {
         self.lines = self.lines.saturating_add(1);
         self.bytes = self

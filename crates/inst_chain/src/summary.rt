@@ -1,11 +1,13 @@
 //! A log is read from its first byte to its end, in constant memory, and nothing of it is changed.
-ghost use Rattle.std.specs.Prelude.{◌≡◌, ◌++◌, ◌∷◌, [], List, ℕ, Some, length, true, IfOk, IfErr, IfSome, OnOk, MatchBool};
+ghost use Rattle.std.specs.Prelude.{◌≡◌, ◌++◌, ◌∷◌, [], List, ℕ, Some, length, true, IfOk, IfErr};
+ghost use Rattle.std.specs.Prelude.{IfSome, OnOk, MatchBool};
 ghost use Rattle.std.specs.Io.{ReadsAtMost};
 ghost use Rattle.std.specs.Io.KnownBytes.{ReadConsumes};
-ghost use Rattle.inst_log.specs.Layout.{recovered};
+ghost use Rattle.inst_log.specs.Layout.{recovered_lines};
 ghost use Rattle.inst_chain.specs.Chain.{is_mark, mark_with};
 ghost use Rattle.inst_chain.specs.Summing.{IsSummary, Unsummed};
-ghost use Rattle.inst_chain.specs.inner.Summing.{IsFirst, Sees, Tallies, HasRead, HasReadAll, IsChain, IsReadFault};
+ghost use Rattle.inst_chain.specs.inner.Summing.{IsFirst, Sees, Tallies, HasRead, HasReadAll};
+ghost use Rattle.inst_chain.specs.inner.Summing.{IsChain, IsReadFault};
 
 use crate::checker::Checker;
 use crate::digest::{DIGEST_LEN, Digest};
@@ -25,19 +27,22 @@ pub struct Summary {
     pub first: Vec<u8>,
     /// How many lines it has, the first one counted and marks not.
     pub lines: u64,
-    /// The digest of its last mark, if each mark is right and so is its end; else the lines up to the last mark that is
-    /// right. A log without marks has the latter.
+    /// The digest of its last mark, if each mark is right and so is its end; else the lines up to
+    /// the last mark that is right. A log without marks has the latter.
     pub chain: Result<Digest, Prefix>,
 }
 
-/// Reads a log to its end, and verifies its marks. It takes the memory of two pieces of 64 KiB and of the longest line.
+/// Reads a log to its end, and verifies its marks. It takes the memory of two pieces of 64 KiB and
+/// of the longest line.
 ///
 /// # Errors
 ///
 /// `NoLog` if what is read begins with no line, `Disk` if a read fails, `Full` for 2^64 bytes.
 pub fn summarize<R: Read>(alloc: Global, reader: &mut R) -> Result<Summary, LogError>
-    ensures found { IfOk result (λ summary. IfSome (R.remaining reader.old) (λ file. IsSummary file summary)) }
-    ensures none { IfErr result (λ error. IfSome (R.remaining reader.old) (λ file. Unsummed file error)) }
+    ensures found { IfOk result (λ summary.
+        IfSome (R.remaining reader.old) (λ file. IsSummary file summary)) }
+    ensures none { IfErr result (λ error.
+        IfSome (R.remaining reader.old) (λ file. Unsummed file error)) }
 {
     let mut reading = Reading::new(alloc);
     for _ in 0..u64::MAX {
@@ -68,8 +73,10 @@ impl Reading {
 
     /// Reads once. Returns `true` if the log may have more lines.
     fn turn<R: Read>(&mut self, alloc: Global, reader: &mut R) -> Result<bool, LogError>
-        ensures more { IfOk result (λ more. (file : List ℕ) → HasRead self.old file (R.remaining reader.old)
-            → MatchBool more (HasRead self.new file (R.remaining reader.new)) (HasReadAll self.new file)) }
+        ensures more { IfOk result (λ more. (file : List ℕ) →
+            HasRead self.old file (R.remaining reader.old)
+            → MatchBool more (HasRead self.new file (R.remaining reader.new))
+            (HasReadAll self.new file)) }
         ensures err { IfErr result IsReadFault }
     {
         let mut piece = vec![in alloc; 0; PIECE]?;
@@ -87,8 +94,10 @@ impl Reading {
 
     /// Returns what the log has that was read to its end.
     fn sum_up(self) -> Result<Summary, LogError>
-        ensures found { IfOk result (λ summary. (file : List ℕ) → HasReadAll self file → IsSummary file summary) }
-        ensures none { IfErr result (λ error. (file : List ℕ) → HasReadAll self file → Unsummed file error) }
+        ensures found { IfOk result (λ summary. (file : List ℕ) → HasReadAll self file →
+            IsSummary file summary) }
+        ensures none { IfErr result (λ error. (file : List ℕ) → HasReadAll self file →
+            Unsummed file error) }
     {
         let Reading { cutter, tally } = self;
         let chain = tally.chain(cutter.is_shut());
@@ -136,7 +145,8 @@ impl Tally {
 
     /// Takes the whole lines with which bytes begin.
     fn add(&mut self, alloc: Global, bytes: &[u8]) -> Result<(), AllocError>
-        ensures { OnOk result ((done : List (List ℕ)) → Tallies self.old done → Tallies self.new (done ++ recovered bytes.now)) }
+        ensures { OnOk result ((done : List (List ℕ)) → Tallies self.old done →
+            Tallies self.new (done ++ recovered_lines bytes.now)) }
     {
         self.seen.add(alloc, bytes)?;
         if self.wrong.is_some() {
@@ -195,7 +205,8 @@ impl Seen {
 
     /// Takes the whole lines with which bytes begin.
     fn add(&mut self, alloc: Global, bytes: &[u8]) -> Result<(), AllocError>
-        ensures { OnOk result ((done : List (List ℕ)) → Sees self.old done → Sees self.new (done ++ recovered bytes.now)) }
+        ensures { OnOk result ((done : List (List ℕ)) → Sees self.old done →
+            Sees self.new (done ++ recovered_lines bytes.now)) }
     {
         let mut rest = bytes;
         while let Some(len) = first_line(rest) {
@@ -207,7 +218,8 @@ impl Seen {
 
     /// Takes the next line, without its newline.
     fn add_line(&mut self, alloc: Global, line: &[u8]) -> Result<(), AllocError>
-        ensures { OnOk result ((done : List (List ℕ)) → Sees self.old done → Sees self.new (done ++ line.now ∷ [])) }
+        ensures { OnOk result ((done : List (List ℕ)) → Sees self.old done →
+            Sees self.new (done ++ line.now ∷ [])) }
     {
         self.keep_first(alloc, line)?;
         if is_mark(line) {
@@ -220,7 +232,8 @@ impl Seen {
 
     /// Keeps the next line, if it is the first one.
     fn keep_first(&mut self, alloc: Global, line: &[u8]) -> Result<(), AllocError>
-        ensures first { OnOk result ((done : List (List ℕ)) → IsFirst self.old.first done → IsFirst self.new.first (done ++ line.now ∷ [])) }
+        ensures first { OnOk result ((done : List (List ℕ)) → IsFirst self.old.first done →
+            IsFirst self.new.first (done ++ line.now ∷ [])) }
         ensures rest { (self.new.lines ≡ self.old.lines) × (self.new.digest ≡ self.old.digest) }
     {
         if self.first.is_some() {

@@ -1,9 +1,9 @@
 //! The marks of a file are verified, and nothing of it is changed.
 ghost use Rattle.std.specs.Prelude.{◌≡◌, ◌++◌, List, ℕ, IsTrue, IfOk, IfErr, MatchResult, ⊤};
 ghost use Rattle.sqlite_disk.specs.Disk.{MoreFaults};
-ghost use Rattle.inst_log.specs.Layout.{recovered};
+ghost use Rattle.inst_log.specs.Layout.{recovered_lines};
 ghost use Rattle.inst_chain.specs.Chain.{has_wanted};
-ghost use Rattle.inst_chain.specs.Verifying.{Finds, Unverified};
+ghost use Rattle.inst_chain.specs.Verifying.{IsFoundVerified, Unverified};
 ghost use Rattle.inst_chain.specs.inner.Ends.{IsChecked};
 ghost use Rattle.inst_chain.specs.declared.prefix.Prefix.{Prefix};
 ghost use Rattle.inst_chain.specs.declared.error.ChainError.TheVariants.{Damaged};
@@ -27,8 +27,9 @@ pub struct Verified {
     pub has_wanted: bool,
 }
 
-/// Reads the file that the disk has, whatever a crash left of it, verifies each mark, and looks for the one with the
-/// wanted digest. It takes the memory of a piece of 64 KiB and of the longest line.
+/// Reads the file that the disk has, whatever a crash left of it, verifies each mark, and looks for
+/// the one with the wanted digest. It takes the memory of a piece of 64 KiB and of the longest
+/// line.
 ///
 /// # Errors
 ///
@@ -39,11 +40,13 @@ pub fn verify<D: Disk>(
     wanted: Option<Digest>,
 ) -> Result<Verified, ChainError>
     requires usable { IsTrue (D.Disk.is_usable disk.old) }
-    ensures found { IfOk result (λ verified. IsTrue (D.Disk.is_clean disk.new) → Finds (D.Disk.seen disk.old) verified) }
+    ensures found { IfOk result (λ verified. IsTrue (D.Disk.is_clean disk.new) →
+        IsFoundVerified (D.Disk.seen disk.old) verified) }
     ensures wanted { IfOk result (λ verified. IsTrue (D.Disk.is_clean disk.new)
-        → verified.has_wanted ≡ has_wanted wanted (recovered (D.Disk.seen disk.old))) }
+        → verified.has_wanted ≡ has_wanted wanted (recovered_lines (D.Disk.seen disk.old))) }
     ensures cause { MatchResult result (λ _. D.Disk.faults disk.new ≡ D.Disk.faults disk.old)
-        (Unverified (D.Disk.seen disk.old) (IsTrue (D.Disk.is_clean disk.new)) (MoreFaults (D.Disk.faults disk.old) (D.Disk.faults disk.new))) }
+        (Unverified (D.Disk.seen disk.old) (IsTrue (D.Disk.is_clean disk.new))
+        (MoreFaults (D.Disk.faults disk.old) (D.Disk.faults disk.new))) }
     ensures seen { D.Disk.seen disk.new ≡ D.Disk.seen disk.old }
     ensures crash { (c : List ℕ) → D.Disk.may_leave disk.new c → D.Disk.may_leave disk.old c }
     ensures usable { IsTrue (D.Disk.is_usable disk.new) }
@@ -62,9 +65,11 @@ pub fn verify<D: Disk>(
     end(&lines, checker, has_wanted)
 }
 
-/// Whether the mark with the wanted digest was found before these lines or is one of them, or none is wanted.
+/// Whether the mark with the wanted digest was found before these lines or is one of them, or none
+/// is wanted.
 fn find_wanted(found: bool, lines: &[u8], wanted: Option<Digest>) -> bool
-    ensures { (done : List (List ℕ)) → found ≡ has_wanted wanted done → result ≡ has_wanted wanted (done ++ recovered lines.now) }
+    ensures { (done : List (List ℕ)) → found ≡ has_wanted wanted done →
+        result ≡ has_wanted wanted (done ++ recovered_lines lines.now) }
 {
     match wanted {
         Some(digest) => found || has_digest(lines, &digest),
@@ -74,9 +79,11 @@ fn find_wanted(found: bool, lines: &[u8], wanted: Option<Digest>) -> bool
 
 /// What a file has whose lines were all checked.
 fn end(lines: &FileLines, checker: Checker, has_wanted: bool) -> Result<Verified, ChainError>
-    ensures found { IfOk result (λ verified. (file : List ℕ) → IsChecked file lines.now checker → Finds file verified) }
+    ensures found { IfOk result (λ verified. (file : List ℕ) → IsChecked file lines.now checker →
+        IsFoundVerified file verified) }
     ensures wanted { IfOk result (λ verified. verified.has_wanted ≡ has_wanted) }
-    ensures damaged { IfErr result (λ error. (file : List ℕ) → IsChecked file lines.now checker → Unverified file ⊤ ⊥ error) }
+    ensures damaged { IfErr result (λ error. (file : List ℕ) → IsChecked file lines.now checker →
+        Unverified file ⊤ ⊥ error) }
     ensures only { IfErr result (λ error. (right : Prefix) × (error ≡ Damaged right)) }
 {
     let extent = lines.extent();

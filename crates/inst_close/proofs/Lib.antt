@@ -1,8 +1,8 @@
-pub mod AtPlace
-pub mod Copying
-pub mod Since
-pub mod Left
+pub mod OriginatorTellsOfPlace
+pub mod CopiesOfBooks
+pub mod BooksCarryWhatHubCarried
+pub mod RemainsOfClosingHub
 pub mod CodesCopied
-pub mod Reopened
-pub mod Summing
-pub mod Explained
+pub mod NextHubFromCopies
+pub mod PositionSumsAreSmall
+pub mod StepsExplainCopiedBooks

@@ -1,5 +1,5 @@
--- A hub that was closed, as a contract sees it: its settings, and the books of its participants by number. This hub's own
--- choice.
+-- A hub that was closed, as a contract sees it: its settings, and the books of its participants by
+-- number. This hub's own choice.
 use Rattle.std.specs.Prelude.{◌≡◌, ℕ, List, length, slice_get, Some}
 use Rattle.inst_settings.specs.Settings.{HubSettings, participants}
 use Rattle.inst_settings.specs.Lawful.{IsSettings}

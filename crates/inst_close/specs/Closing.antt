@@ -1,13 +1,15 @@
--- What is left of a hub when it closes, seen from its tellers: the books go on from all that they have seen, with nothing
--- but deliveries and learnings, and tell all that they knew. This hub's own choice.
+-- What is left of a hub when it closes, seen from its tellers: the books go on from all that they
+-- have seen, with nothing but deliveries and learnings, and tell all that they knew. This hub's own
+-- choice.
 use Rattle.std.specs.Prelude.{◌≡◌, ◌≢◌, ℕ, ◌<◌, List, [], ◌∷◌, ◌++◌, slice_get, Some}
 use mathlib.Core.List.{IsPrefix}
 use Rattle.inst_settings.specs.Settings.{participants}
 use Rattle.inst_command.specs.declared.outcome.Outcome.{Outcome}
 use Rattle.inst_command.specs.declared.outcome.State.TheVariants.{Unused, Decided}
 use Rattle.inst_terms.specs.declared.terms.Terms.{Terms}
-use Rattle.inst_board.specs.declared.place.Place.{Place}
-use Rattle.inst_board.specs.declared.about.About.TheVariants.{Opened, HasTerms, Decided as IsDecided}
+use Rattle.inst_command.specs.declared.place.Place.{Place}
+use Rattle.inst_board.specs.declared.about.About.TheVariants.{Opened, HasTerms}
+use Rattle.inst_board.specs.declared.about.About.TheVariants.{Decided as IsDecided}
 use Rattle.inst_board.specs.declared.about.Fact.{Fact}
 use Rattle.inst_board.specs.Standing.{about}
 use Rattle.inst_cell.specs.Held.{knows}
@@ -21,7 +23,7 @@ use Rattle.inst_participant.specs.Together.{histories}
 use Rattle.inst_row.specs.declared.view.Front.{Front}
 use Rattle.inst_row.specs.Row.{row_id, key_of}
 use Rattle.inst_row.specs.Seated.{HasSeen}
-use Rattle.inst_participant.specs.InTheBooks.{told, IsTakenWith}
+use Rattle.inst_participant.specs.InTheBooks.{state_in_books, IsTakenWith}
 use Rattle.inst_participant.specs.declared.parts.Parts.{Parts}
 use Rattle.inst_participant.specs.Apart.{IsPartsOf, histories_of, board_of, hub_of}
 use Rattle.inst_hub.specs.declared.hub.Hub.{Hub}
@@ -42,26 +44,32 @@ IsOpenedSo O h = IsOpening h.settings O × HasOpened O h
 
 -- the books were opened in this way, and not since
 abbrev pub HaveOpened : Opening → ClosedHub → Type 0
-HaveOpened O closed = (p : ℕ) → p < participants closed.settings → carried (histories closed.books p) ≡ beginning O p
+HaveOpened O closed =
+    (p : ℕ) → p < participants closed.settings → carried (histories closed.books p) ≡ beginning O p
 
 -- the histories of n participants go on from all that the tellers have seen of them
 abbrev pub GoOnFrom : List Teller → ℕ → (ℕ → List Event) → Type 0
-GoOnFrom tellers n J = (i : ℕ) (t : Teller) (p : ℕ) (h : List Event) → slice_get tellers i ≡ Some t → p < n →
+GoOnFrom tellers n J =
+    (i : ℕ) (t : Teller) (p : ℕ) (h : List Event) → slice_get tellers i ≡ Some t → p < n →
     HasSeen p h t.seat → IsPrefix h (J p)
 
--- each history of n participants is one that one of the tellers has seen, and then deliveries and learnings alone
+-- each history of n participants is one that one of the tellers has seen, and then deliveries and
+-- learnings alone
 abbrev pub AreOnlyTold : List Teller → ℕ → (ℕ → List Event) → Type 0
-AreOnlyTold tellers n J = (p : ℕ) → p < n → (h : List Event) × OneHasSeen tellers p h × OnlyTold h (J p)
+AreOnlyTold tellers n J =
+    (p : ℕ) → p < n → (h : List Event) × OneHasSeen tellers p h × OnlyTold h (J p)
 
 -- the books tell all that the teller knew of the place
 pub record IsToldAs (t : Teller) (J : ℕ → List Event) (k : Place) : Type 0 where
-  pub used : told J k ≢ Unused
+  pub used : state_in_books J k ≢ Unused
   pub terms : (x : Terms) → knows_of t (about k (HasTerms x)) → IsTakenWith J k x
-  pub outcome : (o : Outcome) → knows_of t (about k (IsDecided o)) → told J k ≡ Decided o
+  pub outcome : (o : Outcome) → knows_of t (about k (IsDecided o)) → state_in_books J k ≡ Decided o
 
 -- of each place that a teller knew opened
 abbrev pub TellAll : List Teller → (ℕ → List Event) → Type 0
-TellAll tellers J = (i : ℕ) (t : Teller) (k : Place) → slice_get tellers i ≡ Some t → knows_of t (about k Opened) → IsToldAs t J k
+TellAll tellers J =
+    (i : ℕ) (t : Teller) (k : Place) → slice_get tellers i ≡ Some t → knows_of t (about k Opened) →
+    IsToldAs t J k
 
 -- the parts are those of the hub with these tellers
 pub record AreOfHub (h : Hub) (tellers : List Teller) (parts : Parts) : Type 0 where
@@ -69,16 +77,19 @@ pub record AreOfHub (h : Hub) (tellers : List Teller) (parts : Parts) : Type 0 w
   pub opened : (O : Opening) → IsOpenedSo O h → IsPartsOf O parts
   pub goes_on : GoOnFrom tellers (participants h.settings) (histories_of parts)
   pub only_told : AreOnlyTold tellers (participants h.settings) (histories_of parts)
-  pub knows : (i : ℕ) (t : Teller) (f : Fact) → slice_get tellers i ≡ Some t → knows_of t f → knows (board_of parts) f
+  pub knows : (i : ℕ) (t : Teller) (f : Fact) → slice_get tellers i ≡ Some t → knows_of t f →
+      knows (board_of parts) f
 
 -- what is left of the hub with these tellers: they as they were, or its parts
 abbrev pub IsLeftOf : Hub → List Teller → Rest → Type 0
 IsLeftOf h tellers (Whole hub handed) = (hub ≡ h) × (handed.items ≡ tellers)
 IsLeftOf h tellers (Apart parts) = AreOfHub h tellers parts
 
--- what is left can be closed: these are all the tellers of a hub that was opened, or the parts of one
+-- what is left can be closed: these are all the tellers of a hub that was opened, or the parts of
+-- one
 abbrev pub MayClose : Rest → Type 0
-MayClose (Whole hub handed) = AreOf hub handed.items × HaveAllParts handed.items × ((O : Opening) × IsOpenedSo O hub)
+MayClose (Whole hub handed) =
+    AreOf hub handed.items × HaveAllParts handed.items × ((O : Opening) × IsOpenedSo O hub)
 MayClose (Apart parts) = (O : Opening) × IsPartsOf O parts
 
 abbrev pub rest_of : CloseFault → Rest
@@ -102,9 +113,10 @@ pub record IsNextOf (books : List Book) (h : Hub) : Type 0 where
 abbrev pub next_fronts : List Book → ℕ → List (Front Event)
 next_fronts books n = first_fronts n (λ p. histories books p ++ AnOpening ∷ [])
 
--- the tellers of a hub that was opened from these books: they have all parts of its row, have seen each book with an
--- opening, and know of no place
+-- the tellers of a hub that was opened from these books: they have all parts of its row, have seen
+-- each book with an opening, and know of no place
 pub record AreNextTellers (books : List Book) (h : Hub) (tellers : List Teller) : Type 0 where
   pub of : AreOf h tellers
   pub parts : HaveAllParts tellers
-  pub new : AreNew (row_id h.row) (key_of h.row) (next_fronts books (participants h.settings)) tellers
+  pub new : AreNew (row_id h.row) (key_of h.row) (next_fronts books (participants h.settings))
+      tellers

@@ -1,4 +1,5 @@
--- When the next hub can be opened from the books of a closed one, with more participants. This hub's own choice.
+-- When the next hub can be opened from the books of a closed one, with more participants. This
+-- hub's own choice.
 use Rattle.std.specs.Prelude.{ℕ, List}
 use Rattle.inst_settings.specs.Lawful.{IsSettings}
 use Rattle.inst_cell.specs.Opening.{MayOpen}
@@ -7,9 +8,9 @@ use Rattle.inst_participant.specs.Wider.{widened}
 use Rattle.inst_close.specs.ClosedHub.{ClosedHub}
 use Rattle.inst_participant.specs.Together.{histories}
 
--- Books can be opened from with participants of these codes behind the others
--- few: none was opened from too often
--- settings, seats: no code stands twice, there are not too many participants, and there are 1 to 16 tellers
+-- Books can be opened from with participants of these codes behind the others few: none was opened
+-- from too often settings, seats: no code stands twice, there are not too many participants, and
+-- there are 1 to 16 tellers
 pub record MayOpenWider (closed : ClosedHub) (codes : List (List ℕ)) (tellers : ℕ) : Type 0 where
   pub few : (p : ℕ) → HasOpeningsLeft (histories closed.books p)
   pub settings : IsSettings (widened closed.settings codes)

@@ -4,19 +4,18 @@ ghost use Rattle.inst_settings.specs.Settings.{participants};
 ghost use Rattle.inst_journal.specs.Sound.{IsSound};
 ghost use Rattle.inst_model.specs.Closing.{AreClosed};
 ghost use Rattle.inst_participant.specs.Together.{histories};
-ghost use Rattle.inst_participant.specs.InTheBooks.{told};
+ghost use Rattle.inst_participant.specs.InTheBooks.{state_in_books};
 ghost use Rattle.inst_close.specs.ClosedHub.{AreNumbered};
 
-use inst_board::Place;
 use inst_cell::Ticket;
-use inst_command::State;
+use inst_command::{Place, State};
 use inst_journal::Journal;
 use inst_settings::Settings;
 use inst_slot::Slot;
 use std::marker::Model;
 
-/// The books of all participants of a hub that was closed: each is a history that a participant can have, and together
-/// they are closed.
+/// The books of all participants of a hub that was closed: each is a history that a participant can
+/// have, and together they are closed.
 #[derive(Drop)]
 pub struct Books {
     pub(crate) settings: Settings,
@@ -65,9 +64,10 @@ impl Books {
         self.slots[usize::from(who)].journal()
     }
 
-    /// What the originator's book says of the ticket's place: `Unused` where no transfer was taken there.
+    /// What the originator's book says of the ticket's place: `Unused` where no transfer was taken
+    /// there.
     pub fn told(&self, ticket: &Ticket) -> State
-        ensures { result ≡ told (histories self.now.books) ticket.now }
+        ensures { result ≡ state_in_books (histories self.now.books) ticket.now }
     {
         let Place { owner, index } = ticket.place();
         match self.slots.get(usize::from(owner)) {

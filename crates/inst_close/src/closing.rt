@@ -1,7 +1,7 @@
 //! How the parts of a hub are closed.
 ghost use Rattle.std.specs.Prelude.{◌≡◌, ℕ, List, IfOk, IfErr};
 ghost use Rattle.inst_board.specs.declared.about.About.TheVariants.{Opened};
-ghost use Rattle.inst_board.specs.declared.place.Place.{Place};
+ghost use Rattle.inst_command.specs.declared.place.Place.{Place};
 ghost use Rattle.inst_board.specs.Standing.{about};
 ghost use Rattle.inst_cell.specs.Held.{knows};
 ghost use Rattle.inst_model.specs.Closing.{OnlyTold};
@@ -14,7 +14,8 @@ ghost use Rattle.inst_hub.specs.declared.teller.Teller.{Teller};
 ghost use Rattle.inst_hub.specs.Calls.{AreOf};
 ghost use Rattle.inst_hub.specs.Opening.{HaveAllParts};
 ghost use Rattle.inst_participant.specs.Apart.{IsPartsOf, histories_of, board_of, hub_of};
-ghost use Rattle.inst_close.specs.Closing.{IsOpenedSo, HaveOpened, GoOnFrom, AreOnlyTold, TellAll, IsLeftOf, MayClose, IsClosedFrom, rest_of};
+ghost use Rattle.inst_close.specs.Closing.{IsOpenedSo, HaveOpened, GoOnFrom, AreOnlyTold, TellAll};
+ghost use Rattle.inst_close.specs.Closing.{IsLeftOf, MayClose, IsClosedFrom, rest_of};
 ghost use Rattle.inst_close.specs.inner.Closing.{IsPartly};
 
 use crate::Books;
@@ -48,19 +49,23 @@ impl fmt::Debug for CloseFault {
     }
 }
 
-/// The books of the hub, once each participant has booked and got what there is for it, and nothing else. They were opened
-/// as the hub was, go on from all that the tellers have seen, and tell all that these knew. It waits for no lock, since
-/// nobody else has the hub. `Memory` hands back what is left of the hub.
+/// The books of the hub, once each participant has booked and got what there is for it, and nothing
+/// else. They were opened as the hub was, go on from all that the tellers have seen, and tell all
+/// that these knew. It waits for no lock, since nobody else has the hub. `Memory` hands back what
+/// is left of the hub.
 pub fn close(alloc: Global, hub: Hub, tellers: Vec<Teller>) -> Result<Books, CloseFault>
     requires of { AreOf hub tellers.items }
     requires parts { HaveAllParts tellers.items }
     requires opened { (O : Opening) × IsOpenedSo O hub }
     ensures settings { IfOk result (λ books. books.settings ≡ hub.settings) }
     ensures opened { IfOk result (λ books. (O : Opening) → IsOpenedSo O hub → HaveOpened O books) }
-    ensures goes_on { IfOk result (λ books. GoOnFrom tellers.items (participants hub.settings) (histories books.books)) }
-    ensures only_told { IfOk result (λ books. AreOnlyTold tellers.items (participants hub.settings) (histories books.books)) }
+    ensures goes_on { IfOk result (λ books.
+        GoOnFrom tellers.items (participants hub.settings) (histories books.books)) }
+    ensures only_told { IfOk result (λ books.
+        AreOnlyTold tellers.items (participants hub.settings) (histories books.books)) }
     ensures told { IfOk result (λ books. TellAll tellers.items (histories books.books)) }
-    ensures left { IfErr result (λ e. IsLeftOf hub tellers.items (rest_of e) × MayClose (rest_of e)) }
+    ensures left { IfErr result (λ e. IsLeftOf hub tellers.items (rest_of e)
+        × MayClose (rest_of e)) }
 {
     match hub.take_apart(alloc, tellers) {
         Ok(parts) => close_parts(parts),
@@ -74,8 +79,10 @@ pub fn close(alloc: Global, hub: Hub, tellers: Vec<Teller>) -> Result<Books, Clo
 fn close_parts(parts: Parts) -> Result<Books, CloseFault>
     requires parts { (O : Opening) × IsPartsOf O parts }
     ensures settings { IfOk result (λ books. books.settings ≡ hub_of parts) }
-    ensures histories { IfOk result (λ books. (p : ℕ) → OnlyTold (histories_of parts p) (histories books.books p)) }
-    ensures told { IfOk result (λ books. (k : Place) → knows (board_of parts) (about k Opened) → IsInTheBooks knows (board_of parts) (histories books.books) k) }
+    ensures histories { IfOk result (λ books. (p : ℕ) →
+        OnlyTold (histories_of parts p) (histories books.books p)) }
+    ensures told { IfOk result (λ books. (k : Place) → knows (board_of parts) (about k Opened) →
+        IsInTheBooks knows (board_of parts) (histories books.books) k) }
     ensures left { IfErr result (λ e. IsPartly parts (rest_of e)) }
 {
     let mut parts = parts;
@@ -91,12 +98,14 @@ fn close_parts(parts: Parts) -> Result<Books, CloseFault>
 }
 
 impl Rest {
-    /// The books of the hub that this is left of: they are what `close` makes of it with its tellers. `Memory` hands back
-    /// what is left then.
+    /// The books of the hub that this is left of: they are what `close` makes of it with its
+    /// tellers. `Memory` hands back what is left then.
     pub fn close(self, alloc: Global) -> Result<Books, CloseFault>
         requires may { MayClose self }
-        ensures books { IfOk result (λ books. (h : Hub) (tellers : List Teller) → IsLeftOf h tellers self → IsClosedFrom h tellers books) }
-        ensures left { IfErr result (λ e. (h : Hub) (tellers : List Teller) → IsLeftOf h tellers self → IsLeftOf h tellers (rest_of e)) }
+        ensures books { IfOk result (λ books. (h : Hub) (tellers : List Teller) →
+            IsLeftOf h tellers self → IsClosedFrom h tellers books) }
+        ensures left { IfErr result (λ e. (h : Hub) (tellers : List Teller) →
+            IsLeftOf h tellers self → IsLeftOf h tellers (rest_of e)) }
         ensures again { IfErr result (λ e. MayClose (rest_of e)) }
     {
         match self {

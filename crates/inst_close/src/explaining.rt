@@ -11,26 +11,28 @@ use inst_order::{interleaving, interleaving_from};
 use std::alloc::{AllocError, Global};
 
 impl Books {
-    /// Returns steps of a hub in one thread that leave exactly these books after a first opening, if it finds some. So a
-    /// hub with threads that was closed keeps the headline for its rebuilt run. The steps' clock readings are not those of
-    /// the calls that were made.
+    /// Returns steps of a hub in one thread that leave exactly these books after a first opening,
+    /// if it finds some. So a hub with threads that was closed keeps the headline for its rebuilt
+    /// run. The steps' clock readings are not those of the calls that were made.
     ///
-    /// `None` promises nothing. Takes time linear in the number of events, and memory for the steps, a copy of the books
-    /// and the hub that runs the steps.
+    /// `None` promises nothing. Takes time linear in the number of events, and memory for the
+    /// steps, a copy of the books and the hub that runs the steps.
     ///
     /// # Errors
     ///
     /// `AllocError` if an allocation fails.
     pub fn interleaving(&self, alloc: Global) -> Result<Option<Vec<Step>>, AllocError>
-        ensures headline { IfOk result (λ found. IfSome found (λ steps. Explains self.now.settings Opening.First steps.items (histories self.now.books))) }
+        ensures headline { IfOk result (λ found.
+            IfSome found (λ steps.
+            Explains self.now.settings Opening.First steps.items (histories self.now.books))) }
     {
         let journals = self.copies(alloc)?;
         interleaving(alloc, self.settings(), &journals)
     }
 
-    /// Returns such steps of a hub that was opened from the books `before`, as by `open_next` or `open_wider`. Participants
-    /// that joined have empty books there. `None` is also the answer if no hub of these settings can be opened from
-    /// `before`.
+    /// Returns such steps of a hub that was opened from the books `before`, as by `open_next` or
+    /// `open_wider`. Participants that joined have empty books there. `None` is also the answer if
+    /// no hub of these settings can be opened from `before`.
     ///
     /// # Errors
     ///
@@ -40,7 +42,10 @@ impl Books {
         alloc: Global,
         before: &Books,
     ) -> Result<Option<Vec<Step>>, AllocError>
-        ensures headline { IfOk result (λ found. IfSome found (λ steps. Explains self.now.settings (Opening.FromBooks (histories before.now.books)) steps.items (histories self.now.books))) }
+        ensures headline { IfOk result (λ found.
+            IfSome found (λ steps.
+            Explains self.now.settings (Opening.FromBooks (histories before.now.books)) steps.items
+            (histories self.now.books))) }
     {
         let joined = self.slots.len().saturating_sub(before.slots.len());
         let opening = before.copies_and(alloc, joined)?;

@@ -50,12 +50,14 @@ impl Books {
         true
     }
 
-    /// The hub of the next opening, with as many tellers as are wanted, which have seen each book with an opening after it.
-    /// What was pending goes on, what was decided gives its place back. The books stay as they are. `BadSettings` where the
-    /// tellers are not 1 to 16 or a book can't be opened from once more, `Memory` where there is no room.
+    /// The hub of the next opening, with as many tellers as are wanted, which have seen each book
+    /// with an opening after it. What was pending goes on, what was decided gives its place back.
+    /// The books stay as they are. `BadSettings` where the tellers are not 1 to 16 or a book can't
+    /// be opened from once more, `Memory` where there is no room.
     pub fn open_next(&self, alloc: Global, tellers: u8) -> Result<(Hub, Vec<Teller>), Fault>
         ensures settings { IfOk result (λ r. r.0.settings ≡ self.now.settings) }
-        ensures tellers { IfOk result (λ r. (length r.1.items ≡ tellers) × AreNextTellers self.now.books r.0 r.1.items) }
+        ensures tellers { IfOk result (λ r. (length r.1.items ≡ tellers)
+            × AreNextTellers self.now.books r.0 r.1.items) }
         ensures opened { IfOk result (λ r. IsNextOf self.now.books r.0) }
         ensures may { IfOk result (λ r. MayOpenWider self.now [] tellers) }
         ensures bad { result ≡ Err Fault.BadSettings → ¬ MayOpenWider self.now [] tellers }
@@ -64,9 +66,9 @@ impl Books {
         self.open_wider(alloc, Vec::new(alloc), tellers)
     }
 
-    /// The hub of the next opening as `open_next` gives it, which participants of these codes join: they have the numbers
-    /// behind the others, and empty books. `BadSettings` also where a code stands twice or there are more than 256
-    /// participants then.
+    /// The hub of the next opening as `open_next` gives it, which participants of these codes join:
+    /// they have the numbers behind the others, and empty books. `BadSettings` also where a code
+    /// stands twice or there are more than 256 participants then.
     pub fn open_wider(
         &self,
         alloc: Global,
@@ -74,7 +76,8 @@ impl Books {
         tellers: u8,
     ) -> Result<(Hub, Vec<Teller>), Fault>
         ensures settings { IfOk result (λ r. r.0.settings ≡ widened self.now.settings codes.items) }
-        ensures tellers { IfOk result (λ r. (length r.1.items ≡ tellers) × AreNextTellers self.now.books r.0 r.1.items) }
+        ensures tellers { IfOk result (λ r. (length r.1.items ≡ tellers)
+            × AreNextTellers self.now.books r.0 r.1.items) }
         ensures opened { IfOk result (λ r. IsNextOf self.now.books r.0) }
         ensures may { IfOk result (λ r. MayOpenWider self.now codes.items tellers) }
         ensures bad { result ≡ Err Fault.BadSettings → ¬ MayOpenWider self.now codes.items tellers }

@@ -8,10 +8,11 @@ ghost use Rattle.inst_participant.specs.Together.{histories};
 use crate::Books;
 
 impl Books {
-    /// The net funding of all participants, in cents: what was funded less what was defunded, over all openings. It costs
-    /// the events of all books.
+    /// The net funding of all participants, in cents: what was funded less what was defunded, over
+    /// all openings. It costs the events of all books.
     pub fn net(&self) -> u128
-        ensures { pos result ≡ signed_total self.now.settings (λ p. net (histories self.now.books p)) }
+        ensures { pos result
+            ≡ signed_total self.now.settings (λ p. net (histories self.now.books p)) }
     {
         let mut total = 0;
         for slot in self.slots.as_slice() {
@@ -22,8 +23,10 @@ impl Books {
 
     /// All positions, in cents. They are the net funding of all, since the books are closed.
     pub fn sum(&self) -> u128
-        ensures sum { result ≡ total self.now.settings (λ p. position (histories self.now.books p)) }
-        ensures net { pos result ≡ signed_total self.now.settings (λ p. net (histories self.now.books p)) }
+        ensures sum { result ≡ total self.now.settings (λ p.
+            position (histories self.now.books p)) }
+        ensures net { pos result
+            ≡ signed_total self.now.settings (λ p. net (histories self.now.books p)) }
     {
         let mut total = 0;
         for slot in self.slots.as_slice() {

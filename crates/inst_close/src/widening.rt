@@ -22,8 +22,8 @@ fn codes_with(alloc: Global, settings: &Settings, more: &[Code]) -> Result<Vec<C
     Ok(codes)
 }
 
-/// The settings with these codes behind the others. `BadSettings` where there are more than 256 then or one stands twice,
-/// `Memory` where there is no room.
+/// The settings with these codes behind the others. `BadSettings` where there are more than 256
+/// then or one stands twice, `Memory` where there is no room.
 pub(crate) fn widened(alloc: Global, settings: &Settings, more: &[Code]) -> Result<Settings, Fault>
     ensures ok { IfOk result (λ s. (s ≡ widened settings.now more.now) × IsSettings s) }
     ensures bad { result ≡ Err Fault.BadSettings → ¬ IsSettings (widened settings.now more.now) }

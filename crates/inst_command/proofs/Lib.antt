@@ -1,4 +1,4 @@
-pub mod Widths
-pub mod Latin
-pub mod Telling
-pub mod Fitting
+pub mod ColumnWidths
+pub mod LineTextIsLatin
+pub mod LineTextTellsLine
+pub mod CommandsAndStepsThatFit

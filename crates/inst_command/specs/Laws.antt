@@ -1,5 +1,5 @@
--- The laws of statement lines: each has one length, and its text tells the line, but for spaces at the end of its
--- identifier. They are this hub's own promises.
+-- The laws of statement lines: each has one length, and its text tells the line, but for spaces at
+-- the end of its identifier. They are this hub's own promises.
 use Rattle.std.specs.Prelude.{◌≡◌, ◌<◌, ◌≤◌, ◌^◌, true, IsTrue, length}
 use Rattle.std.specs.List.{list_all}
 use Rattle.inst_base.specs.Text.{is_code, is_identifier}
@@ -29,8 +29,11 @@ pub record IsSameButForSpaces (a b : Line) : Type 0 where
 
 -- every line is as long as the others
 abbrev pub EachLineHas91Characters : Type 0
-EachLineHas91Characters = (s : HubSettings) (line : Line) → IsLineOf s line → length (line_text s line) ≡ 91
+EachLineHas91Characters =
+    (s : HubSettings) (line : Line) → IsLineOf s line → length (line_text s line) ≡ 91
 
 -- two lines with the same text are the same but for spaces
 abbrev pub ATextTellsItsLine : Type 0
-ATextTellsItsLine = (s : HubSettings) (a b : Line) → IsLineOf s a → IsLineOf s b → line_text s a ≡ line_text s b → IsSameButForSpaces a b
+ATextTellsItsLine =
+    (s : HubSettings) (a b : Line) → IsLineOf s a → IsLineOf s b → line_text s a ≡ line_text s b →
+    IsSameButForSpaces a b

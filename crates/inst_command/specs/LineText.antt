@@ -1,6 +1,7 @@
--- The text of a statement line: six columns with a space between, 91 characters in all. The layout is this
--- hub's own choice.
-use Rattle.std.specs.Prelude.{ℕ, ◌-◌, ◌++◌, ◌&&◌, nat_le, Bool, true, false, Option, Some, None, unwrap_or, List, []}
+-- The text of a statement line: six columns with a space between, 91 characters in all. The layout
+-- is this hub's own choice.
+use Rattle.std.specs.Prelude.{ℕ, ◌-◌, ◌++◌, ◌&&◌, nat_le, Bool, true, false, Option, Some, None}
+use Rattle.std.specs.Prelude.{unwrap_or, List, []}
 use Rattle.std.specs.Prelude.{length, replicate, slice_get, codes, decimal}
 use Rattle.inst_settings.specs.Settings.{HubSettings, is_participant}
 use Rattle.inst_command.specs.declared.line.LineKind.{LineKind}

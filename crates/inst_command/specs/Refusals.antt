@@ -1,5 +1,5 @@
--- What becomes of a refusal: the participant is told of it by a reply. That memory was refused is told to nobody, since
--- nothing happened. This hub's own choice.
+-- What becomes of a refusal: the participant is told of it by a reply. That memory was refused is
+-- told to nobody, since nothing happened. This hub's own choice.
 use Rattle.std.specs.Prelude.{Result, Ok, Err, alloc_error}
 use Rattle.std.specs.declared.alloc.AllocError.{AllocError}
 use Rattle.inst_base.specs.declared.fault.Fault.{Fault}

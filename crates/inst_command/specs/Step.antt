@@ -1,4 +1,5 @@
--- Which steps belong to a hub. A step is one event under one participant's lock: this hub's own choice.
+-- Which steps belong to a hub. A step is one event under one participant's lock: this hub's own
+-- choice.
 use Rattle.std.specs.Prelude.{Bool, ◌&&◌}
 use Rattle.inst_settings.specs.Settings.{HubSettings, is_participant}
 use Rattle.inst_command.specs.Ask.{ask_fits}

@@ -8,7 +8,7 @@ use inst_settings::Settings;
 /// A command of a participant, with the clock's reading.
 ///
 /// ```text
-/// let ask = Ask { who: 0, command: Command::Position, at: Moment::new(0, 1_000)? };
+/// let ask = Ask { who: 0, command: Command::Query(Query::Position), at: Moment::new(0, 1_000)? };
 /// ask.fits(&settings) // true where the hub has a participant
 /// ```
 #[derive(Clone, Copy, Debug, PartialEq, Eq)]
@@ -20,8 +20,8 @@ pub struct Ask {
 }
 
 impl Ask {
-    /// Whether the ask is one of a hub with these settings: the asker is a participant, and the command
-    /// fits.
+    /// Whether the ask is one of a hub with these settings: the asker is a participant, and the
+    /// command fits.
     pub fn fits(&self, settings: &Settings) -> bool
         ensures { result ≡ ask_fits settings.now self.now }
     {

@@ -1,17 +1,17 @@
 ghost use Rattle.std.specs.Prelude.{◌≡◌};
 ghost use Rattle.inst_command.specs.Ask.{command_fits};
 
-use crate::{Submission, is_count};
-use inst_base::{Cents, Ident, Reason};
+use crate::{Funding, Query, Submission, is_count};
+use inst_base::{Ident, Reason};
 use inst_settings::Settings;
 
 /// What a participant may ask. Participants are named by their numbers.
 #[derive(Clone, Copy, Debug, PartialEq, Eq)]
 pub enum Command {
     /// Raises the asker's net funding.
-    Fund { reference: Ident, cents: Cents },
+    Fund(Funding),
     /// Lowers the asker's net funding.
-    Defund { reference: Ident, cents: Cents },
+    Defund(Funding),
     /// Submits a transfer to a beneficiary, with the originator's time stamp.
     Submit(Submission),
     /// Confirms a transfer of the originator `from` that was forwarded to the asker.
@@ -22,10 +22,8 @@ pub enum Command {
     Investigate { id: Ident },
     /// Hands out the next unread forwarded transfers, at most `max` of them, 1 to 100.
     Fetch { max: u32 },
-    /// Asks for the position.
-    Position,
-    /// Asks for at most `count` statement lines, 1 to 100, after the first `skip`.
-    Statement { skip: u64, count: u32 },
+    /// Asks for the asker's position or statement.
+    Query(Query),
 }
 
 impl Command {
@@ -35,9 +33,9 @@ impl Command {
         ensures { result ≡ command_fits settings.now self.now }
     {
         match self {
-            Command::Fund { cents, .. } | Command::Defund { cents, .. } => settings.allows(
-                cents.get(),
-            ),
+            Command::Fund(funding) | Command::Defund(funding) => {
+                settings.allows(funding.cents.get())
+            }
             Command::Submit(submission) => {
                 settings.has_participant(submission.to)
                     && settings.allows(submission.cents.get())
@@ -47,8 +45,8 @@ impl Command {
                 settings.has_participant(*from)
             }
             Command::Fetch { max } => is_count(*max),
-            Command::Statement { count, .. } => is_count(*count),
-            Command::Investigate { .. } | Command::Position => true,
+            Command::Query(query) => query.fits(),
+            Command::Investigate { .. } => true,
         }
     }
 }

@@ -11,9 +11,9 @@ use std::alloc::{AllocError, Global};
 use std::fmt::{self, Display, Formatter};
 
 /// A statement line as text, which `Display` writes with no memory of its own: 91 characters in six
-/// columns with a space between. The number, right in 6; the kind, left in 3; the other participant's
-/// code, left in 11, blank for a funding; the identifier or reference, left in 35; the cents, right in
-/// 11; the position after the entry in cents, right in 20.
+/// columns with a space between. The number, right in 6; the kind, left in 3; the other
+/// participant's code, left in 11, blank for a funding; the identifier or reference, left in 35;
+/// the cents, right in 11; the position after the entry in cents, right in 20.
 #[derive(Clone, Copy)]
 pub struct LineText<'a> {
     settings: &'a Settings,

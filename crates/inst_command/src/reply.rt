@@ -41,7 +41,8 @@ pub enum Reply {
     Refused(Fault),
 }
 
-/// What a step is answered: an ask its reply, each other step whether it booked or forwarded anything.
+/// What a step is answered: an ask its reply, each other step whether it booked or forwarded
+/// anything.
 #[derive(Debug, Drop)]
 pub enum Answer {
     Reply(Reply),

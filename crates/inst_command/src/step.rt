@@ -5,7 +5,8 @@ use crate::Ask;
 use inst_base::Moment;
 use inst_settings::Settings;
 
-/// One step of a hub. An index is that of a place: it counts an originator's live submissions, from 0.
+/// One step of a hub. An index is that of a place: it counts an originator's live submissions, from
+/// 0.
 #[derive(Clone, Copy, Debug, PartialEq, Eq)]
 pub enum Step {
     /// A participant asks.

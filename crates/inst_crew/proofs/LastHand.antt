@@ -5,7 +5,7 @@ use Rattle.inst_desk.specs.declared.desk.Desk.{Desk}
 use Rattle.inst_desk.specs.declared.hand.Hand.{Hand}
 use Rattle.inst_desk.specs.Desk.{IsHandOf, AreHandsOf}
 use Rattle.inst_desk.proofs.Hands.{one_more}
-use Rattle.inst_crew.proofs.Pairing.{nothing_at}
+use Rattle.inst_crew.proofs.PairsOfWorkersAndShifts.{nothing_at}
 
 pub at_front : {X : Type 0} (xs ys : List X) (i : ℕ) (x : X) → slice_get xs i ≡ Some x → slice_get (xs ++ ys) i ≡ Some x
 at_front [] ys i x e = absurd (nothing_at i x e)

@@ -1,7 +1,7 @@
-pub mod Seeing
-pub mod Serving
-pub mod Working
-pub mod Pairing
-pub mod Gathered
-pub mod Together
+pub mod StatesSeenByWorker
+pub mod OneMoreServedJob
+pub mod OneMoreTakenJob
+pub mod PairsOfWorkersAndShifts
+pub mod GatheredShifts
+pub mod WorkOfCrew
 pub mod LastHand

@@ -6,7 +6,7 @@ use Rattle.inst_desk.specs.declared.hand.Hand.{Hand}
 use Rattle.inst_desk.specs.Desk.{IsHandOf, IsSameHand, put_of, taken_of}
 use Rattle.inst_hub.specs.declared.hub.Hub.{Hub}
 use Rattle.inst_hub.specs.declared.teller.Teller.{Teller}
-use Rattle.inst_hub.specs.Calls.{IsOf, KnowsMore}
+use Rattle.inst_hub.specs.Calls.{IsTellerOf, KnowsMore}
 
 -- each of these goes with the one at its place there, and there are as many
 abbrev pub Pairs : {X Y : Type 0} → (X → Y → Type 0) → List X → List Y → Type 0
@@ -24,5 +24,5 @@ pub record IsLaterHand (d : Desk) (g h : Hand) : Type 0 where
 
 -- a teller of the hub that knows no less
 pub record IsLaterTeller (hub : Hub) (t u : Teller) : Type 0 where
-  pub of : IsOf hub u
+  pub of : IsTellerOf hub u
   pub knows : KnowsMore t u

@@ -1,7 +1,7 @@
 -- What a crew saw of transfers, which its tellers then know. This hub's own choice.
 use Rattle.std.specs.Prelude.{◌≡◌, ◌≢◌, ℕ, List, slice_get, Some}
 use Rattle.inst_board.specs.declared.about.About.TheVariants.{Opened, Decided}
-use Rattle.inst_board.specs.declared.place.Place.{Place}
+use Rattle.inst_command.specs.declared.place.Place.{Place}
 use Rattle.inst_board.specs.Standing.{about}
 use Rattle.inst_command.specs.declared.outcome.Outcome.{Outcome}
 use Rattle.inst_command.specs.declared.outcome.State.{State}

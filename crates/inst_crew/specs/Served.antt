@@ -1,7 +1,7 @@
--- What a crew's teller did for the jobs that its hand took: each that fits was put to the hub, by its own ask, once and in
--- order. This hub's own choice.
+-- What a crew's teller did for the jobs that its hand took: each that fits was put to the hub, by
+-- its own ask, once and in order. This hub's own choice.
 use Rattle.std.specs.Prelude.{◌≡◌, List, [], ◌∷◌, ◌++◌, map, MatchBool, option_to_list}
-use Rattle.inst_board.specs.declared.place.Place.{Place}
+use Rattle.inst_command.specs.declared.place.Place.{Place}
 use Rattle.inst_command.specs.declared.ask.Ask.{Ask}
 use Rattle.inst_command.specs.declared.outcome.State.{State}
 use Rattle.inst_command.specs.declared.reply.Reply.{Reply}
@@ -18,31 +18,40 @@ use Rattle.std.specs.Prelude.{Option}
 -- call: it was answered, on a history that the teller has seen
 -- knows: afterwards the teller has lost nothing
 -- noted: a state is kept where there is a ticket, for its place
-pub record IsServed (hub : Hub) (ask : Ask) (t u : Teller) (states : List (Place × State)) : Type 0 where
+pub record IsServed (hub : Hub) (ask : Ask) (t u : Teller) (states : List (Place
+    × State)) : Type 0 where
   pub answer : Reply × Option Place
   pub after : Teller
   pub call : Calls hub t ask answer after
   pub knows : KnowsMore after u
   pub noted : map (λ pair. pair.0) states ≡ option_to_list answer.1
 
--- from the teller t to u each of these jobs was served that fits, in order, and nothing was done for the others
+-- from the teller t to u each of these jobs was served that fits, in order, and nothing was done
+-- for the others
 abbrev pub Serves : Hub → List Job → Teller → Teller → List (Place × State) → Type 0
 Serves hub [] t u states = (u ≡ t) × (states ≡ [])
-Serves hub (job ∷ jobs) t u states = (v : Teller) × (first : List (Place × State)) × (rest : List (Place × State)) × (states ≡ first ++ rest)
-    × MatchBool (ask_fits hub.settings job.ask) (IsServed hub job.ask t v first) ((v ≡ t) × (first ≡ [])) × Serves hub jobs v u rest
+Serves hub (job ∷ jobs) t u states =
+    (v : Teller) × (first : List (Place × State)) × (rest : List (Place × State))
+    × (states ≡ first ++ rest)
+    × MatchBool (ask_fits hub.settings job.ask) (IsServed hub job.ask t v first) ((v ≡ t)
+    × (first ≡ [])) × Serves hub jobs v u rest
 
 -- From the hand g to h and the teller t to u
 -- taken, serves: the jobs that the hand took more were served
 -- emptied: then the desk was empty at a moment, by what the hand did until then
-pub record HasServed (hub : Hub) (g h : Hand) (t u : Teller) (states : List (Place × State)) : Type 0 where
+pub record HasServed (hub : Hub) (g h : Hand) (t u : Teller) (states : List (Place
+    × State)) : Type 0 where
   pub jobs : List Job
   pub taken : taken_of h ≡ taken_of g ++ jobs
   pub serves : Serves hub jobs t u states
   pub emptied : WasEmpty h
 
--- each hand has served with the teller at its place, and these are the states that they kept, one after the other
-abbrev pub AreServed : Hub → List Hand → List Hand → List Teller → List Teller → List (Place × State) → Type 0
+-- each hand has served with the teller at its place, and these are the states that they kept, one
+-- after the other
+abbrev pub AreServed : Hub → List Hand → List Hand → List Teller → List Teller →
+    List (Place × State) → Type 0
 AreServed hub [] hands ts us states = states ≡ []
-AreServed hub (g ∷ gs) (h ∷ hs) (t ∷ ts) (u ∷ us) states = (first : List (Place × State)) × (rest : List (Place × State)) × (states ≡ first ++ rest)
+AreServed hub (g ∷ gs) (h ∷ hs) (t ∷ ts) (u ∷ us) states =
+    (first : List (Place × State)) × (rest : List (Place × State)) × (states ≡ first ++ rest)
     × HasServed hub g h t u first × AreServed hub gs hs ts us rest
 AreServed hub (g ∷ gs) hs ts us states = ⊥

@@ -12,7 +12,8 @@ pub(crate) fn gather(
     alloc: Global,
     results: Vec<Result<Shift, AllocError>>,
 ) -> Result<Crew, AllocError>
-    ensures all { IfOk result (λ crew. (shifts : List Shift) × (results.items ≡ map Ok shifts) × IsGathered shifts crew) }
+    ensures all { IfOk result (λ crew. (shifts : List Shift) × (results.items ≡ map Ok shifts)
+        × IsGathered shifts crew) }
 {
     let mut crew = Crew {
         answered: 0,

@@ -1,5 +1,5 @@
-//! Workers over a hub: each thread takes jobs from a desk and puts their asks to the hub until the desk is empty, while
-//! another may sweep a participant.
+//! Workers over a hub: each thread takes jobs from a desk and puts their asks to the hub until the
+//! desk is empty, while another may sweep a participant.
 #![tactic(auto)]
 
 mod crew;

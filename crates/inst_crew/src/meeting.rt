@@ -6,8 +6,8 @@ use std::thread::yield_now;
 /// How often a thread looks for the others before it goes on without them.
 const TURNS: u32 = 1_000_000;
 
-/// Has the sweeper begin once enough jobs are answered, and the workers go on once it begins. Each of them waits for a
-/// bounded time, since one thread may have to do the work of all.
+/// Has the sweeper begin once enough jobs are answered, and the workers go on once it begins. Each
+/// of them waits for a bounded time, since one thread may have to do the work of all.
 #[derive(Drop)]
 pub(crate) struct Meeting {
     /// How many jobs are answered before the sweep.

@@ -1,11 +1,12 @@
 //! A crew, with its threads.
-ghost use Rattle.std.specs.Prelude.{◌≡◌, ◌<◌, ◌+◌, ◌++◌, length, IfOk, IfSome, option_to_list, sum_by};
+ghost use Rattle.std.specs.Prelude.{◌≡◌, ◌<◌, ◌+◌, ◌++◌, length, IfOk, IfSome, option_to_list};
+ghost use Rattle.std.specs.Prelude.{sum_by};
 ghost use Rattle.inst_desk.specs.Desk.{AreHandsOf, parts_of};
 ghost use Rattle.inst_hub.specs.Calls.{AreOf};
 ghost use Rattle.inst_hub.specs.Opening.{parts_of as parts_of_tellers};
 ghost use Rattle.inst_crew.specs.Later.{Pairs, IsLaterHand, IsLaterTeller};
 ghost use Rattle.inst_crew.specs.Crew.{MaySweep, sweeper_of, IsSwept, HasWorked};
-ghost use Rattle.inst_crew.specs.inner.Workers.{IsReady, AreReady, HasEnded, AllWork};
+ghost use Rattle.inst_crew.specs.inner.Workers.{HasHandAndTeller, AreReady, HasEnded, AllWork};
 
 use crate::crew::Crew;
 use crate::gathering::gather;
@@ -36,7 +37,7 @@ fn work_all<R: Threads + Wait + Sync, G: Gate + Sync>(
         rt,
         workers,
         &|worker: Worker| -> Result<Shift, AllocError>
-            requires { IsReady hub.now desk.now worker }
+            requires { HasHandAndTeller hub.now desk.now worker }
             ensures { IfOk result (HasEnded hub.entry.now desk.entry.now worker) }
         { work(rt, alloc, hub, desk, gate, meeting, worker) },
     )
@@ -65,7 +66,8 @@ fn start<R: Threads + Wait + Sync, G: Gate + Sync>(
         rt,
         move || -> Result<Vec<Result<Shift, AllocError>>, AllocError>
             requires { AreReady hub.now desk.now workers.items }
-            ensures all { IfOk result (λ all. AllWork hub.entry.now desk.entry.now workers.items all.items) }
+            ensures all { IfOk result (λ all.
+                AllWork hub.entry.now desk.entry.now workers.items all.items) }
         { work_all(rt, alloc, hub, desk, gate, meeting, workers) },
         move || -> Result<Option<Teller>, AllocError>
             requires { IfSome sweep (MaySweep hub.now) }
@@ -76,7 +78,8 @@ fn start<R: Threads + Wait + Sync, G: Gate + Sync>(
 
 /// The crew with the sweeper's teller behind the others, if there is one.
 fn with_sweeper(crew: Crew, teller: Option<Teller>) -> Result<Crew, AllocError>
-    ensures tellers { IfOk result (λ all. all.tellers.items ≡ crew.tellers.items ++ option_to_list teller) }
+    ensures tellers { IfOk result (λ all.
+        all.tellers.items ≡ crew.tellers.items ++ option_to_list teller) }
     ensures hands { IfOk result (λ all. all.hands.items ≡ crew.hands.items) }
     ensures answered { IfOk result (λ all. all.answered ≡ crew.answered) }
     ensures states { IfOk result (λ all. all.states.items ≡ crew.states.items) }
@@ -88,11 +91,12 @@ fn with_sweeper(crew: Crew, teller: Option<Teller>) -> Result<Crew, AllocError>
     Ok(crew)
 }
 
-/// Starts a thread for each hand, with the teller at its place, and one for the sweep, if there is one, and waits until
-/// all have ended. Each hand takes jobs and puts them to the hub until the desk is empty; a job whose ask doesn't fit
-/// the hub is taken and not put to it. After each answer with a ticket the thread peeks, and keeps what it saw. All
-/// hands and tellers come back, each at its place and the sweeper's last. Where memory is refused they are
-/// gone. Where no thread can be started, its work is done by one that runs.
+/// Starts a thread for each hand, with the teller at its place, and one for the sweep, if there is
+/// one, and waits until all have ended. Each hand takes jobs and puts them to the hub until the
+/// desk is empty; a job whose ask doesn't fit the hub is taken and not put to it. After each answer
+/// with a ticket the thread peeks, and keeps what it saw. All hands and tellers come back, each at
+/// its place and the sweeper's last. Where memory is refused they are gone. Where no thread can be
+/// started, its work is done by one that runs.
 pub fn run_crew<R: Threads + Wait + Sync, G: Gate + Sync>(
     rt: &R,
     alloc: Global,
@@ -108,12 +112,18 @@ pub fn run_crew<R: Threads + Wait + Sync, G: Gate + Sync>(
     requires hands { AreHandsOf desk.now hands.items }
     requires tellers { AreOf hub.now tellers.items }
     requires sweep { IfSome sweep (MaySweep hub.now) }
-    ensures hands { IfOk result (λ crew. Pairs (IsLaterHand desk.now) hands.items crew.hands.items) }
-    ensures tellers { IfOk result (λ crew. Pairs (IsLaterTeller hub.now) (tellers.items ++ sweeper_of sweep) crew.tellers.items) }
-    ensures of { IfOk result (λ crew. AreHandsOf desk.now crew.hands.items × AreOf hub.now crew.tellers.items) }
-    ensures enough { IfOk result (λ crew. (length crew.hands.items ≡ length hands.items) × (length crew.tellers.items ≡ length tellers.items + length (sweeper_of sweep))) }
-    ensures parts { IfOk result (λ crew. (sum_by parts_of crew.hands.items ≡ sum_by parts_of hands.items)
-        × (parts_of_tellers crew.tellers.items ≡ parts_of_tellers (tellers.items ++ sweeper_of sweep))) }
+    ensures hands { IfOk result (λ crew.
+        Pairs (IsLaterHand desk.now) hands.items crew.hands.items) }
+    ensures tellers { IfOk result (λ crew.
+        Pairs (IsLaterTeller hub.now) (tellers.items ++ sweeper_of sweep) crew.tellers.items) }
+    ensures of { IfOk result (λ crew. AreHandsOf desk.now crew.hands.items
+        × AreOf hub.now crew.tellers.items) }
+    ensures enough { IfOk result (λ crew. (length crew.hands.items ≡ length hands.items)
+        × (length crew.tellers.items ≡ length tellers.items + length (sweeper_of sweep))) }
+    ensures parts { IfOk result (λ crew.
+        (sum_by parts_of crew.hands.items ≡ sum_by parts_of hands.items)
+        × (parts_of_tellers crew.tellers.items
+        ≡ parts_of_tellers (tellers.items ++ sweeper_of sweep))) }
     ensures worked { IfOk result (HasWorked hub.now hands.items tellers.items sweep) }
 {
     let workers = workers(alloc, hands, tellers)?;

@@ -1,14 +1,15 @@
 //! What a worker of a crew does.
-ghost use Rattle.std.specs.Prelude.{◌≡◌, ◌+◌, ◌^◌, ◌-◌, ◌∷◌, ◌++◌, min, true, false, [], Ok, IfOk, OnOk};
+ghost use Rattle.std.specs.Prelude.{◌≡◌, ◌+◌, ◌^◌, ◌-◌, ◌∷◌, ◌++◌, min, true, false, [], Ok, IfOk};
+ghost use Rattle.std.specs.Prelude.{OnOk};
 ghost use Rattle.inst_command.specs.Ask.{ask_fits};
 ghost use Rattle.inst_board.specs.declared.about.About.TheVariants.{Opened};
 ghost use Rattle.inst_board.specs.Standing.{about};
 ghost use Rattle.inst_command.specs.declared.outcome.State.{State as SomeState};
 ghost use Rattle.inst_desk.specs.Desk.{IsHandOf, WasEmpty};
-ghost use Rattle.inst_hub.specs.Calls.{IsOf, KnowsMore, knows_of};
+ghost use Rattle.inst_hub.specs.Calls.{IsTellerOf, KnowsMore, knows_of};
 ghost use Rattle.inst_crew.specs.declared.worker.Worker.{Worker};
 ghost use Rattle.inst_crew.specs.inner.Seen.{AreSeen};
-ghost use Rattle.inst_crew.specs.inner.Workers.{IsReady, Works, HasEnded, ServesOne};
+ghost use Rattle.inst_crew.specs.inner.Workers.{HasHandAndTeller, Works, HasEnded, ServesOne};
 
 use crate::meeting::Meeting;
 use crate::worker::Worker;
@@ -50,11 +51,12 @@ impl Shift {
         requires opened { knows_of self.old.teller (about ticket Opened) }
         requires seen { AreSeen self.old.teller self.old.states.items }
         ensures hand { self.new.hand ≡ self.old.hand }
-        ensures of { (hub : Hub) → IsOf hub self.old.teller → IsOf hub self.new.teller }
+        ensures of { (hub : Hub) → IsTellerOf hub self.old.teller → IsTellerOf hub self.new.teller }
         ensures knows { KnowsMore self.old.teller self.new.teller }
         ensures answered { self.new.answered ≡ self.old.answered }
         ensures seen { OnOk result (AreSeen self.new.teller self.new.states.items) }
-        ensures noted { OnOk result ((state : SomeState) × (self.new.states.items ≡ self.old.states.items ++ (ticket, state) ∷ [])) }
+        ensures noted { OnOk result ((state : SomeState)
+            × (self.new.states.items ≡ self.old.states.items ++ (ticket, state) ∷ [])) }
     {
         mention::<Outcome>();
         let state = self.teller.peek(&ticket);
@@ -69,13 +71,14 @@ impl Shift {
         ask: &Ask,
         gate: &G,
     ) -> Result<(), AllocError>
-        requires of { IsOf hub.now self.old.teller }
+        requires of { IsTellerOf hub.now self.old.teller }
         requires fits { ask_fits hub.now.settings ask.now ≡ true }
         requires seen { AreSeen self.old.teller self.old.states.items }
         ensures hand { self.new.hand ≡ self.old.hand }
-        ensures of { IsOf hub.now self.new.teller }
+        ensures of { IsTellerOf hub.now self.new.teller }
         ensures knows { KnowsMore self.old.teller self.new.teller }
-        ensures answered { OnOk result (self.new.answered ≡ min (self.old.answered + 1) (2 ^ 64 - 1)) }
+        ensures answered { OnOk result (self.new.answered
+            ≡ min (self.old.answered + 1) (2 ^ 64 - 1)) }
         ensures seen { OnOk result (AreSeen self.new.teller self.new.states.items) }
         ensures served { OnOk result (ServesOne hub.now ask.now self.old self.new) }
     {
@@ -87,7 +90,8 @@ impl Shift {
         }
     }
 
-    /// Takes a job, if there is one, and puts it to the hub, if its ask fits: whether there was one.
+    /// Takes a job, if there is one, and puts it to the hub, if its ask fits: whether there was
+    /// one.
     fn turn<R: Wait, G: Gate>(
         &mut self,
         rt: &R,
@@ -97,9 +101,10 @@ impl Shift {
         meeting: &Meeting,
     ) -> Result<bool, AllocError>
         requires hand { IsHandOf desk.now self.old.hand }
-        requires teller { IsOf hub.now self.old.teller }
+        requires teller { IsTellerOf hub.now self.old.teller }
         requires seen { AreSeen self.old.teller self.old.states.items }
-        ensures works { OnOk result ((w : Worker) → Works hub.now desk.now w self.old → Works hub.now desk.now w self.new) }
+        ensures works { OnOk result ((w : Worker) → Works hub.now desk.now w self.old →
+            Works hub.now desk.now w self.new) }
         ensures emptied { result ≡ Ok false → WasEmpty self.new.hand }
     {
         let Some(job) = desk.take(rt, &mut self.hand) else {
@@ -114,7 +119,8 @@ impl Shift {
     }
 }
 
-/// Takes jobs and puts them to the hub until the desk is empty. A job whose ask doesn't fit the hub is not put to it.
+/// Takes jobs and puts them to the hub until the desk is empty. A job whose ask doesn't fit the hub
+/// is not put to it.
 pub(crate) fn work<R: Wait, G: Gate>(
     rt: &R,
     alloc: Global,
@@ -124,7 +130,7 @@ pub(crate) fn work<R: Wait, G: Gate>(
     meeting: &Meeting,
     worker: Worker,
 ) -> Result<Shift, AllocError>
-    requires { IsReady hub.now desk.now worker }
+    requires { HasHandAndTeller hub.now desk.now worker }
     ensures { IfOk result (HasEnded hub.now desk.now worker) }
 {
     let mut shift = Shift::begin(alloc, worker);

@@ -8,8 +8,9 @@ use inst_hub::{Hub, Teller};
 use std::alloc::AllocError;
 use std::sync::Wait;
 
-/// One thread more, which sweeps the participant `who` once at this reading. It begins when `after` jobs are answered,
-/// and the workers begin their next jobs together with it. If so many are never answered, it sweeps after a while.
+/// One thread more, which sweeps the participant `who` once at this reading. It begins when `after`
+/// jobs are answered, and the workers begin their next jobs together with it. If so many are never
+/// answered, it sweeps after a while.
 #[derive(Drop)]
 pub struct Sweep {
     pub teller: Teller,

@@ -1,4 +1,4 @@
-pub mod Lists
-pub mod Steps
-pub mod Whole
+pub mod ListsOfAccounts
+pub mod StepsKeepDeskRule
+pub mod HandWithAllParts
 pub mod Hands

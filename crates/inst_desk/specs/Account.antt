@@ -1,12 +1,12 @@
--- What a hand did at its desk, and what that says of the jobs that lie there. Jobs, hands and their parts of a desk are this
--- hub's own choice.
+-- What a hand did at its desk, and what that says of the jobs that lie there. Jobs, hands and their
+-- parts of a desk are this hub's own choice.
 use Rattle.std.specs.Prelude.{◌≡◌, ℕ, ◌-◌, ◌^◌, min, List, [], ◌∷◌, ◌++◌, length, sum_by}
 use Rattle.inst_desk.specs.declared.account.Account.{Account}
 use Rattle.inst_desk.specs.declared.job.Job.{Job}
 use Rattle.inst_desk.specs.declared.desk.opening.TheConstants.{MOST_HANDS}
 
--- The two lists have the same jobs, each as often, in any order: they weigh the same, however jobs are weighed. By a weight
--- that is 1 for one job and 0 for all others this counts that job.
+-- The two lists have the same jobs, each as often, in any order: they weigh the same, however jobs
+-- are weighed. By a weight that is 1 for one job and 0 for all others this counts that job.
 abbrev pub EachAsOften : List Job → List Job → Type 0
 EachAsOften xs ys = (weight : Job → ℕ) → sum_by weight xs ≡ sum_by weight ys
 

@@ -8,7 +8,8 @@ mod using;
 use crate::job::Job;
 use crate::rule::Queue;
 
-/// A desk with room for a fixed number of jobs, which threads share by reference, each with a hand of its own.
+/// A desk with room for a fixed number of jobs, which threads share by reference, each with a hand
+/// of its own.
 ///
 /// ```text
 /// let (desk, mut hands) = Desk::open(alloc, 2, 1)?;

@@ -4,8 +4,8 @@ ghost use Rattle.inst_desk.specs.Account.{counted};
 
 use crate::rule::Seat;
 
-/// Who puts jobs on a desk and takes them, one in each thread. Contracts see of it the jobs that it put and those that
-/// it took.
+/// Who puts jobs on a desk and takes them, one in each thread. Contracts see of it the jobs that it
+/// put and those that it took.
 #[derive(Drop)]
 pub struct Hand {
     pub(crate) seat: Seat,

@@ -1,5 +1,5 @@
-//! A desk where jobs for a hub wait until a hand takes them: many threads use it at once, each with a hand of its own,
-//! and no job is lost or taken twice.
+//! A desk where jobs for a hub wait until a hand takes them: many threads use it at once, each with
+//! a hand of its own, and no job is lost or taken twice.
 #![tactic(auto)]
 
 mod account;

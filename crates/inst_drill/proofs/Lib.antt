@@ -1,6 +1,6 @@
-pub mod Ends
-pub mod Naming
-pub mod Counted
-pub mod Seen
-pub mod Staffed
-pub mod Drilled
+pub mod TransferEnds
+pub mod IdentifierOfNumber
+pub mod CountOfOpenings
+pub mod SeenStatesAreInBooks
+pub mod StaffOfOpening
+pub mod DrilledOpenings

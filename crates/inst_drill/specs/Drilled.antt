@@ -1,6 +1,8 @@
--- What a drill has done: openings of one hub, each from the books of the one before. Each opening's books are those of a run
--- of the hub in one thread, so all that is proved of runs holds of what the threads did. Drills are this hub's own choice.
-use Rattle.std.specs.Prelude.{◌≡◌, ◌⊎◌, ℕ, ◌<◌, List, [], ◌∷◌, Option, Some, None, length, map, slice_get}
+-- What a drill has done: openings of one hub, each from the books of the one before. Each opening's
+-- books are those of a run of the hub in one thread, so all that is proved of runs holds of what
+-- the threads did. Drills are this hub's own choice.
+use Rattle.std.specs.Prelude.{◌≡◌, ◌⊎◌, ℕ, ◌<◌, List, [], ◌∷◌, Option, Some, None, length, map}
+use Rattle.std.specs.Prelude.{slice_get}
 use Rattle.std.specs.Io.KnownBytes.{Appends}
 use Rattle.inst_base.specs.declared.fault.Fault.TheVariants.{BadSettings, Memory, WriteFault}
 use Rattle.inst_settings.specs.Settings.{HubSettings}
@@ -24,9 +26,11 @@ pub record DrillOpening : Type 0 where
   pub report : Report
 
 abbrev pub drill_opening : Opening → ClosedHub → List Step → Report → DrillOpening
-drill_opening from closed steps report = record { from = from; closed = closed; steps = steps; report = report }
+drill_opening from closed steps report =
+    record { from = from; closed = closed; steps = steps; report = report }
 
--- explained: a hub in one thread that runs the steps leaves the same books, and that run keeps the headline
+-- explained: a hub in one thread that runs the steps leaves the same books, and that run keeps the
+-- headline
 pub record IsDrilled (s : HubSettings) (x : DrillOpening) : Type 0 where
   pub settings : x.closed.settings ≡ s
   pub opened : HaveOpened x.from x.closed
@@ -41,7 +45,8 @@ opening_after O (x ∷ xs) = opening_after (FromBooks (histories x.closed.books)
 -- each opening is from the books of the one before, and the first is from `O`
 abbrev pub AreDrilled : HubSettings → Opening → List DrillOpening → Type 0
 AreDrilled s O [] = Unit {0}
-AreDrilled s O (x ∷ xs) = (x.from ≡ O) × IsDrilled s x × AreDrilled s (FromBooks (histories x.closed.books)) xs
+AreDrilled s O (x ∷ xs) =
+    (x.from ≡ O) × IsDrilled s x × AreDrilled s (FromBooks (histories x.closed.books)) xs
 
 -- the last of the openings
 abbrev pub last_of : List DrillOpening → Option DrillOpening
@@ -50,33 +55,37 @@ last_of (x ∷ []) = Some x
 last_of (x ∷ y ∷ xs) = last_of (y ∷ xs)
 
 -- the last opening left these books, and these steps explain those of the first
-pub record IsLeft (done : List DrillOpening) (books : ClosedHub) (steps : List Step) : Type 0 where
-  pub last : DrillOpening
-  pub is_last : last_of done ≡ Some last
-  pub books_are : last.closed ≡ books
-  pub first : DrillOpening
-  pub is_first : slice_get done 0 ≡ Some first
-  pub steps_are : first.steps ≡ steps
+pub record IsLastBooks (done : List DrillOpening) (books : ClosedHub) (steps : List Step) : Type 0
+  where
+    pub last : DrillOpening
+    pub is_last : last_of done ≡ Some last
+    pub books_are : last.closed ≡ books
+    pub first : DrillOpening
+    pub is_first : slice_get done 0 ≡ Some first
+    pub steps_are : first.steps ≡ steps
 
 -- what is written of openings
 abbrev pub openings_text : List DrillOpening → List ℕ
 openings_text done = reports_text (map (λ x. x.report) done)
 
--- so many openings were drilled, the first one with nothing, this is what they left, and the reports were written
-pub record HasDrilledAll (s : HubSettings) (openings : ℕ) (held held' : Option (List ℕ)) (left : DrillResult) : Type 0 where
+-- so many openings were drilled, the first one with nothing, this is what they left, and the
+-- reports were written
+pub record HasDrilledAll (s : HubSettings) (openings : ℕ) (held held' : Option (List ℕ))
+    (left : DrillResult) : Type 0 where
   pub done : List DrillOpening
   pub counted : length done ≡ openings
   pub drilled : AreDrilled s First done
   pub settings : left.books.settings ≡ s
-  pub left_is : IsLeft done left.books left.steps.items
+  pub left_is : IsLastBooks done left.books left.steps.items
   pub written : Appends held held' (openings_text done)
 
 -- fewer openings were drilled, and their reports were written
-pub record HasDrilledFewer (s : HubSettings) (openings : ℕ) (held held' : Option (List ℕ)) : Type 0 where
-  pub done : List DrillOpening
-  pub fewer : length done < openings
-  pub drilled : AreDrilled s First done
-  pub written : Appends held held' (openings_text done)
+pub record HasDrilledFewer (s : HubSettings) (openings : ℕ) (held held' : Option (List ℕ)) : Type 0
+  where
+    pub done : List DrillOpening
+    pub fewer : length done < openings
+    pub drilled : AreDrilled s First done
+    pub written : Appends held held' (openings_text done)
 
 -- the errors that end a drill
 abbrev pub EndsADrill : DrillError → Type 0

@@ -1,4 +1,5 @@
--- What a drill reports of an opening, by the books that the opening left. That it reports this is this hub's own choice.
+-- What a drill reports of an opening, by the books that the opening left. That it reports this is
+-- this hub's own choice.
 use Rattle.std.specs.Prelude.{◌≡◌, ◌+◌, ℕ, pos, Bool, true, false, List, [], ◌∷◌, ◌++◌, codes}
 use Rattle.std.specs.Fmt.{decimal}
 use Rattle.std.specs.List.{count_by}
@@ -29,8 +30,9 @@ books_end outcome _ = false
 abbrev pub ended : Outcome → List Event → ℕ
 ended outcome J = count_by (books_end outcome) (current J)
 
--- The report is that of these books: they have each outcome that a thread saw, their positions sum to the net funding, and
--- participant 0, whose transfers these are, has booked so many of them accepted and so many timed out
+-- The report is that of these books: they have each outcome that a thread saw, their positions sum
+-- to the net funding, and participant 0, whose transfers these are, has booked so many of them
+-- accepted and so many timed out
 pub record IsReportOf (closed : ClosedHub) (report : Report) : Type 0 where
   pub disagree : report.disagree ≡ 0
   pub sum : report.sum ≡ total closed.settings (λ p. position (histories closed.books p))
@@ -42,10 +44,12 @@ pub record IsReportOf (closed : ClosedHub) (report : Report) : Type 0 where
 
 -- the four lines of an opening
 abbrev pub calls_text : Report → List ℕ
-calls_text r = codes "jobs " ++ decimal r.jobs ++ codes " answered " ++ decimal r.answered ++ 10 ∷ []
+calls_text r =
+    codes "jobs " ++ decimal r.jobs ++ codes " answered " ++ decimal r.answered ++ 10 ∷ []
 
 abbrev pub outcomes_text : Report → List ℕ
-outcomes_text r = codes "decided " ++ decimal r.decided ++ 10 ∷ codes "disagree " ++ decimal r.disagree ++ 10 ∷ []
+outcomes_text r =
+    codes "decided " ++ decimal r.decided ++ 10 ∷ codes "disagree " ++ decimal r.disagree ++ 10 ∷ []
 
 abbrev pub money_text : Report → List ℕ
 money_text r = codes "net " ++ decimal r.net ++ codes " sum " ++ decimal r.sum ++ 10 ∷ []
@@ -55,7 +59,8 @@ report_text r = calls_text r ++ outcomes_text r ++ money_text r
 
 -- the line of how the transfers of an opening ended
 abbrev pub ends_text : Report → List ℕ
-ends_text r = codes "accepted " ++ decimal r.accepted ++ codes " timed_out " ++ decimal r.timed_out ++ 10 ∷ []
+ends_text r =
+    codes "accepted " ++ decimal r.accepted ++ codes " timed_out " ++ decimal r.timed_out ++ 10 ∷ []
 
 -- the four lines of all openings
 abbrev pub reports_text : List Report → List ℕ

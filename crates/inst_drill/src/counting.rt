@@ -56,7 +56,8 @@ fn counted_after(event: &Event, accepted: u64, timed_out: u64) -> (u64, u64)
     (accepted, timed_out)
 }
 
-/// Returns how many transfers these events book accepted since the last opening, and how many timed out.
+/// Returns how many transfers these events book accepted since the last opening, and how many timed
+/// out.
 pub(crate) fn ends(events: &[Event]) -> (u64, u64)
     ensures accepted { result.0 ≡ ended Accepted events.now }
     ensures timed_out { result.1 ≡ ended TimedOut events.now }

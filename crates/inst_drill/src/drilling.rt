@@ -1,5 +1,6 @@
 //! All openings of a drill, one after the other.
-ghost use Rattle.std.specs.Prelude.{◌≡◌, ◌≢◌, ◌⊎◌, ◌↔◌, ◌≤◌, ℕ, length, OnOk, IfOk, IfErr, IsOkUnless, Err};
+ghost use Rattle.std.specs.Prelude.{◌≡◌, ◌≢◌, ◌⊎◌, ◌↔◌, ◌≤◌, ℕ, length, OnOk, IfOk, IfErr};
+ghost use Rattle.std.specs.Prelude.{IsOkUnless, Err};
 ghost use Rattle.std.specs.Io.KnownBytes.{Appends};
 ghost use Rattle.inst_hub.specs.Calls.{AreOf};
 ghost use Rattle.inst_hub.specs.Opening.{HaveAllParts};
@@ -26,7 +27,8 @@ use std::io::Write;
 use std::sync::Wait;
 use std::thread::Threads;
 
-/// The hub of the next opening from these books, or of the first one where there are none. `Memory` is the only fault.
+/// The hub of the next opening from these books, or of the first one where there are none. `Memory`
+/// is the only fault.
 fn open(
     alloc: Global,
     settings: &Settings,
@@ -51,7 +53,8 @@ fn open(
 
 /// Writes what was done in an opening.
 fn tell<W: Write>(alloc: Global, report: &Report, writer: &mut W) -> Result<(), Fault>
-    ensures ok { OnOk result (Appends (W.contents writer.old) (W.contents writer.new) (report_text report.now)) }
+    ensures ok { OnOk result
+        (Appends (W.contents writer.old) (W.contents writer.new) (report_text report.now)) }
     ensures only { IfErr result (λ e. (e ≡ Fault.Memory) ⊎ (e ≡ Fault.WriteFault)) }
     ensures none { result ≡ Err Fault.Memory → writer.new ≡ writer.old }
 {
@@ -64,7 +67,8 @@ fn tell<W: Write>(alloc: Global, report: &Report, writer: &mut W) -> Result<(), 
 
 /// Writes how the transfers of an opening ended.
 fn tell_ends<P: Write>(alloc: Global, report: &Report, progress: &mut P) -> Result<(), Fault>
-    ensures { OnOk result (Appends (P.contents progress.old) (P.contents progress.new) (ends_text report.now)) }
+    ensures { OnOk result
+        (Appends (P.contents progress.old) (P.contents progress.new) (ends_text report.now)) }
 {
     let text = report.ends(alloc)?;
     progress
@@ -80,19 +84,22 @@ fn if_first(opening: u8, steps: Vec<Step>, before: Vec<Step>) -> Vec<Step>
     if opening == 1 { steps } else { before }
 }
 
-/// Opens a hub so often, 1 to 10 times, the first time with nothing and then from the books of the opening before. In
-/// each opening participant 0 is funded and submits so many transfers of 100 cents to participant 1 by two threads. Two
-/// threads confirm them at the last moment in time; when half of them are confirmed, a third one begins to sweep at
-/// their deadline beside them, so that the others are accepted or time out as the threads race. Then the hub is closed,
-/// and steps of a hub in one thread are rebuilt that leave the same books. `writer` gets the four lines of a `Report`,
-/// and `progress` the line `accepted A timed_out T`. If `is_watched`, `progress` gets a line also as an opening begins;
-/// what it doesn't take is lost. Returns the books of the last opening, and the steps of the first one.
+/// Opens a hub so often, 1 to 10 times, the first time with nothing and then from the books of the
+/// opening before. In each opening participant 0 is funded and submits so many transfers of 100
+/// cents to participant 1 by two threads. Two threads confirm them at the last moment in time; when
+/// half of them are confirmed, a third one begins to sweep at their deadline beside them, so that
+/// the others are accepted or time out as the threads race. Then the hub is closed, and steps of a
+/// hub in one thread are rebuilt that leave the same books. `writer` gets the four lines of a
+/// `Report`, and `progress` the line `accepted A timed_out T`. If `is_watched`, `progress` gets a
+/// line also as an opening begins; what it doesn't take is lost. Returns the books of the last
+/// opening, and the steps of the first one.
 ///
 /// # Errors
 ///
-/// `BadSettings` if there are fewer than two participants, no transfer or more of them than places, more cents than the
-/// ceiling, or openings that are not 1 to 10. `Memory` if an allocation fails, and `NoInterleaving` if no such steps are
-/// found: `writer` then has the lines of the openings before. `WriteFault` if `writer` fails.
+/// `BadSettings` if there are fewer than two participants, no transfer or more of them than places,
+/// more cents than the ceiling, or openings that are not 1 to 10. `Memory` if an allocation fails,
+/// and `NoInterleaving` if no such steps are found: `writer` then has the lines of the openings
+/// before. `WriteFault` if `writer` fails.
 pub fn drill<R: Threads + Wait + Sync, G: Gate + Sync, W: Write, P: Write>(
     rt: &R,
     alloc: Global,
@@ -104,11 +111,15 @@ pub fn drill<R: Threads + Wait + Sync, G: Gate + Sync, W: Write, P: Write>(
     progress: &mut P,
     is_watched: bool,
 ) -> Result<DrillResult, DrillError>
-    ensures bad { (result ≡ Err (DrillError.Fault Fault.BadSettings)) ↔ ¬ MayDrill settings transfers openings }
-    ensures ok { IfOk result (HasDrilledAll settings openings (W.contents writer.old) (W.contents writer.new)) }
+    ensures bad { (result ≡ Err (DrillError.Fault Fault.BadSettings)) ↔
+        ¬ MayDrill settings transfers openings }
+    ensures ok { IfOk result
+        (HasDrilledAll settings openings (W.contents writer.old) (W.contents writer.new)) }
     ensures only { IfErr result EndsADrill }
-    ensures untouched { result ≡ Err (DrillError.Fault Fault.BadSettings) → writer.new ≡ writer.old }
-    ensures fewer { (result ≡ Err (DrillError.Fault Fault.Memory)) ⊎ (result ≡ Err DrillError.NoInterleaving)
+    ensures untouched { result ≡ Err (DrillError.Fault Fault.BadSettings) →
+        writer.new ≡ writer.old }
+    ensures fewer { (result ≡ Err (DrillError.Fault Fault.Memory))
+        ⊎ (result ≡ Err DrillError.NoInterleaving)
         → HasDrilledFewer settings openings (W.contents writer.old) (W.contents writer.new) }
 {
     let plan = Plan::of(&settings, transfers, openings)?;

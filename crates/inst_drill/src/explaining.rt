@@ -13,18 +13,22 @@ use std::alloc::{AllocError, Global};
 pub struct DrillResult {
     /// The books of its last opening.
     pub books: Books,
-    /// Steps of a hub in one thread that opens for the first time, which leave the books of the first opening.
+    /// Steps of a hub in one thread that opens for the first time, which leave the books of the
+    /// first opening.
     pub steps: Vec<Step>,
 }
 
-/// Returns steps of a hub in one thread, opened from the books `before` or for the first time, that leave these books, if
-/// some are found.
+/// Returns steps of a hub in one thread, opened from the books `before` or for the first time, that
+/// leave these books, if some are found.
 pub(crate) fn explain(
     alloc: Global,
     books: &Books,
     before: &Option<Books>,
 ) -> Result<Option<Vec<Step>>, AllocError>
-    ensures { IfOk result (λ found. IfSome found (λ steps. Explains books.now.settings (opening_of before.now) steps.items (histories books.now.books))) }
+    ensures { IfOk result (λ found.
+        IfSome found (λ steps.
+        Explains books.now.settings (opening_of before.now) steps.items
+        (histories books.now.books))) }
 {
     match before {
         Some(before) => books.interleaving_from(alloc, before),

@@ -24,7 +24,8 @@ impl Phase {
     }
 }
 
-/// Puts a job for each transfer of this opening, the first of which is 1. The desk has room for them.
+/// Puts a job for each transfer of this opening, the first of which is 1. The desk has room for
+/// them.
 pub(crate) fn feed<R: Wait>(
     rt: &R,
     alloc: Global,

@@ -37,7 +37,8 @@ struct Worked {
     confirmed: Vec<(Ticket, State)>,
 }
 
-/// Participant 0 is funded and submits, participant 1 confirms beside the sweeper, and both are swept.
+/// Participant 0 is funded and submits, participant 1 confirms beside the sweeper, and both are
+/// swept.
 fn work<R: Threads + Wait + Sync, G: Gate + Sync>(
     rt: &R,
     alloc: Global,
@@ -52,8 +53,10 @@ fn work<R: Threads + Wait + Sync, G: Gate + Sync>(
     requires plan { IsPlan hub.now.settings plan.now }
     ensures of { IfOk result (λ worked. AreOf hub.now worked.tellers.items) }
     ensures parts { IfOk result (λ worked. HaveAllParts worked.tellers.items) }
-    ensures submitted { IfOk result (λ worked. AreSeenByOne worked.tellers.items worked.submitted.items) }
-    ensures confirmed { IfOk result (λ worked. AreSeenByOne worked.tellers.items worked.confirmed.items) }
+    ensures submitted { IfOk result (λ worked.
+        AreSeenByOne worked.tellers.items worked.submitted.items) }
+    ensures confirmed { IfOk result (λ worked.
+        AreSeenByOne worked.tellers.items worked.confirmed.items) }
     ensures only { IsOkUnless result Fault.Memory }
 {
     let (desk, hands) = Desk::open(alloc, plan.transfers, STAFF)?;
@@ -75,11 +78,13 @@ fn work<R: Threads + Wait + Sync, G: Gate + Sync>(
     })
 }
 
-/// Runs an opening of a hub that was opened from the books `before`, and returns its report and what it leaves.
+/// Runs an opening of a hub that was opened from the books `before`, and returns its report and
+/// what it leaves.
 ///
 /// # Errors
 ///
-/// `Memory`, and `NoInterleaving` if no run of the hub in one thread is found that leaves these books.
+/// `Memory`, and `NoInterleaving` if no run of the hub in one thread is found that leaves these
+/// books.
 pub(crate) fn run_opening<R: Threads + Wait + Sync, G: Gate + Sync>(
     rt: &R,
     alloc: Global,
@@ -94,8 +99,11 @@ pub(crate) fn run_opening<R: Threads + Wait + Sync, G: Gate + Sync>(
     requires parts { HaveAllParts tellers.items }
     requires opened { IsOpenedSo (opening_of before.now) hub }
     requires plan { IsPlan hub.settings plan.now }
-    ensures drilled { IfOk result (λ r. IsDrilled hub.settings (drill_opening (opening_of before.now) r.1.books r.1.steps.items r.0)) }
-    ensures only { IfErr result (λ e. (e ≡ DrillError.Fault Fault.Memory) ⊎ (e ≡ DrillError.NoInterleaving)) }
+    ensures drilled { IfOk result (λ r.
+        IsDrilled hub.settings
+        (drill_opening (opening_of before.now) r.1.books r.1.steps.items r.0)) }
+    ensures only { IfErr result (λ e. (e ≡ DrillError.Fault Fault.Memory)
+        ⊎ (e ≡ DrillError.NoInterleaving)) }
 {
     let Worked {
         tellers,

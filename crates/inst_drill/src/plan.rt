@@ -1,4 +1,5 @@
-//! What a drill asks of a hub: participant 0 is funded and submits transfers to participant 1, which confirms them.
+//! What a drill asks of a hub: participant 0 is funded and submits transfers to participant 1,
+//! which confirms them.
 ghost use Rattle.std.specs.Prelude.{◌≡◌, ◌≤◌, ◌++◌, true, length, IfOk, IsOkUnless, Err};
 ghost use Rattle.std.specs.List.{list_all};
 ghost use Rattle.std.specs.Fmt.{decimal};
@@ -11,7 +12,7 @@ ghost use Rattle.inst_drill.specs.Plan.{MayDrill};
 ghost use Rattle.inst_drill.specs.inner.Plan.{IsPlan, IsSweepOf, submission_of, confirmation_of};
 
 use inst_base::{Cents, Fault, Ident, Moment};
-use inst_command::{Ask, Command, Submission};
+use inst_command::{Ask, Command, Funding, Submission};
 use inst_crew::Sweep;
 use inst_hub::Teller;
 use inst_settings::Settings;
@@ -70,7 +71,8 @@ fn name(alloc: Global, letter: &str, number: u32) -> Result<Ident, AllocError>
 }
 
 impl Plan {
-    /// The plan of so many transfers in each of so many openings. `BadSettings` where a hub of these settings can't do it.
+    /// The plan of so many transfers in each of so many openings. `BadSettings` where a hub of
+    /// these settings can't do it.
     pub(crate) fn of(settings: &Settings, transfers: u16, openings: u8) -> Result<Plan, Fault>
         ensures ok { IfOk result (λ plan. IsPlan settings.now plan × (plan.transfers ≡ transfers)) }
         ensures may { IfOk result (λ plan. MayDrill settings.now transfers openings) }
@@ -99,12 +101,13 @@ impl Plan {
 
     /// Participant 0 funds its position for all transfers of this opening.
     pub(crate) fn funding(&self, alloc: Global, opening: u8) -> Result<Ask, AllocError>
-        ensures { IfOk result (λ ask. (s : HubSettings) → IsPlan s self.now → ask_fits s ask ≡ true) }
+        ensures { IfOk result (λ ask. (s : HubSettings) → IsPlan s self.now →
+            ask_fits s ask ≡ true) }
     {
-        let command = Command::Fund {
+        let command = Command::Fund(Funding {
             reference: name(alloc, "F", u32::from(opening))?,
             cents: self.funding,
-        };
+        });
         Ok(Ask {
             who: 0,
             command,

@@ -1,5 +1,6 @@
 ghost use Rattle.std.specs.Prelude.{◌≡◌, IfOk, string_bytes};
-ghost use Rattle.inst_drill.specs.Report.{calls_text, outcomes_text, money_text, report_text, ends_text};
+ghost use Rattle.inst_drill.specs.Report.{calls_text, outcomes_text, money_text, report_text};
+ghost use Rattle.inst_drill.specs.Report.{ends_text};
 
 use std::alloc::{AllocError, Global};
 

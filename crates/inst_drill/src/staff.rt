@@ -1,4 +1,5 @@
-//! Who works in an opening: two hands with a teller each, one hand that puts the jobs, and one teller that sweeps.
+//! Who works in an opening: two hands with a teller each, one hand that puts the jobs, and one
+//! teller that sweeps.
 ghost use Rattle.std.specs.Prelude.{◌≡◌, length, IfOk, OnOk};
 ghost use Rattle.inst_desk.specs.Desk.{AreAllHandsOf};
 ghost use Rattle.inst_hub.specs.Calls.{AreOf};
@@ -79,7 +80,8 @@ impl Staff {
     ) -> Result<(), AllocError>
         requires staff { (desk : Desk) × IsStaffOf hub.now desk self.old }
         requires plan { IsPlan hub.now.settings plan.now }
-        ensures staff { (desk : Desk) → IsStaffOf hub.now desk self.old → IsStaffOf hub.now desk self.new }
+        ensures staff { (desk : Desk) → IsStaffOf hub.now desk self.old →
+            IsStaffOf hub.now desk self.new }
     {
         let ask = plan.funding(alloc, opening)?;
         hub.call(rt, &mut self.sweeper, &ask)?;
@@ -99,7 +101,8 @@ impl Staff {
     ) -> Result<Work, AllocError>
         requires { IsStaffOf hub.now desk.now self }
         ensures staff { IfOk result (λ work. IsStaffOf hub.now desk.now work.staff) }
-        ensures states { IfOk result (λ work. AreSeenByOne (tellers_of work.staff) work.states.items) }
+        ensures states { IfOk result (λ work.
+            AreSeenByOne (tellers_of work.staff) work.states.items) }
     {
         let Staff {
             mut feeder,
@@ -129,8 +132,8 @@ impl Staff {
         })
     }
 
-    /// All of them are confirmed by two threads. When half of them are, a third one sweeps participant 0 at their
-    /// deadline, and the others go on together with it.
+    /// All of them are confirmed by two threads. When half of them are, a third one sweeps
+    /// participant 0 at their deadline, and the others go on together with it.
     pub(crate) fn confirm<R: Threads + Wait + Sync, G: Gate + Sync>(
         self,
         rt: &R,
@@ -144,8 +147,10 @@ impl Staff {
         requires staff { IsStaffOf hub.now desk.now self }
         requires plan { IsPlan hub.now.settings plan.now }
         ensures staff { IfOk result (λ work. IsStaffOf hub.now desk.now work.staff) }
-        ensures later { IfOk result (λ work. Pairs (IsLaterTeller hub.now) (tellers_of self) (tellers_of work.staff)) }
-        ensures states { IfOk result (λ work. AreSeenByOne (tellers_of work.staff) work.states.items) }
+        ensures later { IfOk result (λ work.
+            Pairs (IsLaterTeller hub.now) (tellers_of self) (tellers_of work.staff)) }
+        ensures states { IfOk result (λ work.
+            AreSeenByOne (tellers_of work.staff) work.states.items) }
     {
         let Staff {
             mut feeder,
@@ -189,8 +194,10 @@ impl Staff {
     ) -> Result<(), AllocError>
         requires staff { (desk : Desk) × IsStaffOf hub.now desk self.old }
         requires plan { IsPlan hub.now.settings plan.now }
-        ensures staff { (desk : Desk) → IsStaffOf hub.now desk self.old → IsStaffOf hub.now desk self.new }
-        ensures later { OnOk result (Pairs (IsLaterTeller hub.now) (tellers_of self.old) (tellers_of self.new)) }
+        ensures staff { (desk : Desk) → IsStaffOf hub.now desk self.old →
+            IsStaffOf hub.now desk self.new }
+        ensures later { OnOk result
+            (Pairs (IsLaterTeller hub.now) (tellers_of self.old) (tellers_of self.new)) }
     {
         hub.sweep(rt, &mut self.sweeper, 0, plan.deadline)?;
         hub.sweep(rt, &mut self.sweeper, 1, plan.deadline)?;
@@ -199,7 +206,8 @@ impl Staff {
 
     /// All hands of the desk, and all tellers of the hub.
     pub(crate) fn dismiss(self) -> Result<(Vec<Hand>, Vec<Teller>), AllocError>
-        ensures hands { IfOk result (λ r. (hub : Hub) (desk : Desk) → IsStaffOf hub desk self → AreAllHandsOf desk r.0.items) }
+        ensures hands { IfOk result (λ r. (hub : Hub) (desk : Desk) → IsStaffOf hub desk self →
+            AreAllHandsOf desk r.0.items) }
         ensures tellers { IfOk result (λ r. r.1.items ≡ tellers_of self) }
     {
         let Staff {

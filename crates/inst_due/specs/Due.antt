@@ -1,7 +1,8 @@
--- The order in which an originator's transfers are due: a set of pairs of a deadline and the index of a place, which
--- contracts see as the list of its pairs in order. By deadline, as time limits end (EPC004-16, chapter 4: time-out
--- deadline); of one deadline by place: this hub's own choice.
-use Rattle.std.specs.Prelude.{◌≡◌, ℕ, Bool, true, false, ◌&&◌, ◌||◌, not, nat_eq, nat_lt, List, Option, Some, None}
+-- The order in which an originator's transfers are due: a set of pairs of a deadline and the index
+-- of a place, which contracts see as the list of its pairs in order. By deadline, as time limits
+-- end (EPC004-16, chapter 4: time-out deadline); of one deadline by place: this hub's own choice.
+use Rattle.std.specs.Prelude.{◌≡◌, ℕ, Bool, true, false, ◌&&◌, ◌||◌, not, nat_eq, nat_lt, List}
+use Rattle.std.specs.Prelude.{Option, Some, None}
 use Rattle.std.specs.List.{list_any}
 
 -- whether the pair is of this deadline and this place
@@ -35,7 +36,8 @@ TakesOut before after deadline index =
 pub record IsFirst (pairs : List (ℕ × ℕ)) (passes : ℕ × ℕ → Bool) (first : ℕ × ℕ) : Type 0 where
   pub there : has pairs first.0 first.1 ≡ true
   pub passing : passes first ≡ true
-  pub least : (d k : ℕ) → has pairs d k ≡ true → passes (d, k) ≡ true → comes_before (d, k) first ≡ false
+  pub least : (d k : ℕ) → has pairs d k ≡ true → passes (d, k) ≡ true →
+      comes_before (d, k) first ≡ false
 
 -- the first pair of the set that passes, or that there is none
 abbrev pub IsLeast : List (ℕ × ℕ) → (ℕ × ℕ → Bool) → Option (ℕ × ℕ) → Type 0

@@ -13,8 +13,9 @@ use std::collections::VecDeque;
 use std::marker::Model;
 
 /// The unbooked transfers of an originator in the order in which they are due: a set of pairs of a
-/// deadline and the index of a place, by deadline and, where that is the same, by index. They stand in
-/// a row, for deadlines come nearly in order: most pairs join at its end and leave from one of its ends.
+/// deadline and the index of a place, by deadline and, where that is the same, by index. They stand
+/// in a row, for deadlines come nearly in order: most pairs join at its end and leave from one of
+/// its ends.
 ///
 /// ```text
 /// let mut due = Due::new(alloc);
@@ -49,9 +50,10 @@ impl Due {
         }
     }
 
-    /// Adds the pair. Where memory is refused the set stays as it was. A pair that is there takes no
-    /// memory. The search costs the logarithm of the number of pairs, and those on the shorter side of
-    /// the pair move: none at either end. Where there is no room for one more, all may move.
+    /// Adds the pair. Where memory is refused the set stays as it was. A pair that is there takes
+    /// no memory. The search costs the logarithm of the number of pairs, and those on the shorter
+    /// side of the pair move: none at either end. Where there is no room for one more, all may
+    /// move.
     pub fn add(&mut self, deadline: Moment, index: u16) -> Result<(), AllocError>
         ensures ok { OnOk result (Adds self.old self.new deadline index) }
         ensures present { has self.old deadline index ≡ true → self.new ≡ self.old }
@@ -65,8 +67,8 @@ impl Due {
         Ok(())
     }
 
-    /// Takes the pair out, and says whether it was there. The search costs the logarithm of the number
-    /// of pairs, and those on the shorter side of the pair move: none at either end.
+    /// Takes the pair out, and says whether it was there. The search costs the logarithm of the
+    /// number of pairs, and those on the shorter side of the pair move: none at either end.
     pub fn take_out(&mut self, deadline: Moment, index: u16) -> bool
         ensures there { result ≡ has self.old deadline index }
         ensures taken_out { TakesOut self.old self.new deadline index }
@@ -80,8 +82,8 @@ impl Due {
         }
     }
 
-    /// The first pair, where it is due at `at`: its deadline isn't after it. The cost is the same for any
-    /// number of pairs.
+    /// The first pair, where it is due at `at`: its deadline isn't after it. The cost is the same
+    /// for any number of pairs.
     pub fn first_due(&self, at: Moment) -> Option<(Moment, u16)>
         ensures { IsLeast self.now (λ pair. is_due pair.0 at) result }
     {
@@ -89,8 +91,8 @@ impl Due {
         at.is_due(first.0).then_some(first)
     }
 
-    /// The first pair after this one, which need not be in the set; of `None`, the first of all. The cost
-    /// grows with the logarithm of the number of pairs.
+    /// The first pair after this one, which need not be in the set; of `None`, the first of all.
+    /// The cost grows with the logarithm of the number of pairs.
     pub fn next_after(&self, pair: Option<(Moment, u16)>) -> Option<(Moment, u16)>
         ensures { IsLeast self.now (comes_after pair) result }
     {
@@ -108,7 +110,8 @@ impl Due {
         self.pairs.get(place).copied()
     }
 
-    /// Where the pair stands, or else where it would. Most stand at an end, so those are looked at first.
+    /// Where the pair stands, or else where it would. Most stand at an end, so those are looked at
+    /// first.
     fn place_of(&self, pair: &(Moment, u16)) -> Result<usize, usize>
         ensures { IsPlace self.now pair.now result }
     {

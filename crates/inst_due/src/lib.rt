@@ -1,4 +1,5 @@
-//! Which transfer of an originator is due first: deadlines in order, each with the index of its place.
+//! Which transfer of an originator is due first: deadlines in order, each with the index of its
+//! place.
 #![tactic(auto)]
 
 mod due;

@@ -5,8 +5,8 @@ ghost use Rattle.inst_board.specs.Plain.{Contents, plain_knows};
 ghost use Rattle.inst_slot.specs.LawfulBoard.{IsLawfulBoard, KeepsOthers};
 
 use inst_base::{Fault, Moment};
-use inst_board::{Place, PlainBoard};
-use inst_command::{Answer, Ask, Command, Reply};
+use inst_board::PlainBoard;
+use inst_command::{Answer, Ask, Command, Place, Reply};
 use inst_settings::Settings;
 use inst_slot::Slot;
 
@@ -24,9 +24,12 @@ pub enum Act {
 fn ask_of(slot: &mut Slot, board: &mut PlainBoard, ask: &Ask) -> Result<Reply, Fault>
     requires own { ask.now.who ≡ slot.old.who }
     requires fits { ask_fits slot.old.settings ask.now ≡ true }
-    requires lawful { IsLawfulBoard (λ (b : Contents). b.settings) plain_knows (λ _ _. Unit {0}) board.old slot.old }
-    ensures lawful { IsLawfulBoard (λ (b : Contents). b.settings) plain_knows (λ _ _. Unit {0}) board.new slot.new }
-    ensures others { KeepsOthers (λ (b : Contents). b.settings) plain_knows (λ _ _. Unit {0}) board.old slot.old.who board.new }
+    requires lawful { IsLawfulBoard (λ (b : Contents). b.settings) plain_knows (λ _ _.
+        Unit {0}) board.old slot.old }
+    ensures lawful { IsLawfulBoard (λ (b : Contents). b.settings) plain_knows (λ _ _.
+        Unit {0}) board.new slot.new }
+    ensures others { KeepsOthers (λ (b : Contents). b.settings) plain_knows (λ _ _.
+        Unit {0}) board.old slot.old.who board.new }
     ensures same { (slot.new.settings ≡ slot.old.settings) × (slot.new.who ≡ slot.old.who) }
 {
     if slot.unfound() > 0 {
@@ -37,9 +40,12 @@ fn ask_of(slot: &mut Slot, board: &mut PlainBoard, ask: &Ask) -> Result<Reply, F
 
 /// What the slot makes of the place, likewise.
 fn deliver_to(slot: &mut Slot, board: &mut PlainBoard, place: Place) -> Result<bool, Fault>
-    requires lawful { IsLawfulBoard (λ (b : Contents). b.settings) plain_knows (λ _ _. Unit {0}) board.old slot.old }
-    ensures lawful { IsLawfulBoard (λ (b : Contents). b.settings) plain_knows (λ _ _. Unit {0}) board.new slot.new }
-    ensures others { KeepsOthers (λ (b : Contents). b.settings) plain_knows (λ _ _. Unit {0}) board.old slot.old.who board.new }
+    requires lawful { IsLawfulBoard (λ (b : Contents). b.settings) plain_knows (λ _ _.
+        Unit {0}) board.old slot.old }
+    ensures lawful { IsLawfulBoard (λ (b : Contents). b.settings) plain_knows (λ _ _.
+        Unit {0}) board.new slot.new }
+    ensures others { KeepsOthers (λ (b : Contents). b.settings) plain_knows (λ _ _.
+        Unit {0}) board.old slot.old.who board.new }
     ensures same { (slot.new.settings ≡ slot.old.settings) × (slot.new.who ≡ slot.old.who) }
 {
     if slot.unfound() > 0 {
@@ -58,9 +64,12 @@ pub(crate) fn act_of(
     at: Moment,
 ) -> Result<Answer, Fault>
     requires own { (slot.old.settings ≡ settings.now) × (slot.old.who ≡ who) }
-    requires lawful { IsLawfulBoard (λ (b : Contents). b.settings) plain_knows (λ _ _. Unit {0}) board.old slot.old }
-    ensures lawful { IsLawfulBoard (λ (b : Contents). b.settings) plain_knows (λ _ _. Unit {0}) board.new slot.new }
-    ensures others { KeepsOthers (λ (b : Contents). b.settings) plain_knows (λ _ _. Unit {0}) board.old slot.old.who board.new }
+    requires lawful { IsLawfulBoard (λ (b : Contents). b.settings) plain_knows (λ _ _.
+        Unit {0}) board.old slot.old }
+    ensures lawful { IsLawfulBoard (λ (b : Contents). b.settings) plain_knows (λ _ _.
+        Unit {0}) board.new slot.new }
+    ensures others { KeepsOthers (λ (b : Contents). b.settings) plain_knows (λ _ _.
+        Unit {0}) board.old slot.old.who board.new }
     ensures same { (slot.new.settings ≡ slot.old.settings) × (slot.new.who ≡ slot.old.who) }
 {
     let is_new = match *act {

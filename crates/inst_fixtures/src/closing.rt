@@ -10,8 +10,8 @@ use inst_settings::Settings;
 use inst_world::World;
 use std::alloc::Global;
 
-/// The journals of a hub that ran these steps and was closed. `Memory` comes, and `BadSettings` where they can't be
-/// opened from.
+/// The journals of a hub that ran these steps and was closed. `Memory` comes, and `BadSettings`
+/// where they can't be opened from.
 pub fn books(alloc: Global, settings: &Settings, steps: &[Step]) -> Result<Vec<Journal>, Fault>
     requires { IsInterleaving settings.now steps.now }
     ensures { IfOk result (λ journals. CanOpenFrom settings.now journals.items) }

@@ -4,7 +4,7 @@ ghost use Rattle.inst_settings.specs.Lawful.{IsSettings, settings_with as their_
 ghost use Rattle.inst_model.specs.Rows as rows;
 
 use inst_base::{Code, Fault};
-use inst_settings::{Numbers, Settings};
+use inst_settings::{HubParameters, Settings};
 use std::alloc::Global;
 
 /// The number of `AAAADEFF`.
@@ -16,8 +16,9 @@ pub const B: u8 = 1;
 /// The number of `CCCCITMM`.
 pub const C: u8 = 2;
 
-/// The settings of the worked rows: three participants with 2 places and 4 fundings each, 10,000 milliseconds until a
-/// deadline, no margin, and time stamps at most 1,000 milliseconds ahead. Only `Memory` comes.
+/// The settings of the worked rows: three participants with 2 places and 4 fundings each, 10,000
+/// milliseconds until a deadline, no margin, and time stamps at most 1,000 milliseconds ahead. Only
+/// `Memory` comes.
 pub fn settings(alloc: Global) -> Result<Settings, Fault>
     ensures rows { IfOk result (λ settings. settings ≡ rows.settings) }
     ensures lawful { IfOk result (λ settings. IsSettings settings) }
@@ -25,10 +26,11 @@ pub fn settings(alloc: Global) -> Result<Settings, Fault>
     settings_with(alloc, 2, 0)
 }
 
-/// The same participants with so many places each, and a margin in milliseconds; `BadSettings` where one is out of its
-/// range.
+/// The same participants with so many places each, and a margin in milliseconds; `BadSettings`
+/// where one is out of its range.
 pub fn settings_with(alloc: Global, places: u16, margin: u32) -> Result<Settings, Fault>
-    ensures rows { IfOk result (λ settings. settings ≡ their_settings rows.settings.codes places 4 10000 margin 1000 99999999999 0) }
+    ensures rows { IfOk result (λ settings.
+        settings ≡ their_settings rows.settings.codes places 4 10000 margin 1000 99999999999 0) }
     ensures lawful { IfOk result (λ settings. IsSettings settings) }
 {
     let codes = [
@@ -36,11 +38,11 @@ pub fn settings_with(alloc: Global, places: u16, margin: u32) -> Result<Settings
         Code::new("BBBBFRPP")?,
         Code::new("CCCCITMM")?,
     ];
-    let numbers = Numbers {
+    let numbers = HubParameters {
         places,
         fundings: 4,
         margin,
-        ..Numbers::DEFAULT
+        ..HubParameters::DEFAULT
     };
     Settings::check(codes.to_vec(alloc)?, numbers)
 }

@@ -1,6 +1,6 @@
-//! The hub of the worked rows for tests of the crates below: its settings, its steps, its slots over one board, and books
-//! to open from. And what of an answer is compared, and a reader
-//! that gives its bytes by pieces.
+//! The hub of the worked rows for tests of the crates below: its settings, its steps, its slots
+//! over one board, and books to open from. And what of an answer is compared, and a reader that
+//! gives its bytes by pieces.
 #![tactic(auto)]
 
 mod acts;

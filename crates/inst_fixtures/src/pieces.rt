@@ -1,8 +1,8 @@
 //! A reader that gives its bytes piece by piece, and may fail behind the last one.
 use std::io::{self, ErrorKind, Read};
 
-/// Gives at most `most` bytes a read. If it `fails`, it does so once, behind the last byte: whoever tries again finds
-/// the end. Its error is the one after which std's own loops try again.
+/// Gives at most `most` bytes a read. If it `fails`, it does so once, behind the last byte: whoever
+/// tries again finds the end. Its error is the one after which std's own loops try again.
 #[derive(Drop)]
 pub struct Pieces<'a> {
     /// What is still to be given.

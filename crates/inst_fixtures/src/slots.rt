@@ -38,7 +38,8 @@ impl Model for Slots {
 }
 
 impl Slots {
-    /// The slots of three participants with two places each, opened for the first time. `Memory` is the only fault of a margin below the limit.
+    /// The slots of three participants with two places each, opened for the first time. `Memory` is
+    /// the only fault of a margin below the limit.
     pub fn open(alloc: Global, margin: u32) -> Result<Slots, Fault> {
         let settings = settings_with(alloc, 2, margin)?;
         let board = PlainBoard::new(alloc, &settings)?;
@@ -83,7 +84,8 @@ impl Slots {
         })
     }
 
-    /// A hub that opens from the books of this one, but the first participant has none where it is new.
+    /// A hub that opens from the books of this one, but the first participant has none where it is
+    /// new.
     pub fn open_again(&self, alloc: Global, is_first_new: bool) -> Result<Slots, Fault> {
         let [first, second, third] = self.slots.as_slice() else {
             return Err(Fault::BadSettings);

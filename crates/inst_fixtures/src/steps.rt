@@ -4,9 +4,10 @@ ghost use Rattle.inst_model.specs.Deciders.{asks};
 ghost use Rattle.inst_model.specs.Rows as rows;
 
 use inst_base::{Cents, Fault, Ident, Moment};
-use inst_command::{Ask, Command, Step, Submission};
+use inst_command::{Ask, Command, Funding, Step, Submission};
 
-/// The step in which the participant `who` asks this at so many milliseconds past the base; refused as the reading is.
+/// The step in which the participant `who` asks this at so many milliseconds past the base; refused
+/// as the reading is.
 pub fn ask(who: u8, command: Command, at: u64) -> Result<Step, Fault>
     ensures { IfOk result (λ step. step ≡ asks who command at) }
 {
@@ -20,7 +21,7 @@ pub fn fund(who: u8, reference: &str, cents: u64, at: u64) -> Result<Step, Fault
 {
     let reference = Ident::new(reference)?;
     let cents = Cents::new(cents)?;
-    ask(who, Command::Fund { reference, cents }, at)
+    ask(who, Command::Fund(Funding { reference, cents }), at)
 }
 
 /// The step in which it submits a transfer to the participant `to`; refused as its parts are.

@@ -12,7 +12,8 @@ pub enum End {
 /// An entry of an inbox: the originator, the identifier, the cents and the deadline.
 pub type Came = (u8, &'static str, u64, u64);
 
-/// A line of a statement: the number, what it shows, the other side, the identifier, the cents and the position.
+/// A line of a statement: the number, what it shows, the other side, the identifier, the cents and
+/// the position.
 pub type Shown = (u32, LineKind, Option<u8>, &'static str, u64, u64);
 
 /// Whether the outcome is this end.

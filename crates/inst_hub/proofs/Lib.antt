@@ -1,7 +1,7 @@
-pub mod Starting
-pub mod Calling
-pub mod Sweeping
-pub mod Reopening
-pub mod Gathering
-pub mod TakingApart
-pub mod Founding
+pub mod BoardsAndTellersOfNewHub
+pub mod CallUnderLock
+pub mod SweepUnderLock
+pub mod BoardOfReopenedHub
+pub mod JoinedSeatsOfTellers
+pub mod HubPartsFromLocks
+pub mod CarriedHistoryStays

@@ -1,4 +1,5 @@
--- The histories of a hub that opens again from the journals of its participants. This hub's own choice.
+-- The histories of a hub that opens again from the journals of its participants. This hub's own
+-- choice.
 use Rattle.std.specs.Prelude.{ℕ, List, [], ◌∷◌, ◌++◌}
 use Rattle.inst_journal.specs.declared.event.Event.{Event}
 use Rattle.inst_journal.specs.declared.event.Event.TheVariants.{Opened}

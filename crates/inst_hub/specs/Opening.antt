@@ -1,9 +1,9 @@
--- The tellers of a hub that opens: they have seen how the histories begin, the first time with no events, and know of
--- no place. This hub's own choice.
+-- The tellers of a hub that opens: they have seen how the histories begin, the first time with no
+-- events, and know of no place. This hub's own choice.
 use Rattle.std.specs.Prelude.{◌≡◌, ℕ, zero, suc, List, [], ◌∷◌, slice_get, sum_by, Some}
 use Rattle.atomic_table.specs.Seated.{TableId}
 use Rattle.inst_cell.specs.declared.shared_board.SharedBoard.{SharedBoard}
-use Rattle.inst_hub.specs.declared.outset.Outset.{Outset}
+use Rattle.inst_hub.specs.declared.initial_state.InitialState.{InitialState}
 use Rattle.inst_board.specs.declared.about.Fact.{Fact}
 use Rattle.inst_cell.specs.declared.sight.Sight.{Sight}
 use Rattle.inst_cell.specs.Held.{AtOneTable}
@@ -13,7 +13,7 @@ use Rattle.inst_row.specs.declared.view.Front.{Front}
 use Rattle.inst_row.specs.View.{front}
 use Rattle.inst_row.specs.Seated.{IsOn, IsFree, view_of}
 use Rattle.inst_hub.specs.declared.teller.Teller.{Teller}
-use Rattle.inst_row.specs.declared.row.TheConstants.{PARTS}
+use Rattle.inst_row.specs.declared.row.TheConstants.{MOST_SEATS}
 
 -- what a teller sees with at first: over these words, and it knows of no place
 pub record IsBlank (words : SharedBoard) (t : Sight) : Type 0 where
@@ -30,14 +30,16 @@ abbrev pub first_fronts : ℕ → (ℕ → List Event) → List (Front Event)
 first_fronts n J = fronts_from J 0 n
 
 -- a teller of a hub that opens: it may take a lock, and has seen these histories
-pub record IsNew (id : TableId) (key : Outset) (fronts : List (Front Event)) (t : Teller) : Type 0 where
+pub record IsNew (id : TableId) (key : InitialState) (fronts : List (Front Event)) (t : Teller) :
+    Type 0 where
   pub on : IsOn id key t.seat
   pub free : IsFree t.seat
   pub seen : (view_of t.seat).fronts ≡ fronts
   pub blank : IsBlank key.words.value t.sight
 
-abbrev pub AreNew : TableId → Outset → List (Front Event) → List Teller → Type 0
-AreNew id key fronts tellers = (i : ℕ) (t : Teller) → slice_get tellers i ≡ Some t → IsNew id key fronts t
+abbrev pub AreNew : TableId → InitialState → List (Front Event) → List Teller → Type 0
+AreNew id key fronts tellers =
+    (i : ℕ) (t : Teller) → slice_get tellers i ≡ Some t → IsNew id key fronts t
 
 -- the parts of the row that they have
 abbrev pub parts_of : List Teller → ℕ
@@ -45,4 +47,4 @@ parts_of tellers = sum_by (λ t. (view_of t.seat).parts) tellers
 
 -- they have all parts of the row
 abbrev pub HaveAllParts : List Teller → Type 0
-HaveAllParts tellers = parts_of tellers ≡ PARTS
+HaveAllParts tellers = parts_of tellers ≡ MOST_SEATS

@@ -1,5 +1,5 @@
--- A sweep of a hub of many threads: what a participant does by itself about all its transfers, under its lock. This hub's
--- own choice.
+-- A sweep of a hub of many threads: what a participant does by itself about all its transfers,
+-- under its lock. This hub's own choice.
 use Rattle.std.specs.Prelude.{◌≡◌, ℕ, [], ◌∷◌, ◌++◌, Result, is_ok, IfOk}
 use Rattle.std.specs.declared.alloc.AllocError.{AllocError}
 use Rattle.inst_row.specs.View.{front}
@@ -13,20 +13,20 @@ use Rattle.inst_hub.specs.declared.teller.Teller.{Teller}
 use Rattle.inst_hub.specs.Founding.{IsSince}
 use Rattle.inst_hub.specs.Calls.{fronts_seen}
 
--- A sweep of the participant `who` at the reading
--- found, left: what was found behind its lock, and what was left there
--- behind: it is that participant's, and there was no opening since the hub's
--- goes_on: the history that was found goes on from all that the teller had seen of it
--- seen: the teller has seen these two histories, and nothing else
--- told, sweeps: what was left is what was found, swept whole, or until memory was refused and no further
--- count: this is how much was new
+-- A sweep of the participant `who` at the reading found, left: what was found behind its lock, and
+-- what was left there behind: it is that participant's, and there was no opening since the hub's
+-- goes_on: the history that was found goes on from all that the teller had seen of it seen: the
+-- teller has seen these two histories, and nothing else told, sweeps: what was left is what was
+-- found, swept whole, or until memory was refused and no further count: this is how much was new
 -- due: after a whole sweep no own transfer that is due at the reading waits any more
-pub record IsSweep (h : Hub) (t : Teller) (who at : ℕ) (result : Result ℕ AllocError) (u : Teller) : Type 0 where
+pub record IsSweep (h : Hub) (t : Teller) (who at : ℕ) (result : Result ℕ AllocError) (u : Teller) :
+    Type 0 where
   pub found : Participant
   pub left : Participant
   pub behind : IsSince (key_of h.row) who found
   pub goes_on : GoesOn who found.slot.events t.seat
-  pub seen : fronts_seen u ≡ fronts_seen t ++ front who found.slot.events ∷ front who left.slot.events ∷ []
+  pub seen : fronts_seen u
+      ≡ fronts_seen t ++ front who found.slot.events ∷ front who left.slot.events ∷ []
   pub told : IsToldAll found.slot.events left.slot.events
   pub sweeps : Sweeps at (is_ok result) found left
   pub count : IfOk result (λ count. count ≡ new_events found.slot.events left.slot.events)

@@ -1,6 +1,8 @@
-/// What a caller wants to have done while it has the lock of a participant. Tests wait there for other threads.
+/// What a caller wants to have done while it has the lock of a participant. Tests wait there for
+/// other threads.
 pub trait Gate {
-    /// It is called once in each call, after the event of the participant `who` and before its lock is given back.
+    /// It is called once in each call, after the event of the participant `who` and before its lock
+    /// is given back.
     fn pass(&self, who: u8);
 }
 

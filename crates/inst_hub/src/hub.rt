@@ -10,16 +10,17 @@ mod next_opening;
 mod opening;
 mod sweeping;
 
-use crate::behind::Behind;
-use crate::outset::Outset;
+use crate::initial_state::InitialState;
+use crate::lock_law::LockLaw;
 pub use closing::TakeFault;
 use inst_journal::Event;
 use inst_participant::Participant;
 use inst_row::LockRow;
 use inst_settings::Settings;
 
-/// A hub that threads share by reference, each with a teller of its own. No call holds two locks, and a call of one
-/// participant waits for none of another's, but for the follow-up under the other side's lock.
+/// A hub that threads share by reference, each with a teller of its own. No call holds two locks,
+/// and a call of one participant waits for none of another's, but for the follow-up under the other
+/// side's lock.
 ///
 /// ```text
 /// let (hub, mut tellers) = Hub::open(alloc, settings, 2)?;
@@ -29,7 +30,7 @@ use inst_settings::Settings;
 #[derive(Drop)]
 pub struct Hub {
     settings: Settings,
-    pub(crate) row: LockRow<Box<Participant>, Event, Outset, Behind>,
+    pub(crate) row: LockRow<Box<Participant>, Event, InitialState, LockLaw>,
     pub ghost sized: { size row ≡ participants settings },
     pub ghost same: { settings_of (key_of row).words.value ≡ settings },
 }

@@ -1,11 +1,11 @@
 //! What a teller asks a hub, what it is told, and scripts of both.
 ghost use Rattle.std.specs.Prelude.{◌≡◌, [], ◌∷◌};
-ghost use Rattle.inst_hub.specs.Calls.{IsOf, AreOf};
+ghost use Rattle.inst_hub.specs.Calls.{IsTellerOf, AreOf};
 ghost use Rattle.inst_hub.specs.Opening.{HaveAllParts, parts_of};
 
 use crate::comparing::same;
 use inst_base::{Cents, Fault, Ident, Moment};
-use inst_command::{Ask, Command, Outcome, Reply, State, Submission};
+use inst_command::{Ask, Command, Funding, Outcome, Query, Reply, State, Submission};
 use inst_hub::{Gate, Hub, Teller, Ticket, Ungated};
 use std::process::Abort;
 use std::sync::Wait;
@@ -30,7 +30,7 @@ pub(crate) enum Deed<'a> {
 
 /// What it is told.
 #[derive(Clone, Copy, Debug, PartialEq)]
-pub(crate) enum Told {
+pub(crate) enum ExpectedCall {
     /// What it asked for is done.
     Done,
     /// Its submission is taken, and whether with a ticket.
@@ -46,33 +46,34 @@ pub(crate) enum Told {
     Other,
 }
 
-/// A line of a script: the participant, what it does and at which reading, and what it is to be told.
+/// A line of a script: the participant, what it does and at which reading, and what it is to be
+/// told.
 #[derive(Clone, Copy)]
 pub(crate) struct Line<'a>(
     pub(crate) u8,
     pub(crate) Deed<'a>,
     pub(crate) u64,
-    pub(crate) Told,
+    pub(crate) ExpectedCall,
 );
 
 /// Participant 0 is funded, and submits a transfer to participant 1.
 pub(crate) const SUBMITTED: [Line<'static>; 2] = [
-    Line(0, Deed::Fund("F1", 50_000), 0, Told::Done),
+    Line(0, Deed::Fund("F1", 50_000), 0, ExpectedCall::Done),
     Line(
         0,
         Deed::Submit("T1", 20_000, 1_000),
         1_000,
-        Told::Taken(true),
+        ExpectedCall::Taken(true),
     ),
 ];
 
 /// The ask of a deed; `BadField` for a sweep, which is none.
 pub(crate) fn asked(who: u8, deed: Deed<'_>, at: u64) -> Result<Ask, Fault> {
     let command = match deed {
-        Deed::Fund(reference, cents) => Command::Fund {
+        Deed::Fund(reference, cents) => Command::Fund(Funding {
             reference: Ident::new(reference)?,
             cents: Cents::new(cents)?,
-        },
+        }),
         Deed::Submit(id, cents, stamp) => Command::Submit(Submission {
             id: Ident::new(id)?,
             to: 1,
@@ -87,7 +88,7 @@ pub(crate) fn asked(who: u8, deed: Deed<'_>, at: u64) -> Result<Ask, Fault> {
             id: Ident::new(id)?,
         },
         Deed::Fetch => Command::Fetch { max: 10 },
-        Deed::Position => Command::Position,
+        Deed::Position => Command::Query(Query::Position),
         Deed::Sweep => return Err(Fault::BadField),
     };
     let at = Moment::new(0, at)?;
@@ -95,26 +96,26 @@ pub(crate) fn asked(who: u8, deed: Deed<'_>, at: u64) -> Result<Ask, Fault> {
 }
 
 /// What the reply tells, with a ticket or without one.
-fn told_of(reply: &Reply, ticket: bool) -> Told {
+fn told_of(reply: &Reply, ticket: bool) -> ExpectedCall {
     match reply {
-        Reply::Done { .. } => Told::Done,
-        Reply::Taken { .. } => Told::Taken(ticket),
-        Reply::State { state, .. } => Told::State(*state, ticket),
+        Reply::Done { .. } => ExpectedCall::Done,
+        Reply::Taken { .. } => ExpectedCall::Taken(ticket),
+        Reply::State { state, .. } => ExpectedCall::State(*state, ticket),
         Reply::Position {
             position,
             reserved,
             available,
-        } => Told::Money(*position, *reserved, *available),
+        } => ExpectedCall::Money(*position, *reserved, *available),
         Reply::Inbox { entries } => match entries.as_slice() {
-            [first, second] => Told::Came(first.from, second.from),
-            _ => Told::Other,
+            [first, second] => ExpectedCall::Came(first.from, second.from),
+            _ => ExpectedCall::Other,
         },
-        _ => Told::Other,
+        _ => ExpectedCall::Other,
     }
 }
 
-/// What the participant is told, with a ticket if there is one, where the gate is passed inside its lock; `BadField`
-/// where the deed doesn't fit the hub. No sweep passes a gate.
+/// What the participant is told, with a ticket if there is one, where the gate is passed inside its
+/// lock; `BadField` where the deed doesn't fit the hub. No sweep passes a gate.
 pub(crate) fn answer<R: Wait, G: Gate>(
     rt: &R,
     hub: &Hub,
@@ -123,9 +124,9 @@ pub(crate) fn answer<R: Wait, G: Gate>(
     deed: Deed<'_>,
     at: u64,
     gate: &G,
-) -> Result<(Told, Option<Ticket>), Fault>
-    requires { IsOf hub.now teller.old }
-    ensures of { IsOf hub.now teller.new }
+) -> Result<(ExpectedCall, Option<Ticket>), Fault>
+    requires { IsTellerOf hub.now teller.old }
+    ensures of { IsTellerOf hub.now teller.new }
     ensures parts { parts_of (teller.new ∷ []) ≡ parts_of (teller.old ∷ []) }
 {
     let ask = asked(who, deed, at)?;
@@ -143,8 +144,8 @@ pub(crate) fn answer<R: Wait, G: Gate>(
 
 /// How many were new in a sweep.
 fn swept<R: Wait>(rt: &R, hub: &Hub, teller: &mut Teller, who: u8, at: u64) -> Result<u32, Fault>
-    requires { IsOf hub.now teller.old }
-    ensures of { IsOf hub.now teller.new }
+    requires { IsTellerOf hub.now teller.old }
+    ensures of { IsTellerOf hub.now teller.new }
     ensures parts { parts_of (teller.new ∷ []) ≡ parts_of (teller.old ∷ []) }
 {
     if !hub.settings().has_participant(who) {
@@ -164,14 +165,14 @@ pub(crate) fn play<R: Wait + Abort>(
     teller: &mut Teller,
     lines: &[Line<'_>],
 ) -> Result<Option<Ticket>, Fault>
-    requires { IsOf hub.now teller.old }
-    ensures of { IsOf hub.now teller.new }
+    requires { IsTellerOf hub.now teller.old }
+    ensures of { IsTellerOf hub.now teller.new }
     ensures parts { parts_of (teller.new ∷ []) ≡ parts_of (teller.old ∷ []) }
 {
     let mut last = None;
     for Line(who, deed, at, wanted) in lines {
         let (found, ticket) = if let Deed::Sweep = deed {
-            (Told::New(swept(rt, hub, teller, *who, *at)?), None)
+            (ExpectedCall::New(swept(rt, hub, teller, *who, *at)?), None)
         } else {
             answer(rt, hub, teller, *who, *deed, *at, &Ungated)?
         };

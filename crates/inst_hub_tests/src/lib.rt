@@ -1,4 +1,5 @@
-//! Tests of what threads share: boards and locks, hubs, how they close, and the crews and drills that run them.
+//! Tests of what threads share: boards and locks, hubs, how they close, and the crews and drills
+//! that run them.
 #![tactic(auto)]
 
 #[cfg(test)]

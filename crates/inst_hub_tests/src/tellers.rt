@@ -1,6 +1,6 @@
 //! The last of the tellers with which a hub opens, and what it plays.
 ghost use Rattle.std.specs.Prelude.{◌≡◌, ◌+◌, IfOk, length};
-ghost use Rattle.inst_hub.specs.Calls.{IsOf, AreOf};
+ghost use Rattle.inst_hub.specs.Calls.{IsTellerOf, AreOf};
 
 use crate::asking::{Line, play};
 use inst_base::Fault;
@@ -11,9 +11,10 @@ use std::sync::Wait;
 /// The last teller of these.
 pub(crate) fn last(hub: &Hub, tellers: &mut Vec<Teller>) -> Result<Teller, Fault>
     requires { AreOf hub.now tellers.old.items }
-    ensures last { IfOk result (λ teller. IsOf hub.now teller) }
+    ensures last { IfOk result (λ teller. IsTellerOf hub.now teller) }
     ensures rest { AreOf hub.now tellers.new.items }
-    ensures one_less { IfOk result (λ teller. length tellers.new.items + 1 ≡ length tellers.old.items) }
+    ensures one_less { IfOk result (λ teller.
+        length tellers.new.items + 1 ≡ length tellers.old.items) }
 {
     match tellers.pop() {
         Some(teller) => Ok(teller),
@@ -24,7 +25,7 @@ pub(crate) fn last(hub: &Hub, tellers: &mut Vec<Teller>) -> Result<Teller, Fault
 /// The last two tellers of these.
 pub(crate) fn last_two(hub: &Hub, tellers: &mut Vec<Teller>) -> Result<(Teller, Teller), Fault>
     requires { AreOf hub.now tellers.old.items }
-    ensures last { IfOk result (λ two. IsOf hub.now two.0 × IsOf hub.now two.1) }
+    ensures last { IfOk result (λ two. IsTellerOf hub.now two.0 × IsTellerOf hub.now two.1) }
     ensures rest { AreOf hub.now tellers.new.items }
 {
     let second = last(hub, tellers)?;
@@ -35,7 +36,7 @@ pub(crate) fn last_two(hub: &Hub, tellers: &mut Vec<Teller>) -> Result<(Teller, 
 /// The hub with the last of its tellers.
 pub(crate) fn with_teller(opened: (Hub, Vec<Teller>)) -> Result<(Hub, Teller), Fault>
     requires { AreOf opened.0 opened.1.items }
-    ensures { IfOk result (λ r. IsOf r.0 r.1) }
+    ensures { IfOk result (λ r. IsTellerOf r.0 r.1) }
 {
     let (hub, mut tellers) = opened;
     let teller = last(&hub, &mut tellers)?;

@@ -11,7 +11,7 @@ use Rattle.inst_journal.specs.Booked.{takes, is_taken, forwards, is_forwarded}
 use Rattle.inst_journal.specs.Keys.{refers, has_reference}
 use Rattle.inst_journal.specs.Repeats.{KeepsAKeyOnce}
 use Rattle.inst_journal.specs.Sound.{Fits, IsSound}
-use Rattle.inst_journal.proofs.Counting.{count_push, first_false, cond_le}
+use Rattle.inst_journal.proofs.CountsOfEvents.{count_push, first_false, cond_le}
 use Rattle.inst_journal.proofs.Soundness.{sound_induction}
 
 second_false : (a b : Bool) → (a || b) ≡ false → b ≡ false
@@ -37,8 +37,8 @@ counted p J event new before = elim (cases_Bool (p event)) [
 ]
 
 new_reference : (s : HubSettings) (who : ℕ) (J : List Event) (reference : List ℕ) (event : Event) → Fits s who J event → refers reference event ≡ true → has_reference reference J ≡ false
-new_reference s who J reference (Funded other cents) fits same = ap (λ r. has_reference r J) (sym (text_same other reference (sym same))) ∙ fits.new
-new_reference s who J reference (Defunded other cents) fits same = ap (λ r. has_reference r J) (sym (text_same other reference (sym same))) ∙ fits.funding.new
+new_reference s who J reference (Funded funding) fits same = ap (λ r. has_reference r J) (sym (text_same funding.reference reference (sym same))) ∙ fits.new
+new_reference s who J reference (Defunded funding) fits same = ap (λ r. has_reference r J) (sym (text_same funding.reference reference (sym same))) ∙ fits.funding.new
 new_reference s who J reference (Taken id to cents stamp) fits same = absurd (cc)
 new_reference s who J reference (Forwarded from id cents deadline) fits same = absurd (cc)
 new_reference s who J reference (Booked from id outcome) fits same = absurd (cc)
@@ -47,8 +47,8 @@ new_reference s who J reference Opened fits same = absurd (cc)
 
 new_identifier : (s : HubSettings) (who : ℕ) (J : List Event) (id : List ℕ) (event : Event) → Fits s who J event → takes id event ≡ true → is_taken id J ≡ false
 new_identifier s who J id (Taken other to cents stamp) fits same = ap (λ i. is_taken i J) (sym (text_same other id (sym same))) ∙ fits.new
-new_identifier s who J id (Funded reference cents) fits same = absurd (cc)
-new_identifier s who J id (Defunded reference cents) fits same = absurd (cc)
+new_identifier s who J id (Funded funding) fits same = absurd (cc)
+new_identifier s who J id (Defunded funding) fits same = absurd (cc)
 new_identifier s who J id (Forwarded from other cents deadline) fits same = absurd (cc)
 new_identifier s who J id (Booked from other outcome) fits same = absurd (cc)
 new_identifier s who J id (Fetched count) fits same = absurd (cc)
@@ -65,8 +65,8 @@ new_forwarding s who J from id (Forwarded other_from other cents deadline) fits 
     let key = and_parts (other_from == from) (same_text other id) same in
     ap (λ f. is_forwarded f id J) (sym (eqb-true other_from from key.0)) ∙ ap (λ i. is_forwarded other_from i J) (sym (text_same other id (sym key.1))) ∙ fits.new
 new_forwarding s who J from id (Taken other to cents stamp) fits same = absurd (cc)
-new_forwarding s who J from id (Funded reference cents) fits same = absurd (cc)
-new_forwarding s who J from id (Defunded reference cents) fits same = absurd (cc)
+new_forwarding s who J from id (Funded funding) fits same = absurd (cc)
+new_forwarding s who J from id (Defunded funding) fits same = absurd (cc)
 new_forwarding s who J from id (Booked other_from other outcome) fits same = absurd (cc)
 new_forwarding s who J from id (Fetched count) fits same = absurd (cc)
 new_forwarding s who J from id Opened fits same = absurd (cc)

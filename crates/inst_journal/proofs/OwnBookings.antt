@@ -7,13 +7,13 @@ use Rattle.inst_journal.specs.declared.event.Event.{Event}
 use Rattle.inst_journal.specs.declared.event.Event.TheVariants.{Funded, Defunded, Taken, Forwarded, Booked, Fetched, Opened}
 use Rattle.inst_journal.specs.Booked.{is_forwarded, forwards, books, booked, books_own, own_booked}
 use Rattle.inst_journal.specs.Sound.{Fits, IsSound}
-use Rattle.inst_journal.proofs.Pushing.{list_any_push, first_some-same, all_push, all_weaker}
+use Rattle.inst_journal.proofs.OneMoreElement.{list_any_push, first_some-same, all_push, all_weaker}
 use Rattle.inst_journal.proofs.Soundness.{sound_induction}
 
 -- no event that fits forwards a transfer of the participant's own
 unforwarded : (s : HubSettings) (who : ℕ) (J : List Event) (id : List ℕ) (event : Event) → Fits s who J event → forwards who id event ≡ false
-unforwarded s who J id (Funded reference cents) fits = refl
-unforwarded s who J id (Defunded reference cents) fits = refl
+unforwarded s who J id (Funded funding) fits = refl
+unforwarded s who J id (Defunded funding) fits = refl
 unforwarded s who J id (Taken other to cents stamp) fits = refl
 unforwarded s who J id (Forwarded from other cents deadline) fits = ap (λ b. b && same_text other id) (ne_eqb from who fits.another)
 unforwarded s who J id (Booked from other outcome) fits = refl
@@ -28,8 +28,8 @@ own_unforwarded s who id = sound_induction s who (λ J. is_forwarded who id J �
 -- a booking is of the participant's own transfer or of one forwarded to it
 abbrev IsKnown : ℕ → List Event → Event → Type 0
 IsKnown who J (Booked from id outcome) = (from ≡ who) ⊎ (is_forwarded from id J ≡ true)
-IsKnown who J (Funded reference cents) = Unit {0}
-IsKnown who J (Defunded reference cents) = Unit {0}
+IsKnown who J (Funded funding) = Unit {0}
+IsKnown who J (Defunded funding) = Unit {0}
 IsKnown who J (Taken id to cents stamp) = Unit {0}
 IsKnown who J (Forwarded from id cents deadline) = Unit {0}
 IsKnown who J (Fetched count) = Unit {0}
@@ -41,8 +41,8 @@ forwarded_push from id J event before = list_any_push (forwards from id) J event
 
 known_later : (who : ℕ) (J : List Event) (new : Event) (event : Event) → IsKnown who J event → IsKnown who (J ++ new ∷ []) event
 known_later who J new (Booked from id outcome) known = elim known [ inl own ↦ inl own | inr forwarded ↦ inr (forwarded_push from id J new forwarded) ]
-known_later who J new (Funded reference cents) known = tt
-known_later who J new (Defunded reference cents) known = tt
+known_later who J new (Funded funding) known = tt
+known_later who J new (Defunded funding) known = tt
 known_later who J new (Taken id to cents stamp) known = tt
 known_later who J new (Forwarded from id cents deadline) known = tt
 known_later who J new (Fetched count) known = tt
@@ -50,8 +50,8 @@ known_later who J new Opened known = tt
 
 known_new : (s : HubSettings) (who : ℕ) (J : List Event) (event : Event) → Fits s who J event → IsKnown who (J ++ event ∷ []) event
 known_new s who J (Booked from id outcome) fits = elim fits.party [ inl own ↦ inl own.0 | inr forwarded ↦ inr (forwarded_push from id J (Booked from id outcome) forwarded) ]
-known_new s who J (Funded reference cents) fits = tt
-known_new s who J (Defunded reference cents) fits = tt
+known_new s who J (Funded funding) fits = tt
+known_new s who J (Defunded funding) fits = tt
 known_new s who J (Taken id to cents stamp) fits = tt
 known_new s who J (Forwarded from id cents deadline) fits = tt
 known_new s who J (Fetched count) fits = tt
@@ -85,8 +85,8 @@ own_same who J unforwarded id (Booked from other outcome) known = elim known [
       ∙ ap (λ b. cond b (Some outcome) None) (and-false (same_text other id))
       ∙ sym (ap (λ b. cond (b && same_text other id) (Some outcome) None) (ne_eqb from who another))
 ]
-own_same who J unforwarded id (Funded reference cents) known = refl
-own_same who J unforwarded id (Defunded reference cents) known = refl
+own_same who J unforwarded id (Funded funding) known = refl
+own_same who J unforwarded id (Defunded funding) known = refl
 own_same who J unforwarded id (Taken other to cents stamp) known = refl
 own_same who J unforwarded id (Forwarded from other cents deadline) known = refl
 own_same who J unforwarded id (Fetched count) known = refl

@@ -1,7 +1,8 @@
--- Which transfers a history has taken, forwarded and booked. A transfer is named by its originator and its
--- identifier (EPC004-16, chapter 4, attributes: the originator's reference); that each side books an outcome is
--- this hub's own choice.
-use Rattle.std.specs.Prelude.{ℕ, Bool, true, false, ◌&&◌, ◌==◌, not, if◌then◌else◌, List, [], ◌∷◌, Option, Some, None}
+-- Which transfers a history has taken, forwarded and booked. A transfer is named by its originator
+-- and its identifier (EPC004-16, chapter 4, attributes: the originator's reference); that each side
+-- books an outcome is this hub's own choice.
+use Rattle.std.specs.Prelude.{ℕ, Bool, true, false, ◌&&◌, ◌==◌, not, if◌then◌else◌, List, [], ◌∷◌}
+use Rattle.std.specs.Prelude.{Option, Some, None}
 use Rattle.std.specs.List.{list_any}
 use Rattle.inst_settings.specs.Settings.{same_text}
 use Rattle.inst_command.specs.declared.outcome.Outcome.{Outcome}
@@ -29,12 +30,14 @@ takes id _ = false
 
 -- whether the event forwards this transfer
 abbrev pub forwards : ℕ → List ℕ → Event → Bool
-forwards from id (Forwarded other_from other cents deadline) = same_transfer from id other_from other
+forwards from id (Forwarded other_from other cents deadline) =
+    same_transfer from id other_from other
 forwards from id _ = false
 
 -- the outcome that the event books for this transfer
 abbrev pub books : ℕ → List ℕ → Event → Option Outcome
-books from id (Booked other_from other outcome) = if same_transfer from id other_from other then Some outcome else None
+books from id (Booked other_from other outcome) =
+    if same_transfer from id other_from other then Some outcome else None
 books from id _ = None
 
 -- whether the participant has a taken submission with this identifier
@@ -49,9 +52,11 @@ is_forwarded from id J = list_any (forwards from id) J
 abbrev pub booked : ℕ → List ℕ → List Event → Option Outcome
 booked from id J = first_some (books from id) J
 
--- the outcome that the event books for a transfer of the participant's own: one that isn't forwarded to it
+-- the outcome that the event books for a transfer of the participant's own: one that isn't
+-- forwarded to it
 abbrev pub books_own : List Event → List ℕ → Event → Option Outcome
-books_own J id (Booked from other outcome) = if same_text other id && not (is_forwarded from other J) then Some outcome else None
+books_own J id (Booked from other outcome) =
+    if same_text other id && not (is_forwarded from other J) then Some outcome else None
 books_own J id _ = None
 
 -- the outcome that the participant has booked for its own transfer with this identifier, if any

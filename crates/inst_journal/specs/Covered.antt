@@ -4,8 +4,9 @@ use Rattle.inst_journal.specs.declared.event.Event.{Event}
 use Rattle.inst_journal.specs.Sums.{net, funded, defunded, credits, debits}
 use Rattle.inst_journal.specs.Money.{reserved, position, available}
 
--- what was paid out and what is reserved is covered by what came in, so the position is net funding and credits less
--- debits, what is available is the position less what is reserved, and neither is ever below 0
+-- what was paid out and what is reserved is covered by what came in, so the position is net funding
+-- and credits less debits, what is available is the position less what is reserved, and neither is
+-- ever below 0
 pub record IsNeverOverdrawn (J : List Event) : Type 0 where
   pub covered : defunded J + debits J + reserved J ≤ funded J + credits J
   pub position_is : pos (position J) ≡ ((net J +ℤ pos (credits J)) -ℤ pos (debits J))

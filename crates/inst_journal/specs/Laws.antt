@@ -1,6 +1,8 @@
--- The laws of one participant's books: nothing is overdrawn, each taken amount is in one place, each transfer is booked
--- once, and what a command keeps leaves the books sound. They are this hub's own promises.
-use Rattle.std.specs.Prelude.{◌≡◌, ◌≢◌, ℕ, ◌+◌, ◌≤◌, true, List, Option, Some, None, sum_by, count_by, is_some}
+-- The laws of one participant's books: nothing is overdrawn, each taken amount is in one place,
+-- each transfer is booked once, and what a command keeps leaves the books sound. They are this
+-- hub's own promises.
+use Rattle.std.specs.Prelude.{◌≡◌, ◌≢◌, ℕ, ◌+◌, ◌≤◌, true, List, Option, Some, None, sum_by}
+use Rattle.std.specs.Prelude.{count_by, is_some}
 use Rattle.inst_settings.specs.Settings.{HubSettings}
 use Rattle.inst_command.specs.Ask.{command_fits}
 use Rattle.inst_command.specs.declared.command.Command.{Command}
@@ -17,7 +19,8 @@ use Rattle.inst_journal.specs.Reply.{history_after}
 use Rattle.inst_journal.specs.Sound.{IsSound}
 
 abbrev pub NothingIsOverdrawn : Type 0
-NothingIsOverdrawn = (s : HubSettings) (who : ℕ) (J : List Event) → IsSound s who J → IsNeverOverdrawn J
+NothingIsOverdrawn =
+    (s : HubSettings) (who : ℕ) (J : List Event) → IsSound s who J → IsNeverOverdrawn J
 
 -- the amount of a taken transfer
 abbrev pub taking : Event → ℕ
@@ -33,10 +36,12 @@ release J _ = 0
 abbrev pub released : List Event → ℕ
 released J = sum_by (release J) J
 
--- each taken amount is reserved, debited or released, and only one of them, and so are all of them together
+-- each taken amount is reserved, debited or released, and only one of them, and so are all of them
+-- together
 pub record IsInOnePlace (J : List Event) : Type 0 where
   pub each : (id : List ℕ) (to cents stamp : ℕ) →
-      IsOneOf cents (reservation J (Taken id to cents stamp)) (debit J (Taken id to cents stamp)) (release J (Taken id to cents stamp))
+      IsOneOf cents (reservation J (Taken id to cents stamp)) (debit J (Taken id to cents stamp))
+      (release J (Taken id to cents stamp))
   pub all : reserved J + debits J + released J ≡ sum_by taking J
 
 abbrev pub EachTakenAmountIsInOnePlace : Type 0
@@ -44,7 +49,8 @@ EachTakenAmountIsInOnePlace = (J : List Event) → IsInOnePlace J
 
 -- what a participant has booked for its own transfer is what is booked under its own number
 abbrev pub AnOwnBookingHasTheOwnNumber : Type 0
-AnOwnBookingHasTheOwnNumber = (s : HubSettings) (who : ℕ) (J : List Event) → IsSound s who J → (id : List ℕ) →
+AnOwnBookingHasTheOwnNumber =
+    (s : HubSettings) (who : ℕ) (J : List Event) → IsSound s who J → (id : List ℕ) →
     own_booked id J ≡ booked who id J
 
 -- what of an amount is reserved and what is debited
@@ -52,13 +58,14 @@ pub record IsPlaced (J : List Event) (event : Event) (reserved debited : ℕ) : 
   pub reservation_is : reservation J event ≡ reserved
   pub debit_is : debit J event ≡ debited
 
--- a taken amount is reserved while nothing is booked, debited once it is booked accepted, and neither after another
--- outcome
-pub record IsWhereItIsBooked (who : ℕ) (J : List Event) (id : List ℕ) (to cents stamp : ℕ) : Type 0 where
-  pub unbooked : booked who id J ≡ None → IsPlaced J (Taken id to cents stamp) cents 0
-  pub accepted : booked who id J ≡ Some Accepted → IsPlaced J (Taken id to cents stamp) 0 cents
-  pub others : (outcome : Outcome) → booked who id J ≡ Some outcome → outcome ≢ Accepted →
-      IsPlaced J (Taken id to cents stamp) 0 0
+-- a taken amount is reserved while nothing is booked, debited once it is booked accepted, and
+-- neither after another outcome
+pub record IsWhereItIsBooked (who : ℕ) (J : List Event) (id : List ℕ) (to cents stamp : ℕ) : Type 0
+  where
+    pub unbooked : booked who id J ≡ None → IsPlaced J (Taken id to cents stamp) cents 0
+    pub accepted : booked who id J ≡ Some Accepted → IsPlaced J (Taken id to cents stamp) 0 cents
+    pub others : (outcome : Outcome) → booked who id J ≡ Some outcome → outcome ≢ Accepted →
+        IsPlaced J (Taken id to cents stamp) 0 0
 
 abbrev pub ATakenAmountIsWhereItIsBooked : Type 0
 ATakenAmountIsWhereItIsBooked = (s : HubSettings) (who : ℕ) (J : List Event) → IsSound s who J →
@@ -66,10 +73,14 @@ ATakenAmountIsWhereItIsBooked = (s : HubSettings) (who : ℕ) (J : List Event) �
 
 -- a transfer is booked at most once
 abbrev pub ATransferIsBookedOnce : Type 0
-ATransferIsBookedOnce = (s : HubSettings) (who : ℕ) (J : List Event) → IsSound s who J → (from : ℕ) (id : List ℕ) →
+ATransferIsBookedOnce =
+    (s : HubSettings) (who : ℕ) (J : List Event) → IsSound s who J → (from : ℕ) (id : List ℕ) →
     count_by (λ event. is_some (books from id event)) J ≤ 1
 
 -- what a command keeps leaves a sound history sound
 abbrev pub WhatIsKeptFits : Type 0
-WhatIsKeptFits = (s : HubSettings) (who : ℕ) (J : List Event) (command : Command) (at : ℕ) (found : Option Outcome) →
-    IsSound s who J → command_fits s command ≡ true → IsSound s who (history_after s who J command at found)
+WhatIsKeptFits =
+    (s : HubSettings) (who : ℕ) (J : List Event) (command : Command) (at : ℕ)
+    (found : Option Outcome) →
+    IsSound s who J → command_fits s command ≡ true →
+    IsSound s who (history_after s who J command at found)

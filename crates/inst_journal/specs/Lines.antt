@@ -1,8 +1,11 @@
--- How the lines of a statement follow from one another: their numbers from 1, and each position from the one before
--- it, as an account statement's entries lead from its opening balance to its closing balance. This hub's own promise.
-use Rattle.std.specs.Prelude.{◌≡◌, ℕ, ◌+◌, ◌≤◌, List, [], ◌∷◌, ◌++◌, length, take, Option, Some, None, Ok, slice_get, Contains}
+-- How the lines of a statement follow from one another: their numbers from 1, and each position
+-- from the one before it, as an account statement's entries lead from its opening balance to its
+-- closing balance. This hub's own promise.
+use Rattle.std.specs.Prelude.{◌≡◌, ℕ, ◌+◌, ◌≤◌, List, [], ◌∷◌, ◌++◌, length, take, Option, Some}
+use Rattle.std.specs.Prelude.{None, Ok, slice_get, Contains}
 use Rattle.inst_settings.specs.Settings.{HubSettings}
-use Rattle.inst_command.specs.declared.command.Command.TheVariants.{Statement as AskStatement}
+use Rattle.inst_command.specs.declared.command.Command.TheVariants.{Query}
+use Rattle.inst_command.specs.declared.query.Query.TheVariants.{Statement as AskStatement}
 use Rattle.inst_command.specs.declared.line.Line.{Line}
 use Rattle.inst_command.specs.declared.line.LineKind.{LineKind}
 use Rattle.inst_command.specs.declared.line.LineKind.TheVariants.{Funded, Defunded, Received, Paid}
@@ -10,7 +13,9 @@ use Rattle.inst_command.specs.declared.outcome.Outcome.{Outcome}
 use Rattle.inst_command.specs.declared.outcome.Outcome.TheVariants.{Accepted}
 use Rattle.inst_command.specs.declared.reply.Reply.TheVariants.{Statement}
 use Rattle.inst_journal.specs.declared.event.Event.{Event}
-use Rattle.inst_journal.specs.declared.event.Event.TheVariants.{Funded as FundedEvent, Defunded as DefundedEvent, Taken, Forwarded, Booked, Opened}
+use Rattle.inst_journal.specs.declared.event.Event.TheVariants.{Funded as FundedEvent}
+use Rattle.inst_journal.specs.declared.event.Event.TheVariants.{Defunded as DefundedEvent, Taken}
+use Rattle.inst_journal.specs.declared.event.Event.TheVariants.{Forwarded, Booked, Opened}
 use Rattle.inst_journal.specs.Money.{position}
 use Rattle.inst_journal.specs.Opened.{carried}
 use Rattle.inst_journal.specs.Reply.{reply, history_after}
@@ -31,29 +36,40 @@ lowered Received cents = 0
 lowered Defunded cents = cents
 lowered Paid cents = cents
 
--- the lines lead from the position `before` to the position `last`, each from the position of the line before it
+-- the lines lead from the position `before` to the position `last`, each from the position of the
+-- line before it
 abbrev pub Lead : ℕ → List Line → ℕ → Type 0
 Lead before [] last = before ≡ last
 Lead before (line ∷ lines) last =
     (before + raised line.kind line.cents ≡ line.position + lowered line.kind line.cents)
     × Lead line.position lines last
 
--- what a line of this kind tells is in the history: a funding or a defunding with this reference and amount; a transfer
--- that came from the other participant, or one that was taken for it, with this identifier and amount, booked accepted
+-- what a line of this kind tells is in the history: a funding or a defunding with this reference
+-- and amount; a transfer that came from the other participant, or one that was taken for it, with
+-- this identifier and amount, booked accepted
 abbrev pub IsOf : List Event → LineKind → Line → Type 0
-IsOf J Funded line = (line.other ≡ None) × Contains J (FundedEvent line.id line.cents)
-IsOf J Defunded line = (line.other ≡ None) × Contains J (DefundedEvent line.id line.cents)
+IsOf J Funded line =
+    (line.other ≡ None)
+    × Contains J (FundedEvent (record { reference = line.id; cents = line.cents }))
+IsOf J Defunded line =
+    (line.other ≡ None)
+    × Contains J (DefundedEvent (record { reference = line.id; cents = line.cents }))
 IsOf J Received line = (from : ℕ) × (deadline : ℕ) × (line.other ≡ Some from)
-    × Contains J (Forwarded from line.id line.cents deadline) × Contains J (Booked from line.id Accepted)
+    × Contains J (Forwarded from line.id line.cents deadline)
+    × Contains J (Booked from line.id Accepted)
 IsOf J Paid line = (from : ℕ) × (to : ℕ) × (stamp : ℕ) × (line.other ≡ Some to)
     × Contains J (Taken line.id to line.cents stamp) × Contains J (Booked from line.id Accepted)
 
 abbrev pub ALineTellsAnEvent : Type 0
-ALineTellsAnEvent = (J : List Event) (k : ℕ) (line : Line) → slice_get (statement J) k ≡ Some line → IsOf J line.kind line
+ALineTellsAnEvent =
+    (J : List Event) (k : ℕ) (line : Line) → slice_get (statement J) k ≡ Some line →
+    IsOf J line.kind line
 
 -- the numbers count from 1
 abbrev pub LinesCountFromOne : Type 0
-LinesCountFromOne = (J : List Event) (k : ℕ) (line : Line) → slice_get (statement J) k ≡ Some line → line.number ≡ k + 1
+LinesCountFromOne =
+    (J : List Event) (k : ℕ) (line : Line) → slice_get (statement J) k ≡ Some line →
+    line.number ≡ k + 1
 
 -- an opening begins a statement anew
 abbrev pub AnOpeningBeginsAStatement : Type 0
@@ -64,15 +80,18 @@ abbrev pub AStatementLeadsToThePosition : Type 0
 AStatementLeadsToThePosition = (s : HubSettings) (who : ℕ) (J : List Event) → IsSound s who J →
     Lead (position (carried J)) (statement J) (position J)
 
--- what a question for `count` lines after the first `skip` replies: the part of the statement that comes next
+-- what a question for `count` lines after the first `skip` replies: the part of the statement that
+-- comes next
 pub record NextPart
-    (s : HubSettings) (who : ℕ) (J : List Event) (skip count at : ℕ) (found : Option Outcome) : Type 0 where
+    (s : HubSettings) (who : ℕ) (J : List Event) (skip count at : ℕ) (found : Option Outcome) : Type
+    0 where
   pub part : List Line
-  pub replied : reply s who J (AskStatement skip count) at found ≡ Ok (Statement part)
+  pub replied : reply s who J (Query (AskStatement skip count)) at found ≡ Ok (Statement part)
   pub short : length part ≤ count
   pub next : take skip (statement J) ++ part ≡ take (skip + count) (statement J)
-  pub same_history : history_after s who J (AskStatement skip count) at found ≡ J
+  pub same_history : history_after s who J (Query (AskStatement skip count)) at found ≡ J
 
 abbrev pub AStatementIsReadByParts : Type 0
-AStatementIsReadByParts = (s : HubSettings) (who : ℕ) (J : List Event) (skip count at : ℕ) (found : Option Outcome) →
+AStatementIsReadByParts =
+    (s : HubSettings) (who : ℕ) (J : List Event) (skip count at : ℕ) (found : Option Outcome) →
     NextPart s who J skip count at found

@@ -1,18 +1,21 @@
--- What is live, and what an opening from the books leaves as it was: the money and the keys. It ends the life of what
--- is booked, and gives back the fundings. This hub's own promises.
+-- What is live, and what an opening from the books leaves as it was: the money and the keys. It
+-- ends the life of what is booked, and gives back the fundings. This hub's own promises.
 use Rattle.std.specs.Prelude.{◌≡◌, ℕ, ◌≤◌, true, is_none, List, [], ◌∷◌, ◌++◌, None}
 use Rattle.inst_settings.specs.Settings.{HubSettings}
+use Rattle.inst_command.specs.declared.funding.Funding.{Funding}
 use Rattle.inst_command.specs.declared.submission.Submission.{Submission}
 use Rattle.inst_journal.specs.declared.event.Event.{Event}
 use Rattle.inst_journal.specs.declared.event.Event.TheVariants.{Taken, Forwarded, Opened}
 use Rattle.inst_journal.specs.Booked.{is_taken, is_forwarded, booked}
-use Rattle.inst_journal.specs.Opened.{carried, is_live, takes_live, live_submissions, forwards_live, live_forwarded}
-use Rattle.inst_journal.specs.Keys.{is_fund_repeat, is_defund_repeat, is_submission_repeat, has_reference, fundings}
+use Rattle.inst_journal.specs.Opened.{carried, is_live, takes_live, live_submissions, forwards_live}
+use Rattle.inst_journal.specs.Opened.{live_forwarded}
+use Rattle.inst_journal.specs.Keys.{is_fund_repeat, is_defund_repeat, is_submission_repeat}
+use Rattle.inst_journal.specs.Keys.{has_reference, fundings}
 use Rattle.inst_journal.specs.Money.{reserved, position, available}
 use Rattle.inst_journal.specs.Sound.{IsSound}
 
--- what isn't booked is live; a transfer counts as one of the live exactly where it is live, and they are no more than
--- there are places
+-- what isn't booked is live; a transfer counts as one of the live exactly where it is live, and
+-- they are no more than there are places
 pub record IsLivingWithin (s : HubSettings) (who : ℕ) (J : List Event) : Type 0 where
   pub unbooked : (from : ℕ) (id : List ℕ) → booked from id J ≡ None → is_live from id J ≡ true
   pub counts_taken : (id : List ℕ) (to cents stamp : ℕ) →
@@ -23,7 +26,8 @@ pub record IsLivingWithin (s : HubSettings) (who : ℕ) (J : List Event) : Type 
   pub forwarded : (from : ℕ) → live_forwarded from J ≤ s.places
 
 abbrev pub TheLiveHavePlaces : Type 0
-TheLiveHavePlaces = (s : HubSettings) (who : ℕ) (J : List Event) → IsSound s who J → IsLivingWithin s who J
+TheLiveHavePlaces =
+    (s : HubSettings) (who : ℕ) (J : List Event) → IsSound s who J → IsLivingWithin s who J
 
 -- the money after an opening is the money before it
 pub record SameMoney (J K : List Event) : Type 0 where
@@ -38,13 +42,14 @@ pub record SameKeys (J K : List Event) : Type 0 where
   pub booked : (from : ℕ) (id : List ℕ) → booked from id K ≡ booked from id J
   pub reference : (reference : List ℕ) → has_reference reference K ≡ has_reference reference J
   pub submission : (x : Submission) → is_submission_repeat x K ≡ is_submission_repeat x J
-  pub fund : (reference : List ℕ) (cents : ℕ) →
-      is_fund_repeat reference cents K ≡ is_fund_repeat reference cents J
-  pub defund : (reference : List ℕ) (cents : ℕ) →
-      is_defund_repeat reference cents K ≡ is_defund_repeat reference cents J
+  pub fund : (funding : Funding) →
+      is_fund_repeat funding K ≡ is_fund_repeat funding J
+  pub defund : (funding : Funding) →
+      is_defund_repeat funding K ≡ is_defund_repeat funding J
 
 abbrev pub AnOpeningKeepsTheBooks : Type 0
-AnOpeningKeepsTheBooks = (J : List Event) → SameMoney J (J ++ Opened ∷ []) × SameKeys J (J ++ Opened ∷ [])
+AnOpeningKeepsTheBooks =
+    (J : List Event) → SameMoney J (J ++ Opened ∷ []) × SameKeys J (J ++ Opened ∷ [])
 
 -- exactly what isn't booked lives on, and all fundings are to be had again
 pub record BeginsAnew (J K : List Event) : Type 0 where

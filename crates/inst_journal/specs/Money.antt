@@ -1,5 +1,6 @@
--- A participant's money, in cents: what is reserved, its position, and what is available. An amount is reserved on
--- the originator's prefunded position before the transfer is forwarded: this hub's own choice.
+-- A participant's money, in cents: what is reserved, its position, and what is available. An amount
+-- is reserved on the originator's prefunded position before the transfer is forwarded: this hub's
+-- own choice.
 use Rattle.std.specs.Prelude.{ℕ, ◌+◌, ◌-◌, List, sum_by}
 use Rattle.inst_journal.specs.declared.event.Event.{Event}
 use Rattle.inst_journal.specs.Sums.{funded, defunded, credits, debits, reservation}

@@ -1,6 +1,8 @@
--- What a history carries over an opening from the books: the events up to and with the last Opened. A transfer that is
--- booked there is settled and keeps its name alone; each other one is live. This hub's own choice.
-use Rattle.std.specs.Prelude.{ℕ, ◌<◌, Bool, true, false, ◌&&◌, ◌==◌, is_none, if◌then◌else◌, List, [], ◌∷◌, count_by}
+-- What a history carries over an opening from the books: the events up to and with the last Opened.
+-- A transfer that is booked there is settled and keeps its name alone; each other one is live. This
+-- hub's own choice.
+use Rattle.std.specs.Prelude.{ℕ, ◌<◌, Bool, true, false, ◌&&◌, ◌==◌, is_none, if◌then◌else◌, List}
+use Rattle.std.specs.Prelude.{[], ◌∷◌, count_by}
 use Rattle.std.specs.List.{list_any, filter}
 use Rattle.inst_journal.specs.declared.event.Event.{Event}
 use Rattle.inst_journal.specs.declared.event.Event.TheVariants.{Taken, Forwarded, Opened}
@@ -32,8 +34,8 @@ abbrev pub current : List Event → List Event
 current [] = []
 current (event ∷ events) = if has_opening (event ∷ events) then current events else event ∷ events
 
--- whether a transfer of the originator `from`, of the participant's own or forwarded to it, wasn't booked before the
--- last Opened
+-- whether a transfer of the originator `from`, of the participant's own or forwarded to it, wasn't
+-- booked before the last Opened
 abbrev pub is_live : ℕ → List ℕ → List Event → Bool
 is_live from id J = is_none (booked from id (carried J))
 
@@ -52,7 +54,8 @@ live_submissions who J = count_by (takes_live who (carried J)) J
 
 -- whether the event forwards a transfer of this originator that these events haven't booked
 abbrev pub forwards_live : ℕ → List Event → Event → Bool
-forwards_live from booking (Forwarded other id cents deadline) = (other == from) && is_none (booked from id booking)
+forwards_live from booking (Forwarded other id cents deadline) =
+    (other == from) && is_none (booked from id booking)
 forwards_live from booking _ = false
 
 -- how many of the transfers that were forwarded from this originator are live

@@ -1,7 +1,8 @@
--- How an inbox is read, page by page: the pages joined are the arrivals, in order, none twice and none left out.
--- Forwarding is the scheme's (EPC004-16, chapter 4: processing flow); the inbox and its pages are this hub's own
--- choice.
-use Rattle.std.specs.Prelude.{◌≡◌, ℕ, ◌≤◌, false, List, [], ◌∷◌, ◌++◌, length, take, sum_by, Option, Ok}
+-- How an inbox is read, page by page: the pages joined are the arrivals, in order, none twice and
+-- none left out. Forwarding is the scheme's (EPC004-16, chapter 4: processing flow); the inbox and
+-- its pages are this hub's own choice.
+use Rattle.std.specs.Prelude.{◌≡◌, ℕ, ◌≤◌, false, List, [], ◌∷◌, ◌++◌, length, take, sum_by, Option}
+use Rattle.std.specs.Prelude.{Ok}
 use Rattle.inst_settings.specs.Settings.{HubSettings}
 use Rattle.inst_command.specs.declared.command.Command.TheVariants.{Fetch}
 use Rattle.inst_command.specs.declared.entry.Entry.{Entry}
@@ -14,7 +15,8 @@ use Rattle.inst_journal.specs.Reply.{inbox, handed_out, reply, history_after}
 
 -- each forwarded transfer is an entry at the end of the inbox, and no other event changes it
 pub record IsInOrderOfArrival (J : List Event) : Type 0 where
-  pub arrival : (from : ℕ) (id : List ℕ) (cents deadline : ℕ) → inbox (J ++ Forwarded from id cents deadline ∷ []) ≡
+  pub arrival : (from : ℕ) (id : List ℕ) (cents deadline : ℕ) →
+      inbox (J ++ Forwarded from id cents deadline ∷ []) ≡
       inbox J ++ record { from = from; id = id; cents = cents; deadline = deadline } ∷ []
   pub others : (event : Event) → is_forwarding event ≡ false → inbox (J ++ event ∷ []) ≡ inbox J
 
@@ -26,7 +28,8 @@ abbrev pub read_so_far : List Event → List Entry
 read_so_far J = take (sum_by handed_out J) (inbox J)
 
 -- what a fetch of at most `max` replies: the page that comes next
-pub record NextPage (s : HubSettings) (who : ℕ) (J : List Event) (max at : ℕ) (found : Option Outcome) : Type 0 where
+pub record NextPage (s : HubSettings) (who : ℕ) (J : List Event) (max at : ℕ)
+    (found : Option Outcome) : Type 0 where
   pub page : List Entry
   pub replied : reply s who J (Fetch max) at found ≡ Ok (Inbox page)
   pub short : length page ≤ max
@@ -35,5 +38,6 @@ pub record NextPage (s : HubSettings) (who : ℕ) (J : List Event) (max at : ℕ
   pub none_only_at_the_end : 1 ≤ max → page ≡ [] → read_so_far J ≡ inbox J
 
 abbrev pub AFetchHandsOutTheNextPage : Type 0
-AFetchHandsOutTheNextPage = (s : HubSettings) (who : ℕ) (J : List Event) (max at : ℕ) (found : Option Outcome) →
+AFetchHandsOutTheNextPage =
+    (s : HubSettings) (who : ℕ) (J : List Event) (max at : ℕ) (found : Option Outcome) →
     NextPage s who J max at found

@@ -1,10 +1,12 @@
--- When a command is a repeat and what a repeat is answered; that a command is answered done or taken exactly where its
--- event is in the history; and that a key is kept once. This hub's own promises.
+-- When a command is a repeat and what a repeat is answered; that a command is answered done or
+-- taken exactly where its event is in the history; and that a key is kept once. This hub's own
+-- promises.
 use Rattle.std.specs.Prelude.{◌≡◌, ◌≢◌, ◌↔◌, ℕ, ◌≤◌, true, List, Option, Ok, Contains, count_by}
 use Rattle.inst_base.specs.TimeLimit.{deadline_of}
 use Rattle.inst_settings.specs.Settings.{HubSettings}
 use Rattle.inst_command.specs.declared.command.Command.{Command}
 use Rattle.inst_command.specs.declared.command.Command.TheVariants.{Fund, Defund, Submit}
+use Rattle.inst_command.specs.declared.funding.Funding.{Funding}
 use Rattle.inst_command.specs.declared.outcome.Outcome.{Outcome}
 use Rattle.inst_command.specs.declared.reply.Reply.{Reply}
 use Rattle.inst_command.specs.declared.reply.Reply.TheVariants.{Done, Taken as TakenReply}
@@ -23,17 +25,18 @@ taken_of x = Taken x.id x.to x.cents x.stamp
 -- a repeat has the contents of a kept event, each of them
 pub record IsTheVerySame (J : List Event) : Type 0 where
   pub submission : (x : Submission) → (is_submission_repeat x J ≡ true) ↔ Contains J (taken_of x)
-  pub fund : (reference : List ℕ) (cents : ℕ) →
-      (is_fund_repeat reference cents J ≡ true) ↔ Contains J (Funded reference cents)
-  pub defund : (reference : List ℕ) (cents : ℕ) →
-      (is_defund_repeat reference cents J ≡ true) ↔ Contains J (Defunded reference cents)
+  pub fund : (funding : Funding) →
+      (is_fund_repeat funding J ≡ true) ↔ Contains J (Funded funding)
+  pub defund : (funding : Funding) →
+      (is_defund_repeat funding J ≡ true) ↔ Contains J (Defunded funding)
 
 abbrev pub ARepeatIsTheVerySame : Type 0
 ARepeatIsTheVerySame = (J : List Event) → IsTheVerySame J
 
 -- the command gets this reply and keeps nothing
 pub record IsAnsweredOnly
-    (s : HubSettings) (who : ℕ) (J : List Event) (command : Command) (at : ℕ) (found : Option Outcome) (told : Reply)
+    (s : HubSettings) (who : ℕ) (J : List Event) (command : Command) (at : ℕ)
+    (found : Option Outcome) (told : Reply)
     : Type 0 where
   pub answer : reply s who J command at found ≡ Ok told
   pub kept_nothing : history_after s who J command at found ≡ J
@@ -42,34 +45,42 @@ pub record IsAnsweredOnly
 abbrev pub taken_reply : HubSettings → Submission → Reply
 taken_reply s x = TakenReply x.id (deadline_of s.limit x.stamp)
 
--- a repeat gets its kept reply at every reading, also when it is due, and nothing is full or short for it
-pub record IsAnsweredAgain (s : HubSettings) (who : ℕ) (J : List Event) (at : ℕ) (found : Option Outcome) : Type 0 where
+-- a repeat gets its kept reply at every reading, also when it is due, and nothing is full or short
+-- for it
+pub record IsAnsweredAgain (s : HubSettings) (who : ℕ) (J : List Event) (at : ℕ)
+    (found : Option Outcome) : Type 0 where
   pub submission : (x : Submission) → is_submission_repeat x J ≡ true → x.to ≢ who →
       IsAnsweredOnly s who J (Submit x) at found (taken_reply s x)
-  pub fund : (reference : List ℕ) (cents : ℕ) → is_fund_repeat reference cents J ≡ true →
-      IsAnsweredOnly s who J (Fund reference cents) at found (Done reference)
-  pub defund : (reference : List ℕ) (cents : ℕ) → is_defund_repeat reference cents J ≡ true →
-      IsAnsweredOnly s who J (Defund reference cents) at found (Done reference)
+  pub fund : (funding : Funding) → is_fund_repeat funding J ≡ true →
+      IsAnsweredOnly s who J (Fund funding) at found (Done funding.reference)
+  pub defund : (funding : Funding) → is_defund_repeat funding J ≡ true →
+      IsAnsweredOnly s who J (Defund funding) at found (Done funding.reference)
 
 abbrev pub ARepeatIsAnsweredAgain : Type 0
-ARepeatIsAnsweredAgain = (s : HubSettings) (who : ℕ) (J : List Event) (at : ℕ) (found : Option Outcome) →
+ARepeatIsAnsweredAgain =
+    (s : HubSettings) (who : ℕ) (J : List Event) (at : ℕ) (found : Option Outcome) →
     IsAnsweredAgain s who J at found
 
 -- the command gets this reply exactly where its history has the event afterwards
-abbrev pub IsToldWhereKept : HubSettings → ℕ → List Event → Command → ℕ → Option Outcome → Reply → Event → Type 0
+abbrev pub IsToldWhereKept : HubSettings → ℕ → List Event → Command → ℕ → Option Outcome → Reply →
+    Event → Type 0
 IsToldWhereKept s who J command at found told event =
-    (reply s who J command at found ≡ Ok told) ↔ Contains (history_after s who J command at found) event
+    (reply s who J command at found ≡ Ok told) ↔
+    Contains (history_after s who J command at found) event
 
 pub record AreToldWhereKept
     (s : HubSettings) (who : ℕ) (J : List Event) (at : ℕ) (found : Option Outcome) : Type 0 where
-  pub submission : (x : Submission) → IsToldWhereKept s who J (Submit x) at found (taken_reply s x) (taken_of x)
-  pub fund : (reference : List ℕ) (cents : ℕ) →
-      IsToldWhereKept s who J (Fund reference cents) at found (Done reference) (Funded reference cents)
-  pub defund : (reference : List ℕ) (cents : ℕ) →
-      IsToldWhereKept s who J (Defund reference cents) at found (Done reference) (Defunded reference cents)
+  pub submission : (x : Submission) →
+      IsToldWhereKept s who J (Submit x) at found (taken_reply s x) (taken_of x)
+  pub fund : (funding : Funding) →
+      IsToldWhereKept s who J (Fund funding) at found (Done funding.reference) (Funded funding)
+  pub defund : (funding : Funding) →
+      IsToldWhereKept s who J (Defund funding) at found (Done funding.reference) (Defunded funding)
 
 abbrev pub WhatIsToldIsKept : Type 0
-WhatIsToldIsKept = (s : HubSettings) (who : ℕ) (J : List Event) → IsSound s who J → (at : ℕ) (found : Option Outcome) →
+WhatIsToldIsKept =
+    (s : HubSettings) (who : ℕ) (J : List Event) → IsSound s who J →
+    (at : ℕ) (found : Option Outcome) →
     AreToldWhereKept s who J at found
 
 -- one event at most keeps a funding reference, and one at most takes an identifier

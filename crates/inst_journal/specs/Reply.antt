@@ -1,30 +1,41 @@
--- What a participant is answered, and what its history keeps of it: the first case that holds, in the one order of
--- the refusals. Confirmations, rejections and investigations are the scheme's (EPC004-16, chapter 4: processing
--- flow); the order, the repeats and the capacities are this hub's own choice.
-use Rattle.std.specs.Prelude.{ℕ, Bool, true, false, ◌==◌, nat_lt, nat_le, if◌then◌else◌, List, [], ◌∷◌, ◌++◌, length}
+-- What a participant is answered, and what its history keeps of it: the first case that holds, in
+-- the one order of the refusals. Confirmations, rejections and investigations are the scheme's
+-- (EPC004-16, chapter 4: processing flow); the order, the repeats and the capacities are this hub's
+-- own choice.
+use Rattle.std.specs.Prelude.{ℕ, Bool, true, false, ◌==◌, nat_lt, nat_le, if◌then◌else◌, List, []}
+use Rattle.std.specs.Prelude.{◌∷◌, ◌++◌, length}
 use Rattle.std.specs.Prelude.{take, drop, sum_by, Option, Some, None, Result, Ok, Err}
 use Rattle.std.specs.List.{filter_map}
 use Rattle.inst_base.specs.TimeLimit.{deadline_of, is_due, is_ahead}
 use Rattle.inst_base.specs.declared.fault.Fault.{Fault}
-use Rattle.inst_base.specs.declared.fault.Fault.TheVariants.{SelfTransfer, UnknownTransfer, Duplicate, StampAhead, Expired, Full, Shortage}
+use Rattle.inst_base.specs.declared.fault.Fault.TheVariants.{SelfTransfer, UnknownTransfer}
+use Rattle.inst_base.specs.declared.fault.Fault.TheVariants.{Duplicate, StampAhead, Expired, Full}
+use Rattle.inst_base.specs.declared.fault.Fault.TheVariants.{Shortage}
 use Rattle.inst_settings.specs.Settings.{HubSettings}
 use Rattle.inst_command.specs.declared.command.Command.{Command}
-use Rattle.inst_command.specs.declared.command.Command.TheVariants.{Fund, Defund, Submit, Confirm, Reject}
-use Rattle.inst_command.specs.declared.command.Command.TheVariants.{Investigate, Fetch, Position as AskPosition}
-use Rattle.inst_command.specs.declared.command.Command.TheVariants.{Statement as AskStatement}
+use Rattle.inst_command.specs.declared.command.Command.TheVariants.{Fund, Defund, Submit, Confirm}
+use Rattle.inst_command.specs.declared.command.Command.TheVariants.{Reject}
+use Rattle.inst_command.specs.declared.command.Command.TheVariants.{Investigate, Fetch, Query}
+use Rattle.inst_command.specs.declared.funding.Funding.{Funding}
+use Rattle.inst_command.specs.declared.query.Query.{Query as QueryValue}
+use Rattle.inst_command.specs.declared.query.Query.TheVariants.{Position as AskPosition}
+use Rattle.inst_command.specs.declared.query.Query.TheVariants.{Statement as AskStatement}
 use Rattle.inst_command.specs.declared.submission.Submission.{Submission}
 use Rattle.inst_command.specs.declared.entry.Entry.{Entry}
 use Rattle.inst_command.specs.declared.outcome.Outcome.{Outcome}
 use Rattle.inst_command.specs.declared.outcome.State.TheVariants.{Pending, Decided}
 use Rattle.inst_command.specs.declared.reply.Reply.{Reply}
-use Rattle.inst_command.specs.declared.reply.Reply.TheVariants.{Done, Taken as TakenReply, State, Inbox, Position, Statement}
+use Rattle.inst_command.specs.declared.reply.Reply.TheVariants.{Done, Taken as TakenReply, State}
+use Rattle.inst_command.specs.declared.reply.Reply.TheVariants.{Inbox, Position, Statement}
 use Rattle.inst_journal.specs.declared.event.Event.{Event}
 use Rattle.inst_journal.specs.declared.handle.Handled.{Handled}
-use Rattle.inst_journal.specs.declared.event.Event.TheVariants.{Funded, Defunded, Taken, Forwarded, Booked, Fetched}
+use Rattle.inst_journal.specs.declared.event.Event.TheVariants.{Funded, Defunded, Taken, Forwarded}
+use Rattle.inst_journal.specs.declared.event.Event.TheVariants.{Booked, Fetched}
 use Rattle.inst_journal.specs.Booked.{is_taken, is_forwarded, booked}
 use Rattle.inst_journal.specs.Money.{reserved, position, available}
 use Rattle.inst_journal.specs.Opened.{live_submissions}
-use Rattle.inst_journal.specs.Keys.{is_fund_repeat, is_defund_repeat, is_submission_repeat, has_reference, fundings}
+use Rattle.inst_journal.specs.Keys.{is_fund_repeat, is_defund_repeat, is_submission_repeat}
+use Rattle.inst_journal.specs.Keys.{has_reference, fundings}
 use Rattle.inst_journal.specs.Statement.{statement_part}
 
 -- a reply that leaves no event
@@ -49,15 +60,16 @@ funding reference new (Err fault) = Err fault
 funding reference new (Ok false) = answered (Done reference)
 funding reference new (Ok true) = new
 
-abbrev pub fund : HubSettings → List Event → List ℕ → ℕ → Result Handled Fault
-fund s J reference cents =
-    funding reference (keeping (Funded reference cents) (Done reference))
-    (is_new_funding s J reference (is_fund_repeat reference cents J))
+abbrev pub fund : HubSettings → List Event → Funding → Result Handled Fault
+fund s J f =
+    funding f.reference (keeping (Funded f) (Done f.reference))
+    (is_new_funding s J f.reference (is_fund_repeat f J))
 
-abbrev pub defund : HubSettings → List Event → List ℕ → ℕ → Result Handled Fault
-defund s J reference cents =
-    funding reference (if nat_lt (available J) cents then Err Shortage else keeping (Defunded reference cents) (Done reference))
-    (is_new_funding s J reference (is_defund_repeat reference cents J))
+abbrev pub defund : HubSettings → List Event → Funding → Result Handled Fault
+defund s J f =
+    funding f.reference (if nat_lt (available J) f.cents then Err Shortage
+    else keeping (Defunded f) (Done f.reference))
+    (is_new_funding s J f.reference (is_defund_repeat f J))
 
 abbrev pub submit : HubSettings → ℕ → List Event → ℕ → Submission → Result Handled Fault
 submit s who J at x =
@@ -71,10 +83,13 @@ submit s who J at x =
     else (if nat_lt (available J) x.cents then Err Shortage
     else keeping (Taken x.id x.to x.cents x.stamp) (TakenReply x.id deadline)))))))
 
--- what a side that has booked this much and finds this much is answered, and what it is while the transfer is pending
-abbrev pub standing : ℕ → List ℕ → Result Handled Fault → Option Outcome → Option Outcome → Result Handled Fault
+-- what a side that has booked this much and finds this much is answered, and what it is while the
+-- transfer is pending
+abbrev pub standing : ℕ → List ℕ → Result Handled Fault → Option Outcome → Option Outcome →
+    Result Handled Fault
 standing from id pending (Some outcome) found = answered (State from id (Decided outcome))
-standing from id pending None (Some outcome) = keeping (Booked from id outcome) (State from id (Decided outcome))
+standing from id pending None (Some outcome) =
+    keeping (Booked from id outcome) (State from id (Decided outcome))
 standing from id pending None None = pending
 
 -- that a transfer is pending
@@ -82,11 +97,14 @@ abbrev pub still_pending : ℕ → List ℕ → Result Handled Fault
 still_pending from id = answered (State from id Pending)
 
 -- an answer of the beneficiary to a transfer that was forwarded to it
-abbrev pub answer_forwarded : List Event → ℕ → List ℕ → Result Handled Fault → Option Outcome → Result Handled Fault
+abbrev pub answer_forwarded : List Event → ℕ → List ℕ → Result Handled Fault → Option Outcome →
+    Result Handled Fault
 answer_forwarded J from id pending found =
-    if is_forwarded from id J then standing from id pending (booked from id J) found else Err UnknownTransfer
+    if is_forwarded from id J then standing from id pending (booked from id J) found
+    else Err UnknownTransfer
 
--- a confirmation, which comes too late where it leaves the transfer pending: it was read in the margin
+-- a confirmation, which comes too late where it leaves the transfer pending: it was read in the
+-- margin
 abbrev pub confirm : List Event → ℕ → List ℕ → Option Outcome → Result Handled Fault
 confirm J from id found = answer_forwarded J from id (Err Expired) found
 
@@ -95,11 +113,13 @@ reject J from id found = answer_forwarded J from id (still_pending from id) foun
 
 abbrev pub investigate : ℕ → List Event → List ℕ → Option Outcome → Result Handled Fault
 investigate who J id found =
-    if is_taken id J then standing who id (still_pending who id) (booked who id J) found else Err UnknownTransfer
+    if is_taken id J then standing who id (still_pending who id) (booked who id J) found
+    else Err UnknownTransfer
 
 -- the entry of a forwarded transfer
 abbrev pub entry_of : Event → Option Entry
-entry_of (Forwarded from id cents deadline) = Some (record { from = from; id = id; cents = cents; deadline = deadline })
+entry_of (Forwarded from id cents deadline) =
+    Some (record { from = from; id = id; cents = cents; deadline = deadline })
 entry_of _ = None
 
 -- all forwarded transfers, in order of arrival
@@ -120,18 +140,23 @@ abbrev pub hand_out : List Entry → Result Handled Fault
 hand_out [] = answered (Inbox [])
 hand_out (entry ∷ entries) = keeping (Fetched (length (entry ∷ entries))) (Inbox (entry ∷ entries))
 
--- what a command of the participant `who`, read at `at`, is answered on its history, where the asker's transfer is
--- found to have this outcome
-abbrev pub handle : HubSettings → ℕ → List Event → Command → ℕ → Option Outcome → Result Handled Fault
-handle s who J (Fund reference cents) at found = fund s J reference cents
-handle s who J (Defund reference cents) at found = defund s J reference cents
+-- what a query is answered; it keeps nothing
+abbrev pub answer_query : List Event → QueryValue → Reply
+answer_query J AskPosition = Position (position J) (reserved J) (available J)
+answer_query J (AskStatement skip count) = Statement (statement_part J skip count)
+
+-- what a command of the participant `who`, read at `at`, is answered on its history, where the
+-- asker's transfer is found to have this outcome
+abbrev pub handle : HubSettings → ℕ → List Event → Command → ℕ → Option Outcome →
+    Result Handled Fault
+handle s who J (Fund funding) at found = fund s J funding
+handle s who J (Defund funding) at found = defund s J funding
 handle s who J (Submit submission) at found = submit s who J at submission
 handle s who J (Confirm from id) at found = confirm J from id found
 handle s who J (Reject from id reason) at found = reject J from id found
 handle s who J (Investigate id) at found = investigate who J id found
 handle s who J (Fetch max) at found = hand_out (take max (unread J))
-handle s who J AskPosition at found = answered (Position (position J) (reserved J) (available J))
-handle s who J (AskStatement skip count) at found = answered (Statement (statement_part J skip count))
+handle s who J (Query query) at found = answered (answer_query J query)
 
 -- the events that are kept of a command: one at most
 abbrev pub kept_event : Option Event → List Event
@@ -154,8 +179,13 @@ reply s who J command at found = told (handle s who J command at found)
 abbrev pub history_after : HubSettings → ℕ → List Event → Command → ℕ → Option Outcome → List Event
 history_after s who J command at found = J ++ kept_events (handle s who J command at found)
 
+-- whether the answer to the query is a copy of lines, which takes memory
+abbrev pub copies_lines : QueryValue → Bool
+copies_lines AskPosition = false
+copies_lines (AskStatement skip count) = true
+
 -- whether the reply to the command is a copy of unread entries or of lines, which takes memory
 abbrev pub copies : List Event → Command → Bool
 copies J (Fetch max) = nat_lt 0 (length (unread J))
-copies J (AskStatement skip count) = true
+copies J (Query query) = copies_lines query
 copies J _ = false

@@ -1,17 +1,21 @@
--- The commands of the worked rows of one participant's history and their short forms, at a hub of three participants
--- with two places and four fundings each, a time limit of ten seconds, and time stamps at most one second ahead. This
--- hub's own choice.
+-- The commands of the worked rows of one participant's history and their short forms, at a hub of
+-- three participants with two places and four fundings each, a time limit of ten seconds, and time
+-- stamps at most one second ahead. This hub's own choice.
 use Rattle.std.specs.Prelude.{ℕ, List, [], ◌∷◌, ◌++◌, codes, Option, Some, None, Result, Ok, Err}
 use Rattle.inst_base.specs.declared.fault.Fault.{Fault}
 use Rattle.inst_settings.specs.Settings.{HubSettings}
 use Rattle.inst_command.specs.declared.command.Command.{Command}
-use Rattle.inst_command.specs.declared.command.Command.TheVariants.{Fund, Defund, Submit, Confirm, Reject, Investigate}
-use Rattle.inst_command.specs.declared.command.Command.TheVariants.{Fetch, Position as AskPosition, Statement as AskStatement}
+use Rattle.inst_command.specs.declared.command.Command.TheVariants.{Fund, Defund, Submit, Confirm}
+use Rattle.inst_command.specs.declared.command.Command.TheVariants.{Reject, Investigate}
+use Rattle.inst_command.specs.declared.command.Command.TheVariants.{Fetch, Query}
+use Rattle.inst_command.specs.declared.query.Query.TheVariants.{Position as AskPosition}
+use Rattle.inst_command.specs.declared.query.Query.TheVariants.{Statement as AskStatement}
 use Rattle.inst_command.specs.declared.outcome.Outcome.{Outcome}
 use Rattle.inst_command.specs.declared.outcome.Outcome.TheVariants.{Accepted}
 use Rattle.inst_command.specs.declared.outcome.State.{State as StateValue}
 use Rattle.inst_command.specs.declared.reply.Reply.{Reply}
-use Rattle.inst_command.specs.declared.reply.Reply.TheVariants.{Done, Taken as TakenReply, State, Position}
+use Rattle.inst_command.specs.declared.reply.Reply.TheVariants.{Done, Taken as TakenReply, State}
+use Rattle.inst_command.specs.declared.reply.Reply.TheVariants.{Position}
 use Rattle.inst_journal.specs.declared.event.Event.{Event}
 use Rattle.inst_journal.specs.declared.event.Event.TheVariants.{Forwarded, Opened}
 use Rattle.inst_journal.specs.Reply.{reply, history_after}
@@ -54,7 +58,8 @@ answers who J (asked ∷ rest) =
 -- the history after the commands
 abbrev pub after : ℕ → List Event → List Asked → List Event
 after who J [] = J
-after who J (asked ∷ rest) = after who (history_after settings who J asked.command asked.at asked.found) rest
+after who J (asked ∷ rest) =
+    after who (history_after settings who J asked.command asked.at asked.found) rest
 
 -- the hub is opened again
 abbrev pub opened : List Event → List Event
@@ -64,10 +69,10 @@ abbrev pub ask : Command → ℕ → Option Outcome → Asked
 ask command at found = record { command = command; at = at; found = found }
 
 abbrev pub fund : List ℕ → ℕ → Asked
-fund reference cents = ask (Fund reference cents) 0 None
+fund reference cents = ask (Fund (record { reference = reference; cents = cents })) 0 None
 
 abbrev pub defund : List ℕ → ℕ → Asked
-defund reference cents = ask (Defund reference cents) 0 None
+defund reference cents = ask (Defund (record { reference = reference; cents = cents })) 0 None
 
 -- a transfer to B, stamped 1000
 abbrev pub submit : List ℕ → ℕ → ℕ → Asked
@@ -75,7 +80,8 @@ submit id cents at = ask (Submit (record { id = id; to = B; cents = cents; stamp
 
 -- a submission of more than A has
 abbrev pub too_much : ℕ → List ℕ → ℕ → ℕ → Asked
-too_much to id stamp at = ask (Submit (record { id = id; to = to; cents = 99999; stamp = stamp })) at None
+too_much to id stamp at =
+    ask (Submit (record { id = id; to = to; cents = 99999; stamp = stamp })) at None
 
 abbrev pub investigate : List ℕ → Option Outcome → Asked
 investigate id found = ask (Investigate id) 11000 found
@@ -84,10 +90,10 @@ abbrev pub fetch : ℕ → Asked
 fetch max = ask (Fetch max) 1500 None
 
 abbrev pub position : Asked
-position = ask AskPosition 1500 None
+position = ask (Query AskPosition) 1500 None
 
 abbrev pub statement : Asked
-statement = ask (AskStatement 0 10) 1500 None
+statement = ask (Query (AskStatement 0 10)) 1500 None
 
 abbrev pub done : List ℕ → Result Reply Fault
 done reference = Ok (Done reference)
@@ -128,17 +134,20 @@ two_places = after A accepted (submit (codes "T2") 100 1000 ∷ [])
 -- all four fundings are kept
 abbrev pub all_fundings : List Event
 all_fundings =
-    after A [] (fund (codes "F1") 10 ∷ fund (codes "F2") 20 ∷ fund (codes "F3") 30 ∷ fund (codes "F4") 40 ∷ [])
+    after A [] (fund (codes "F1") 10 ∷ fund (codes "F2") 20 ∷ fund (codes "F3") 30
+    ∷ fund (codes "F4") 40 ∷ [])
 
 -- three fundings and a defunding are kept
 abbrev pub all_with_a_defunding : List Event
 all_with_a_defunding =
-    after A [] (fund (codes "F1") 10 ∷ fund (codes "F2") 20 ∷ fund (codes "F3") 30 ∷ defund (codes "D1") 5 ∷ [])
+    after A [] (fund (codes "F1") 10 ∷ fund (codes "F2") 20 ∷ fund (codes "F3") 30
+    ∷ defund (codes "D1") 5 ∷ [])
 
 -- what came to B: two transfers of A's, and one of C's between them
 abbrev pub arrivals : List Event
 arrivals =
-    Forwarded A (codes "T1") 100 11000 ∷ Forwarded C (codes "T1") 200 11500 ∷ Forwarded A (codes "T2") 300 11200 ∷ []
+    Forwarded A (codes "T1") 100 11000 ∷ Forwarded C (codes "T1") 200 11500
+    ∷ Forwarded A (codes "T2") 300 11200 ∷ []
 
 -- a confirmation and a rejection of A's transfer by B, where nothing is found
 abbrev pub confirmation : Asked

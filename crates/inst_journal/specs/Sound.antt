@@ -1,28 +1,32 @@
--- Which lists of events are a participant's history: each event fits the events before it. It says what a slot keeps
--- true, and is this hub's own choice.
-use Rattle.std.specs.Prelude.{◌≡◌, ◌≢◌, ℕ, ◌<◌, ◌≤◌, true, false, List, [], ◌∷◌, ◌++◌, length, None, ◌⊎◌}
+-- Which lists of events are a participant's history: each event fits the events before it. It says
+-- what a slot keeps true, and is this hub's own choice.
+use Rattle.std.specs.Prelude.{◌≡◌, ◌≢◌, ℕ, ◌<◌, ◌≤◌, true, false, List, [], ◌∷◌, ◌++◌, length, None}
+use Rattle.std.specs.Prelude.{◌⊎◌}
 use Rattle.inst_base.specs.Moment.{is_moment}
 use Rattle.inst_base.specs.TimeLimit.{deadline_of}
 use Rattle.inst_settings.specs.Settings.{HubSettings, is_participant, is_within_ceiling}
 use Rattle.inst_command.specs.Ask.{is_count}
+use Rattle.inst_command.specs.declared.funding.Funding.{Funding}
 use Rattle.inst_journal.specs.declared.event.Event.{Event}
-use Rattle.inst_journal.specs.declared.event.Event.TheVariants.{Funded, Defunded, Taken, Forwarded, Booked, Fetched, Opened}
+use Rattle.inst_journal.specs.declared.event.Event.TheVariants.{Funded, Defunded, Taken, Forwarded}
+use Rattle.inst_journal.specs.declared.event.Event.TheVariants.{Booked, Fetched, Opened}
 use Rattle.inst_journal.specs.Booked.{is_taken, is_forwarded, booked}
 use Rattle.inst_journal.specs.Money.{available}
 use Rattle.inst_journal.specs.Opened.{HasOpeningsLeft, live_submissions, live_forwarded}
 use Rattle.inst_journal.specs.Keys.{has_reference, fundings}
 use Rattle.inst_journal.specs.Reply.{unread}
 
-pub record FundedFits (s : HubSettings) (J : List Event) (reference : List ℕ) (cents : ℕ) : Type 0 where
-  pub new : has_reference reference J ≡ false
+pub record FundedFits (s : HubSettings) (J : List Event) (funding : Funding) : Type 0 where
+  pub new : has_reference funding.reference J ≡ false
   pub place : fundings J < s.fundings
-  pub amount : is_within_ceiling s cents ≡ true
+  pub amount : is_within_ceiling s funding.cents ≡ true
 
-pub record DefundedFits (s : HubSettings) (J : List Event) (reference : List ℕ) (cents : ℕ) : Type 0 where
-  pub funding : FundedFits s J reference cents
-  pub cover : cents ≤ available J
+pub record DefundedFits (s : HubSettings) (J : List Event) (f : Funding) : Type 0 where
+  pub funding : FundedFits s J f
+  pub cover : f.cents ≤ available J
 
-pub record TakenFits (s : HubSettings) (who : ℕ) (J : List Event) (id : List ℕ) (to cents stamp : ℕ) : Type 0 where
+pub record TakenFits (s : HubSettings) (who : ℕ) (J : List Event) (id : List ℕ) (to cents stamp : ℕ)
+    : Type 0 where
   pub beneficiary : is_participant s to ≡ true
   pub another : to ≢ who
   pub deadline : is_moment (deadline_of s.limit stamp) ≡ true
@@ -31,7 +35,8 @@ pub record TakenFits (s : HubSettings) (who : ℕ) (J : List Event) (id : List �
   pub amount : is_within_ceiling s cents ≡ true
   pub cover : cents ≤ available J
 
-pub record ForwardedFits (s : HubSettings) (who : ℕ) (J : List Event) (from : ℕ) (id : List ℕ) : Type 0 where
+pub record ForwardedFits (s : HubSettings) (who : ℕ) (J : List Event) (from : ℕ) (id : List ℕ) :
+    Type 0 where
   pub originator : is_participant s from ≡ true
   pub another : from ≢ who
   pub new : is_forwarded from id J ≡ false
@@ -50,8 +55,8 @@ pub record OpenedFits (J : List Event) : Type 0 where
 
 -- the event may come after these events
 abbrev pub Fits : HubSettings → ℕ → List Event → Event → Type 0
-Fits s who J (Funded reference cents) = FundedFits s J reference cents
-Fits s who J (Defunded reference cents) = DefundedFits s J reference cents
+Fits s who J (Funded funding) = FundedFits s J funding
+Fits s who J (Defunded funding) = DefundedFits s J funding
 Fits s who J (Taken id to cents stamp) = TakenFits s who J id to cents stamp
 Fits s who J (Forwarded from id cents deadline) = ForwardedFits s who J from id
 Fits s who J (Booked from id outcome) = BookedFits who J from id
@@ -61,7 +66,8 @@ Fits s who J Opened = OpenedFits J
 -- each of the events fits the front and those before it
 abbrev pub FitAfter : HubSettings → ℕ → List Event → List Event → Type 0
 FitAfter s who front [] = Unit {0}
-FitAfter s who front (event ∷ events) = Fits s who front event × FitAfter s who (front ++ event ∷ []) events
+FitAfter s who front (event ∷ events) =
+    Fits s who front event × FitAfter s who (front ++ event ∷ []) events
 
 -- a history of the participant `who`
 abbrev pub IsSound : HubSettings → ℕ → List Event → Type 0

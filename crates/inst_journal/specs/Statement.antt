@@ -1,11 +1,16 @@
--- A participant's statement: an entry for each funding, defunding and accepted transfer, with the position after
--- it. What a statement shows is this hub's own choice, after an account statement's entries and balances.
-use Rattle.std.specs.Prelude.{ℕ, ◌+◌, if◌then◌else◌, List, [], ◌∷◌, ◌++◌, take, drop, Option, Some, None}
+-- A participant's statement: an entry for each funding, defunding and accepted transfer, with the
+-- position after it. What a statement shows is this hub's own choice, after an account statement's
+-- entries and balances.
+use Rattle.std.specs.Prelude.{ℕ, ◌+◌, if◌then◌else◌, List, [], ◌∷◌, ◌++◌, take, drop, Option, Some}
+use Rattle.std.specs.Prelude.{None}
 use Rattle.inst_command.specs.declared.outcome.Outcome.TheVariants.{Accepted, Rejected, TimedOut}
 use Rattle.inst_command.specs.declared.line.Line.{Line}
-use Rattle.inst_command.specs.declared.line.LineKind.TheVariants.{Funded as FundedKind, Defunded as DefundedKind, Received, Paid}
+use Rattle.inst_command.specs.declared.line.LineKind.TheVariants.{Funded as FundedKind}
+use Rattle.inst_command.specs.declared.line.LineKind.TheVariants.{Defunded as DefundedKind}
+use Rattle.inst_command.specs.declared.line.LineKind.TheVariants.{Received, Paid}
 use Rattle.inst_journal.specs.declared.event.Event.{Event}
-use Rattle.inst_journal.specs.declared.event.Event.TheVariants.{Funded, Defunded, Taken, Forwarded, Booked, Fetched, Opened}
+use Rattle.inst_journal.specs.declared.event.Event.TheVariants.{Funded, Defunded, Taken, Forwarded}
+use Rattle.inst_journal.specs.declared.event.Event.TheVariants.{Booked, Fetched, Opened}
 use Rattle.inst_journal.specs.Booked.{first_some, takes, forwards, is_forwarded}
 use Rattle.inst_journal.specs.Opened.{carried, current}
 use Rattle.inst_journal.specs.Money.{position}
@@ -14,7 +19,15 @@ use Rattle.inst_journal.specs.Money.{position}
 abbrev pub received : ℕ → ℕ → ℕ → List ℕ → Event → Option Line
 received number after from id (Forwarded other_from other cents deadline) =
     if forwards from id (Forwarded other_from other cents deadline)
-    then Some (record { number = number; kind = Received; other = Some from; id = id; cents = cents; position = after })
+    then Some (record {
+      number = number;
+      kind = Received;
+      other = Some from;
+      id = id;
+      cents =
+          cents;
+      position = after;
+    })
     else None
 received number after from id _ = None
 
@@ -22,21 +35,47 @@ received number after from id _ = None
 abbrev pub paid : ℕ → ℕ → List ℕ → Event → Option Line
 paid number after id (Taken other to cents stamp) =
     if takes id (Taken other to cents stamp)
-    then Some (record { number = number; kind = Paid; other = Some to; id = id; cents = cents; position = after })
+    then Some (record {
+      number = number;
+      kind = Paid;
+      other = Some to;
+      id = id;
+      cents =
+          cents;
+      position = after;
+    })
     else None
 paid number after id _ = None
 
--- the line of an accepted transfer of the history J, which is forwarded or else the participant's own
+-- the line of an accepted transfer of the history J, which is forwarded or else the participant's
+-- own
 abbrev pub accepted : List Event → ℕ → ℕ → ℕ → List ℕ → Option Line
 accepted J number after from id =
-    if is_forwarded from id J then first_some (received number after from id) J else first_some (paid number after id) J
+    if is_forwarded from id J then first_some (received number after from id) J
+    else first_some (paid number after id) J
 
 -- the line of an event in the history J, with this number and this position after it
 abbrev pub line_of : List Event → ℕ → ℕ → Event → Option Line
-line_of J number after (Funded reference cents) =
-    Some (record { number = number; kind = FundedKind; other = None; id = reference; cents = cents; position = after })
-line_of J number after (Defunded reference cents) =
-    Some (record { number = number; kind = DefundedKind; other = None; id = reference; cents = cents; position = after })
+line_of J number after (Funded funding) =
+    Some (record {
+      number = number;
+      kind = FundedKind;
+      other = None;
+      id = funding.reference;
+      cents =
+          funding.cents;
+      position = after;
+    })
+line_of J number after (Defunded funding) =
+    Some (record {
+      number = number;
+      kind = DefundedKind;
+      other = None;
+      id =
+          funding.reference;
+      cents = funding.cents;
+      position = after;
+    })
 line_of J number after (Booked from id Accepted) = accepted J number after from id
 line_of J number after (Booked from id (Rejected reason)) = None
 line_of J number after (Booked from id TimedOut) = None
@@ -50,8 +89,8 @@ abbrev pub with_line : Option Line → List Line → List Line → List Line
 with_line None numbered_on next = numbered_on
 with_line (Some line) numbered_on next = line ∷ next
 
--- the lines of the events after a front of the history J, numbered from `number`, each with the position of the
--- history up to and with its event
+-- the lines of the events after a front of the history J, numbered from `number`, each with the
+-- position of the history up to and with its event
 abbrev pub lines_after : List Event → List Event → ℕ → List Event → List Line
 lines_after J front number [] = []
 lines_after J front number (event ∷ events) =

@@ -1,6 +1,6 @@
--- The plain sums over a participant's history, in cents. Funding in advance is this hub's own choice;
--- a transfer counts for either side once that side has booked it accepted (EPC004-16, chapter 4: settlement
--- in the processing flow).
+-- The plain sums over a participant's history, in cents. Funding in advance is this hub's own
+-- choice; a transfer counts for either side once that side has booked it accepted (EPC004-16,
+-- chapter 4: settlement in the processing flow).
 use Rattle.std.specs.Prelude.{ℕ, ℤ, pos, ◌-ℤ◌, List, Option, Some, None, sum_by}
 use Rattle.inst_command.specs.declared.outcome.Outcome.{Outcome}
 use Rattle.inst_command.specs.declared.outcome.Outcome.TheVariants.{Accepted, Rejected, TimedOut}
@@ -10,12 +10,12 @@ use Rattle.inst_journal.specs.Booked.{booked, own_booked}
 
 -- what a Funded event adds
 abbrev pub funding : Event → ℕ
-funding (Funded reference cents) = cents
+funding (Funded f) = f.cents
 funding _ = 0
 
 -- what a Defunded event takes away
 abbrev pub defunding : Event → ℕ
-defunding (Defunded reference cents) = cents
+defunding (Defunded funding) = funding.cents
 defunding _ = 0
 
 -- all that was funded

@@ -1,9 +1,11 @@
--- When a command comes to be kept: exactly where nothing stands against it. A submission is taken before its deadline
--- (EPC004-16, chapter 4: time cycle); the other conditions are this hub's own choice.
+-- When a command comes to be kept: exactly where nothing stands against it. A submission is taken
+-- before its deadline (EPC004-16, chapter 4: time cycle); the other conditions are this hub's own
+-- choice.
 use Rattle.std.specs.Prelude.{◌≡◌, ◌≢◌, ◌↔◌, ℕ, ◌+◌, ◌<◌, ◌≤◌, false, List, [], ◌∷◌, ◌++◌, Option}
 use Rattle.inst_settings.specs.Settings.{HubSettings}
 use Rattle.inst_command.specs.declared.command.Command.{Command}
 use Rattle.inst_command.specs.declared.command.Command.TheVariants.{Fund, Defund, Submit}
+use Rattle.inst_command.specs.declared.funding.Funding.{Funding}
 use Rattle.inst_command.specs.declared.outcome.Outcome.{Outcome}
 use Rattle.inst_command.specs.declared.submission.Submission.{Submission}
 use Rattle.inst_journal.specs.declared.event.Event.{Event}
@@ -25,27 +27,32 @@ pub record MayFund (s : HubSettings) (J : List Event) (reference : List ℕ) : T
   pub place : fundings J < s.fundings
 
 -- a defund command may be kept: the same, and its amount is available
-pub record MayDefund (s : HubSettings) (J : List Event) (reference : List ℕ) (cents : ℕ) : Type 0 where
-  pub funding : MayFund s J reference
-  pub cover : cents ≤ available J
+pub record MayDefund (s : HubSettings) (J : List Event) (f : Funding) : Type 0 where
+  pub funding : MayFund s J f.reference
+  pub cover : f.cents ≤ available J
 
--- a submission may be taken: it is to another participant, its identifier is new, its stamp is at most `ahead` after
--- the reading, the reading is before its deadline, a place is free and its amount is available
-pub record MayTake (s : HubSettings) (who : ℕ) (J : List Event) (x : Submission) (at : ℕ) : Type 0 where
-  pub another : x.to ≢ who
-  pub new : is_taken x.id J ≡ false
-  pub stamp : x.stamp ≤ at + s.ahead
-  pub in_time : at < x.stamp + s.limit
-  pub place : live_submissions who J < s.places
-  pub cover : x.cents ≤ available J
+-- a submission may be taken: it is to another participant, its identifier is new, its stamp is at
+-- most `ahead` after the reading, the reading is before its deadline, a place is free and its
+-- amount is available
+pub record MayTake (s : HubSettings) (who : ℕ) (J : List Event) (x : Submission) (at : ℕ) : Type 0
+  where
+    pub another : x.to ≢ who
+    pub new : is_taken x.id J ≡ false
+    pub stamp : x.stamp ≤ at + s.ahead
+    pub in_time : at < x.stamp + s.limit
+    pub place : live_submissions who J < s.places
+    pub cover : x.cents ≤ available J
 
-pub record IsKeptWhereItMay (s : HubSettings) (who : ℕ) (J : List Event) (at : ℕ) (found : Option Outcome) : Type 0 where
-  pub submission : (x : Submission) → IsKept s who J (Submit x) at found (taken_of x) ↔ MayTake s who J x at
-  pub fund : (reference : List ℕ) (cents : ℕ) →
-      IsKept s who J (Fund reference cents) at found (Funded reference cents) ↔ MayFund s J reference
-  pub defund : (reference : List ℕ) (cents : ℕ) →
-      IsKept s who J (Defund reference cents) at found (Defunded reference cents) ↔ MayDefund s J reference cents
+pub record IsKeptWhereItMay (s : HubSettings) (who : ℕ) (J : List Event) (at : ℕ)
+    (found : Option Outcome) : Type 0 where
+  pub submission : (x : Submission) → IsKept s who J (Submit x) at found (taken_of x) ↔
+      MayTake s who J x at
+  pub fund : (funding : Funding) →
+      IsKept s who J (Fund funding) at found (Funded funding) ↔ MayFund s J funding.reference
+  pub defund : (funding : Funding) →
+      IsKept s who J (Defund funding) at found (Defunded funding) ↔ MayDefund s J funding
 
 abbrev pub ACommandIsKeptWhereItMay : Type 0
-ACommandIsKeptWhereItMay = (s : HubSettings) (who : ℕ) (J : List Event) (at : ℕ) (found : Option Outcome) →
+ACommandIsKeptWhereItMay =
+    (s : HubSettings) (who : ℕ) (J : List Event) (at : ℕ) (found : Option Outcome) →
     IsKeptWhereItMay s who J at found

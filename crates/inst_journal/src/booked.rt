@@ -1,7 +1,8 @@
 //! Which transfers a history has taken, forwarded and booked.
 ghost use Rattle.std.specs.Prelude.{◌≡◌, ◌&&◌, not};
 ghost use Rattle.inst_settings.specs.Settings.{same_text};
-ghost use Rattle.inst_journal.specs.Booked.{is_taken, is_forwarded, books, booked, books_own, own_booked};
+ghost use Rattle.inst_journal.specs.Booked.{is_taken, is_forwarded, books, booked, books_own};
+ghost use Rattle.inst_journal.specs.Booked.{own_booked};
 ghost use Rattle.inst_journal.specs.Opened.{takes_live, live_submissions};
 
 use crate::Event;
@@ -54,7 +55,8 @@ pub(crate) fn booked(events: &[Event], from: u8, id: &Ident) -> Option<Outcome>
 
 /// Whether a booked transfer is the participant's own with this identifier.
 fn is_own(events: &[Event], from: u8, other: &Ident, id: &Ident) -> bool
-    ensures { result ≡ (same_text other.now id.now && not (is_forwarded from other.now events.now)) }
+    ensures { result ≡ (same_text other.now id.now
+        && not (is_forwarded from other.now events.now)) }
 {
     other == id && !is_forwarded(events, from, other)
 }

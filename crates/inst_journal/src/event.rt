@@ -1,19 +1,13 @@
 use inst_base::{Cents, Ident, Moment};
-use inst_command::Outcome;
+use inst_command::{Funding, Outcome};
 
 /// What one participant's history keeps. Repeats, queries and refused commands leave no event.
 #[derive(Clone, Copy, Debug, PartialEq, Eq)]
 pub enum Event {
     /// The participant's net funding was raised.
-    Funded {
-        reference: Ident,
-        cents: Cents,
-    },
+    Funded(Funding),
     /// The participant's net funding was lowered.
-    Defunded {
-        reference: Ident,
-        cents: Cents,
-    },
+    Defunded(Funding),
     /// A submission of the participant's was taken, and its amount reserved.
     Taken {
         id: Ident,

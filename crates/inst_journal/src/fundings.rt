@@ -6,25 +6,26 @@ use crate::Event;
 use crate::handle::Handled;
 use crate::keys::{fundings, has_reference, is_defund_repeat, is_fund_repeat};
 use crate::sums::available;
-use inst_base::{Cents, Fault, Ident};
-use inst_command::Reply;
+use inst_base::{Fault, Ident};
+use inst_command::{Funding, Reply};
 use inst_settings::Settings;
 
-/// Raises the net funding: `Duplicate` where the reference is kept with other contents, `Full` where
-/// all fundings are used.
+/// Raises the net funding: `Duplicate` where the reference is kept with other contents, `Full`
+/// where all fundings are used.
 pub(crate) fn fund(
     settings: &Settings,
     events: &[Event],
-    reference: Ident,
-    cents: Cents,
+    funding: &Funding,
 ) -> Result<Handled, Fault>
-    ensures { result ≡ fund settings.now events.now reference cents }
+    ensures { result ≡ fund settings.now events.now funding.now }
 {
-    let is_repeat = is_fund_repeat(events, &reference, cents);
-    let is_new = is_new_funding(settings, events, &reference, is_repeat)?;
-    let event = Event::Funded { reference, cents };
+    let is_repeat = is_fund_repeat(events, funding);
+    let is_new = is_new_funding(settings, events, &funding.reference, is_repeat)?;
+    let event = Event::Funded(*funding);
     Ok(Handled {
-        reply: Reply::Done { reference },
+        reply: Reply::Done {
+            reference: funding.reference,
+        },
         kept: is_new.then_some(event),
     })
 }
@@ -33,19 +34,20 @@ pub(crate) fn fund(
 pub(crate) fn defund(
     settings: &Settings,
     events: &[Event],
-    reference: Ident,
-    cents: Cents,
+    funding: &Funding,
 ) -> Result<Handled, Fault>
-    ensures { result ≡ defund settings.now events.now reference cents }
+    ensures { result ≡ defund settings.now events.now funding.now }
 {
-    let is_repeat = is_defund_repeat(events, &reference, cents);
-    let is_new = is_new_funding(settings, events, &reference, is_repeat)?;
-    if is_new && u128::from(cents.get()) > available(events) {
+    let is_repeat = is_defund_repeat(events, funding);
+    let is_new = is_new_funding(settings, events, &funding.reference, is_repeat)?;
+    if is_new && u128::from(funding.cents.get()) > available(events) {
         return Err(Fault::Shortage);
     }
-    let event = Event::Defunded { reference, cents };
+    let event = Event::Defunded(*funding);
     Ok(Handled {
-        reply: Reply::Done { reference },
+        reply: Reply::Done {
+            reference: funding.reference,
+        },
         kept: is_new.then_some(event),
     })
 }

@@ -12,7 +12,7 @@ use crate::queries::{fetch, position};
 use crate::statement::statement;
 use crate::transfers::{confirm, investigate, reject, submit};
 use inst_base::{Fault, Moment};
-use inst_command::{Command, Outcome, Reply};
+use inst_command::{Command, Outcome, Query, Reply};
 use inst_settings::Settings;
 use std::alloc::Global;
 
@@ -25,9 +25,9 @@ pub struct Handled {
 
 /// What a command of the participant `who`, read at `at`, is answered on its events, and the event
 /// that they keep of it, where its transfer is found to have the outcome `found`. Refused by the
-/// first of `SelfTransfer` to `Shortage` that holds; only a statement, and a fetch where something is
-/// unread, may answer `Memory`. Each call walks the events, some of them more than once.
-#[tactic(auto, using(crate::proofs::Keeping::history_after_sound))]
+/// first of `SelfTransfer` to `Shortage` that holds; only a statement, and a fetch where something
+/// is unread, may answer `Memory`. Each call walks the events, some of them more than once.
+#[tactic(auto, using(crate::proofs::KeptEventsFit::history_after_sound))]
 pub fn handle_command(
     alloc: Global,
     settings: &Settings,
@@ -41,24 +41,26 @@ pub fn handle_command(
     requires sound { IsSound settings.now who events.now }
     requires fits { command_fits settings.now command.now ≡ true }
     ensures reply { IsUnlessMemory result (handle settings.now who events.now command.now at found) }
-    ensures no_memory { copies events.now command.now ≡ false → result ≡ handle settings.now who events.now command.now at found }
+    ensures no_memory { copies events.now command.now ≡ false →
+        result ≡ handle settings.now who events.now command.now at found }
 
     // With the kept event the history is sound again.
-    ensures sound { IsSound settings.now who (history_after settings.now who events.now command.now at found) }
+    ensures sound { IsSound settings.now who
+        (history_after settings.now who events.now command.now at found) }
 {
     match command {
-        Command::Fund { reference, cents } => fund(settings, events, *reference, *cents),
-        Command::Defund { reference, cents } => defund(settings, events, *reference, *cents),
+        Command::Fund(funding) => fund(settings, events, funding),
+        Command::Defund(funding) => defund(settings, events, funding),
         Command::Submit(submission) => submit(settings, who, events, at, submission),
         Command::Confirm { from, id } => confirm(events, *from, *id, found),
         Command::Reject { from, id, .. } => reject(events, *from, *id, found),
         Command::Investigate { id } => investigate(who, events, *id, found),
         Command::Fetch { max } => fetch(alloc, settings, who, events, *max),
-        Command::Position => Ok(Handled {
+        Command::Query(Query::Position) => Ok(Handled {
             reply: position(settings, who, events),
             kept: None,
         }),
-        Command::Statement { skip, count } => {
+        Command::Query(Query::Statement { skip, count }) => {
             statement(alloc, settings, who, events, *skip, *count)
         }
     }

@@ -1,29 +1,26 @@
 //! When a command is a repeat of a kept one, and which keys are kept.
 ghost use Rattle.std.specs.Prelude.{◌≡◌};
-ghost use Rattle.inst_journal.specs.Keys.{is_fund_repeat, is_defund_repeat, is_this_submission, is_submission_repeat};
+ghost use Rattle.inst_journal.specs.Keys.{is_fund_repeat, is_defund_repeat, is_this_submission};
+ghost use Rattle.inst_journal.specs.Keys.{is_submission_repeat};
 ghost use Rattle.inst_journal.specs.Keys.{refers, has_reference, fundings};
 
 use crate::Event;
 use crate::opened::current;
-use inst_base::{Cents, Ident};
-use inst_command::Submission;
+use inst_base::Ident;
+use inst_command::{Funding, Submission};
 
 /// Whether the history has this very funding.
-pub(crate) fn is_fund_repeat(events: &[Event], reference: &Ident, cents: Cents) -> bool
-    ensures { result ≡ is_fund_repeat reference.now cents events.now }
+pub(crate) fn is_fund_repeat(events: &[Event], funding: &Funding) -> bool
+    ensures { result ≡ is_fund_repeat funding.now events.now }
 {
-    events.iter().any(
-        |event| matches!(event, Event::Funded { reference: other, cents: amount } if other == reference && *amount == cents),
-    )
+    events.iter().any(|event| matches!(event, Event::Funded(other) if other == funding))
 }
 
 /// Whether the history has this very defunding.
-pub(crate) fn is_defund_repeat(events: &[Event], reference: &Ident, cents: Cents) -> bool
-    ensures { result ≡ is_defund_repeat reference.now cents events.now }
+pub(crate) fn is_defund_repeat(events: &[Event], funding: &Funding) -> bool
+    ensures { result ≡ is_defund_repeat funding.now events.now }
 {
-    events.iter().any(
-        |event| matches!(event, Event::Defunded { reference: other, cents: amount } if other == reference && *amount == cents),
-    )
+    events.iter().any(|event| matches!(event, Event::Defunded(other) if other == funding))
 }
 
 /// Whether the history has this very submission.
@@ -67,14 +64,7 @@ fn refers(event: &Event, reference: &Ident) -> bool
     ensures { result ≡ refers reference.now event.now }
 {
     match event {
-        Event::Funded {
-            reference: other,
-            ..
-        }
-        | Event::Defunded {
-            reference: other,
-            ..
-        } => { other == reference }
+        Event::Funded(funding) | Event::Defunded(funding) => funding.reference == *reference,
         _ => false,
     }
 }
@@ -85,6 +75,6 @@ pub(crate) fn fundings(events: &[Event]) -> usize
 {
     current(events)
         .iter()
-        .filter(|event| matches!(event, Event::Funded { .. } | Event::Defunded { .. }))
+        .filter(|event| matches!(event, Event::Funded(_) | Event::Defunded(_)))
         .count()
 }

@@ -1,15 +1,19 @@
-//! The laws of one participant's books. Each is a function without a body whose contract is the law, so that the
-//! check proves it.
+//! The laws of one participant's books. Each is a function without a body whose contract is the
+//! law, so that the check proves it.
 ghost use Rattle.inst_journal.specs.Laws.{NothingIsOverdrawn, EachTakenAmountIsInOnePlace};
-ghost use Rattle.inst_journal.specs.Laws.{AnOwnBookingHasTheOwnNumber, ATakenAmountIsWhereItIsBooked};
+ghost use Rattle.inst_journal.specs.Laws.{AnOwnBookingHasTheOwnNumber};
+ghost use Rattle.inst_journal.specs.Laws.{ATakenAmountIsWhereItIsBooked};
 ghost use Rattle.inst_journal.specs.Laws.{ATransferIsBookedOnce, WhatIsKeptFits};
 ghost use Rattle.inst_journal.specs.Pages.{AnInboxIsInOrderOfArrival, AFetchHandsOutTheNextPage};
-ghost use Rattle.inst_journal.specs.Repeats.{ARepeatIsTheVerySame, ARepeatIsAnsweredAgain, WhatIsToldIsKept, AKeyIsKeptOnce};
+ghost use Rattle.inst_journal.specs.Repeats.{ARepeatIsTheVerySame, ARepeatIsAnsweredAgain};
+ghost use Rattle.inst_journal.specs.Repeats.{WhatIsToldIsKept, AKeyIsKeptOnce};
 ghost use Rattle.inst_journal.specs.Taking.{ACommandIsKeptWhereItMay};
 ghost use Rattle.inst_journal.specs.Answering.{APartyIsToldTheOutcome, OthersAreToldNothing};
 ghost use Rattle.inst_journal.specs.Lines.{LinesCountFromOne, AnOpeningBeginsAStatement};
-ghost use Rattle.inst_journal.specs.Lines.{AStatementLeadsToThePosition, AStatementIsReadByParts, ALineTellsAnEvent};
-ghost use Rattle.inst_journal.specs.Living.{TheLiveHavePlaces, AnOpeningKeepsTheBooks, AnOpeningGivesBack};
+ghost use Rattle.inst_journal.specs.Lines.{AStatementLeadsToThePosition, AStatementIsReadByParts};
+ghost use Rattle.inst_journal.specs.Lines.{ALineTellsAnEvent};
+ghost use Rattle.inst_journal.specs.Living.{TheLiveHavePlaces, AnOpeningKeepsTheBooks};
+ghost use Rattle.inst_journal.specs.Living.{AnOpeningGivesBack};
 
 /// No position and nothing available is ever below 0.
 pub fn nothing_is_overdrawn()
@@ -26,7 +30,8 @@ pub fn an_own_booking_has_the_own_number()
     ensures { AnOwnBookingHasTheOwnNumber }
 {}
 
-/// A taken amount is reserved until an outcome is booked, debited if it is accepted, and free again otherwise.
+/// A taken amount is reserved until an outcome is booked, debited if it is accepted, and free again
+/// otherwise.
 pub fn a_taken_amount_is_where_it_is_booked()
     ensures { ATakenAmountIsWhereItIsBooked }
 {}
@@ -41,13 +46,15 @@ pub fn what_is_kept_fits()
     ensures { WhatIsKeptFits }
 {}
 
-/// The pages of an inbox, one after another, are the arrivals in order; an empty page comes only at their end.
+/// The pages of an inbox, one after another, are the arrivals in order; an empty page comes only at
+/// their end.
 pub fn an_inbox_is_read_in_order()
     ensures arrivals { AnInboxIsInOrderOfArrival }
     ensures pages { AFetchHandsOutTheNextPage }
 {}
 
-/// A repeat is a command whose contents are all kept. It gets its reply again, late, full or short, and keeps nothing.
+/// A repeat is a command whose contents are all kept. It gets its reply again, late, full or short,
+/// and keeps nothing.
 pub fn a_repeat_is_answered_again()
     ensures same { ARepeatIsTheVerySame }
     ensures answered { ARepeatIsAnsweredAgain }
@@ -58,14 +65,15 @@ pub fn what_is_told_is_kept()
     ensures { WhatIsToldIsKept }
 {}
 
-/// A submission is taken, and a fund or defund command done anew, exactly where nothing stands against it: the key is
-/// new, there is room, the amount is available, and a submission is read before its deadline.
+/// A submission is taken, and a fund or defund command done anew, exactly where nothing stands
+/// against it: the key is new, there is room, the amount is available, and a submission is read
+/// before its deadline.
 pub fn a_command_is_kept_where_it_may()
     ensures { ACommandIsKeptWhereItMay }
 {}
 
-/// Who confirms, rejects or investigates a transfer of its own is told the outcome that it has booked, else the one
-/// that is found, and has this booked; others are told nothing.
+/// Who confirms, rejects or investigates a transfer of its own is told the outcome that it has
+/// booked, else the one that is found, and has this booked; others are told nothing.
 pub fn a_party_is_told_the_outcome()
     ensures party { APartyIsToldTheOutcome }
     ensures others { OthersAreToldNothing }
@@ -76,7 +84,8 @@ pub fn a_key_is_kept_once()
     ensures { AKeyIsKeptOnce }
 {}
 
-/// A statement's lines count from 1 since the last opening and lead from the position then to the position now.
+/// A statement's lines count from 1 since the last opening and lead from the position then to the
+/// position now.
 pub fn a_statement_leads_to_the_position()
     ensures numbers { LinesCountFromOne }
     ensures anew { AnOpeningBeginsAStatement }
@@ -84,8 +93,8 @@ pub fn a_statement_leads_to_the_position()
     ensures parts { AStatementIsReadByParts }
 {}
 
-/// A line tells what the books have: a funding, a defunding, or a transfer that is booked accepted, with the other
-/// participant, the key and the amount.
+/// A line tells what the books have: a funding, a defunding, or a transfer that is booked accepted,
+/// with the other participant, the key and the amount.
 pub fn a_line_tells_an_event()
     ensures { ALineTellsAnEvent }
 {}
@@ -95,8 +104,8 @@ pub fn the_live_have_places()
     ensures { TheLiveHavePlaces }
 {}
 
-/// An opening leaves the money and the keys as they were. What is booked lives no more, and all fundings are to be had
-/// again.
+/// An opening leaves the money and the keys as they were. What is booked lives no more, and all
+/// fundings are to be had again.
 pub fn an_opening_keeps_the_books()
     ensures keeps { AnOpeningKeepsTheBooks }
     ensures gives_back { AnOpeningGivesBack }

@@ -1,5 +1,5 @@
-//! What a journal has of transfers: whether one was forwarded, what is booked of it, and how many of the
-//! participant's own are live.
+//! What a journal has of transfers: whether one was forwarded, what is booked of it, and how many
+//! of the participant's own are live.
 ghost use Rattle.std.specs.Prelude.{◌≡◌};
 ghost use Rattle.inst_journal.specs.Booked.{is_forwarded, booked};
 ghost use Rattle.inst_journal.specs.Opened.{live_submissions};
@@ -24,7 +24,8 @@ impl Journal {
         booked(self.events(), from, id)
     }
 
-    /// How many transfers of its own the participant `who` has live: the index of the next one's place.
+    /// How many transfers of its own the participant `who` has live: the index of the next one's
+    /// place.
     pub fn live_submissions(&self, who: u8) -> usize
         ensures { result ≡ live_submissions who self.now.events }
     {

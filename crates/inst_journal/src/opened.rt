@@ -1,6 +1,7 @@
 //! What a history carries over an opening from the books.
 ghost use Rattle.std.specs.Prelude.{◌≡◌, ◌≤◌, true, false, length, take, drop};
-ghost use Rattle.inst_journal.specs.Opened.{is_opening, carried, current, openings, HasOpeningsLeft};
+ghost use Rattle.inst_journal.specs.Opened.{is_opening, carried, current, openings};
+ghost use Rattle.inst_journal.specs.Opened.{HasOpeningsLeft};
 
 use crate::{Event, Journal};
 use inst_base::mention;

@@ -18,7 +18,8 @@ use std::alloc::{AllocError, Global};
 pub(crate) fn position(settings: &Settings, who: u8, events: &[Event]) -> Reply
     requires lawful { IsSettings settings.now }
     requires sound { IsSound settings.now who events.now }
-    ensures { result ≡ Reply.Position (position events.now) (reserved events.now) (available events.now) }
+    ensures { result ≡ Reply.Position (position events.now) (reserved events.now)
+        (available events.now) }
 {
     let position = sums::position(events);
     let reserved = sums::reserved(events);
@@ -78,7 +79,8 @@ fn arrivals(events: &[Event]) -> usize
     events.iter().filter_map(entry_of).count()
 }
 
-/// The next unread forwarded transfers, at most `max` of them. It takes no memory where all are read.
+/// The next unread forwarded transfers, at most `max` of them. It takes no memory where all are
+/// read.
 fn unread(alloc: Global, events: &[Event], max: u32) -> Result<Vec<Entry>, AllocError>
     requires { sum_by handed_out events.now ≤ length (inbox events.now) }
     ensures ok { IfOk result (λ entries. entries.items ≡ take max (unread events.now)) }
@@ -93,7 +95,8 @@ fn unread(alloc: Global, events: &[Event], max: u32) -> Result<Vec<Entry>, Alloc
     rest[..rest.len().min(max as usize)].to_vec(alloc)
 }
 
-/// Hands out the next unread forwarded transfers, at most `max` of them. `Memory` only where there are some.
+/// Hands out the next unread forwarded transfers, at most `max` of them. `Memory` only where there
+/// are some.
 pub(crate) fn fetch(
     alloc: Global,
     settings: &Settings,
@@ -104,7 +107,8 @@ pub(crate) fn fetch(
     requires count { is_count max ≡ true }
     requires sound { IsSound settings.now who events.now }
     ensures reply { IsUnlessMemory result (hand_out (take max (unread events.now))) }
-    ensures none { length (unread events.now) ≡ 0 → result ≡ hand_out (take max (unread events.now)) }
+    ensures none { length (unread events.now) ≡ 0 →
+        result ≡ hand_out (take max (unread events.now)) }
 {
     let entries = unread(alloc, events, max)?;
     let count = entries.len() as u32;

@@ -27,8 +27,10 @@ pub fn reply_of(
     requires lawful { IsSettings settings.now }
     requires sound { IsSound settings.now who journal.now.events }
     requires fits { command_fits settings.now command.now ≡ true }
-    ensures reply { IsUnlessMemory result (reply settings.now who journal.now.events command.now at found) }
-    ensures no_memory { copies journal.now.events command.now ≡ false → result ≡ reply settings.now who journal.now.events command.now at found }
+    ensures reply { IsUnlessMemory result
+        (reply settings.now who journal.now.events command.now at found) }
+    ensures no_memory { copies journal.now.events command.now ≡ false →
+        result ≡ reply settings.now who journal.now.events command.now at found }
 {
     let events = journal.events();
     Ok(handle_command(alloc, settings, who, events, command, at, found)?.reply)

@@ -6,35 +6,46 @@ ghost use Rattle.inst_command.specs.declared.outcome.Outcome.{Outcome};
 ghost use Rattle.inst_command.specs.declared.outcome.State.{State};
 ghost use Rattle.inst_command.specs.declared.reply.Reply.{Reply};
 ghost use Rattle.inst_journal.specs.declared.event.Event.{Event};
-ghost use Rattle.inst_journal.specs.Rows.{A, B, C, answers, after, opened, fund, defund, submit, too_much};
-ghost use Rattle.inst_journal.specs.Rows.{investigate, fetch, position, statement, done, taken, state, money};
-ghost use Rattle.inst_journal.specs.Rows.{refused, submitted, accepted, again, two_places, all_fundings};
+ghost use Rattle.inst_journal.specs.Rows.{A, B, C, answers, after, opened, fund, defund, submit};
+ghost use Rattle.inst_journal.specs.Rows.{too_much};
+ghost use Rattle.inst_journal.specs.Rows.{investigate, fetch, position, statement, done, taken};
+ghost use Rattle.inst_journal.specs.Rows.{state, money};
+ghost use Rattle.inst_journal.specs.Rows.{refused, submitted, accepted, again, two_places};
+ghost use Rattle.inst_journal.specs.Rows.{all_fundings};
 ghost use Rattle.inst_journal.specs.Rows.{all_with_a_defunding, arrivals, confirmation, rejection};
 
-/// What is pending at an opening stays reserved after it, and is settled when its outcome is learnt.
+/// What is pending at an opening stays reserved after it, and is settled when its outcome is
+/// learnt.
 pub fn carried_over_an_opening()
     ensures { answers A (opened submitted)
         (position ∷ investigate (codes "T1") (Some Outcome.Accepted) ∷ position ∷ []) ≡
-        money 50000 20000 30000 ∷ state A (codes "T1") (State.Decided Outcome.Accepted) ∷ money 30000 0 30000 ∷ [] }
+        money 50000 20000 30000 ∷ state A (codes "T1") (State.Decided Outcome.Accepted)
+        ∷ money 30000 0 30000 ∷ [] }
 {}
 
-/// Repeats and duplicates are known over an opening, of what is pending and of what is settled, and keep nothing.
+/// Repeats and duplicates are known over an opening, of what is pending and of what is settled, and
+/// keep nothing.
 pub fn repeat_and_duplicate_over_an_opening()
     ensures pending { answers A (opened submitted) again ≡
-        taken (codes "T1") ∷ refused Fault.Duplicate ∷ done (codes "F1") ∷ refused Fault.Duplicate ∷ [] }
+        taken (codes "T1") ∷ refused Fault.Duplicate ∷ done (codes "F1") ∷ refused Fault.Duplicate
+        ∷ [] }
     ensures settled { answers A (opened accepted) again ≡
-        taken (codes "T1") ∷ refused Fault.Duplicate ∷ done (codes "F1") ∷ refused Fault.Duplicate ∷ [] }
+        taken (codes "T1") ∷ refused Fault.Duplicate ∷ done (codes "F1") ∷ refused Fault.Duplicate
+        ∷ [] }
     ensures keeps_nothing { after A (opened accepted) again ≡ opened accepted }
 {}
 
 /// An opening gives back the place of what is settled and not that of what is pending.
 pub fn places_given_back()
-    ensures before { answers A two_places (submit (codes "T3") 100 1000 ∷ []) ≡ refused Fault.Full ∷ [] }
-    ensures after { answers A (opened two_places) (submit (codes "T3") 100 1000 ∷ submit (codes "T4") 100 1000 ∷ []) ≡
+    ensures before { answers A two_places (submit (codes "T3") 100 1000 ∷ [])
+        ≡ refused Fault.Full ∷ [] }
+    ensures after { answers A (opened two_places) (submit (codes "T3") 100 1000
+        ∷ submit (codes "T4") 100 1000 ∷ []) ≡
         taken (codes "T3") ∷ refused Fault.Full ∷ [] }
 {}
 
-/// A statement begins anew at an opening: with the number 1, and from the position of the whole history.
+/// A statement begins anew at an opening: with the number 1, and from the position of the whole
+/// history.
 pub fn statement_begins_anew()
     ensures { answers A (opened accepted) (statement ∷ fund (codes "F2") 1000 ∷ statement ∷ []) ≡
         Ok (Reply.Statement []) ∷ done (codes "F2")
@@ -48,27 +59,33 @@ pub fn statement_begins_anew()
         } ∷ [])) ∷ [] }
 {}
 
-/// An outcome that was booked before an opening is answered again after it, whatever is found, and nothing is kept.
+/// An outcome that was booked before an opening is answered again after it, whatever is found, and
+/// nothing is kept.
 pub fn outcome_answered_after_an_opening()
-    ensures answer { answers A (opened accepted) (investigate (codes "T1") (Some Outcome.TimedOut) ∷ []) ≡
+    ensures answer { answers A (opened accepted) (investigate (codes "T1") (Some Outcome.TimedOut)
+        ∷ []) ≡
         state A (codes "T1") (State.Decided Outcome.Accepted) ∷ [] }
-    ensures keeps_nothing { after A (opened accepted) (investigate (codes "T1") (Some Outcome.TimedOut) ∷ []) ≡
+    ensures keeps_nothing { after A (opened accepted)
+        (investigate (codes "T1") (Some Outcome.TimedOut) ∷ []) ≡
         opened accepted }
 {}
 
-/// With all fundings used a kept reference with another amount is a duplicate, and the same command a repeat. An
-/// opening gives the fundings back.
+/// With all fundings used a kept reference with another amount is a duplicate, and the same command
+/// a repeat. An opening gives the fundings back.
 pub fn duplicate_before_full()
-    ensures full { answers A all_fundings (fund (codes "F1") 11 ∷ fund (codes "F1") 10 ∷ fund (codes "F5") 50 ∷ []) ≡
+    ensures full { answers A all_fundings (fund (codes "F1") 11 ∷ fund (codes "F1") 10
+        ∷ fund (codes "F5") 50 ∷ []) ≡
         refused Fault.Duplicate ∷ done (codes "F1") ∷ refused Fault.Full ∷ [] }
-    ensures opened { answers A (opened all_fundings) (fund (codes "F5") 50 ∷ []) ≡ done (codes "F5") ∷ [] }
+    ensures opened { answers A (opened all_fundings) (fund (codes "F5") 50 ∷ [])
+        ≡ done (codes "F5") ∷ [] }
 {}
 
-/// A submission that meets several refusals gets the first: to itself, an identifier that is kept, a stamp ahead, a
-/// reading at the deadline, no place, more than is available.
+/// A submission that meets several refusals gets the first: to itself, an identifier that is kept,
+/// a stamp ahead, a reading at the deadline, no place, more than is available.
 pub fn submission_refused_by_the_first()
     ensures full { answers A two_places
-        (too_much A (codes "T1") 2001 1000 ∷ too_much B (codes "T1") 2001 1000 ∷ too_much B (codes "T3") 2001 1000
+        (too_much A (codes "T1") 2001 1000 ∷ too_much B (codes "T1") 2001 1000
+        ∷ too_much B (codes "T3") 2001 1000
         ∷ too_much B (codes "T3") 1000 11000 ∷ too_much B (codes "T3") 1000 10999 ∷ []) ≡
         refused Fault.SelfTransfer ∷ refused Fault.Duplicate ∷ refused Fault.StampAhead
         ∷ refused Fault.Expired ∷ refused Fault.Full ∷ [] }
@@ -77,15 +94,17 @@ pub fn submission_refused_by_the_first()
         refused Fault.Shortage ∷ refused Fault.Shortage ∷ [] }
 {}
 
-/// A defunding that meets several refusals gets the first: a reference that is kept, no funding left, more than is
-/// available. Fund and defund commands use the same fundings and keep their references together.
+/// A defunding that meets several refusals gets the first: a reference that is kept, no funding
+/// left, more than is available. Fund and defund commands use the same fundings and keep their
+/// references together.
 pub fn defunding_refused_by_the_first()
     ensures full { answers A all_with_a_defunding
         (defund (codes "F1") 99 ∷ defund (codes "F5") 99 ∷ fund (codes "D1") 5 ∷ fund (codes "F5") 1
         ∷ defund (codes "D1") 5 ∷ []) ≡
         refused Fault.Duplicate ∷ refused Fault.Full ∷ refused Fault.Duplicate ∷ refused Fault.Full
         ∷ done (codes "D1") ∷ [] }
-    ensures opened { answers A (opened all_with_a_defunding) (defund (codes "D2") 56 ∷ defund (codes "D2") 55 ∷ []) ≡
+    ensures opened { answers A (opened all_with_a_defunding) (defund (codes "D2") 56
+        ∷ defund (codes "D2") 55 ∷ []) ≡
         refused Fault.Shortage ∷ done (codes "D2") ∷ [] }
 {}
 
@@ -94,15 +113,18 @@ pub fn fetch_in_order_of_arrival()
     ensures pages { answers B arrivals (fetch 2 ∷ fetch 2 ∷ fetch 2 ∷ []) ≡
         Ok (Reply.Inbox (record { from = A; id = codes "T1"; cents = 100; deadline = 11000 }
         ∷ record { from = C; id = codes "T1"; cents = 200; deadline = 11500 } ∷ []))
-        ∷ Ok (Reply.Inbox (record { from = A; id = codes "T2"; cents = 300; deadline = 11200 } ∷ []))
+        ∷ Ok (Reply.Inbox (record { from = A; id = codes "T2"; cents = 300; deadline = 11200 }
+        ∷ []))
         ∷ Ok (Reply.Inbox []) ∷ [] }
     ensures kept { after B arrivals (fetch 2 ∷ fetch 2 ∷ fetch 2 ∷ []) ≡
         arrivals ++ Event.Fetched 2 ∷ Event.Fetched 1 ∷ [] }
     ensures over_an_opening { answers B (opened (after B arrivals (fetch 2 ∷ []))) (fetch 2 ∷ []) ≡
-        Ok (Reply.Inbox (record { from = A; id = codes "T2"; cents = 300; deadline = 11200 } ∷ [])) ∷ [] }
+        Ok (Reply.Inbox (record { from = A; id = codes "T2"; cents = 300; deadline = 11200 } ∷ []))
+        ∷ [] }
 {}
 
-/// A confirmation that leaves the transfer pending, since it was read in the margin, comes too late and keeps nothing.
+/// A confirmation that leaves the transfer pending, since it was read in the margin, comes too late
+/// and keeps nothing.
 pub fn confirmed_in_the_margin()
     ensures answer { answers B arrivals (confirmation ∷ []) ≡ refused Fault.Expired ∷ [] }
     ensures keeps_nothing { after B arrivals (confirmation ∷ []) ≡ arrivals }

@@ -6,14 +6,15 @@ ghost use Rattle.inst_journal.specs.Booked.{first_some};
 ghost use Rattle.inst_journal.specs.Money.{position};
 ghost use Rattle.inst_journal.specs.Reply.{answered};
 ghost use Rattle.inst_journal.specs.Sound.{IsSound};
-ghost use Rattle.inst_journal.specs.Statement.{received, paid, accepted, line_of, statement, statement_part};
+ghost use Rattle.inst_journal.specs.Statement.{received, paid, accepted, line_of, statement};
+ghost use Rattle.inst_journal.specs.Statement.{statement_part};
 
 use crate::booked::is_forwarded;
 use crate::handle::Handled;
 use crate::opened::carried_length;
 use crate::{Event, sums};
-use inst_base::{Cents, Fault, Ident, mention};
-use inst_command::{Line, LineKind, Lines, Outcome, Reply};
+use inst_base::{Fault, Ident, mention};
+use inst_command::{Funding, Line, LineKind, Lines, Outcome, Reply};
 use inst_settings::Settings;
 use std::alloc::{AllocError, Global};
 
@@ -120,11 +121,11 @@ fn line_of(events: &[Event], number: u32, position: u64, event: &Event) -> Optio
     ensures { result ≡ line_of events.now number position event.now }
 {
     match event {
-        Event::Funded { reference, cents } => {
-            Some(funding_line(number, LineKind::Funded, *reference, *cents, position))
+        Event::Funded(funding) => {
+            Some(funding_line(number, LineKind::Funded, funding, position))
         }
-        Event::Defunded { reference, cents } => {
-            Some(funding_line(number, LineKind::Defunded, *reference, *cents, position))
+        Event::Defunded(funding) => {
+            Some(funding_line(number, LineKind::Defunded, funding, position))
         }
         Event::Booked { from, id, outcome } => {
             booked_line(events, number, position, *from, id, outcome)
@@ -134,15 +135,22 @@ fn line_of(events: &[Event], number: u32, position: u64, event: &Event) -> Optio
 }
 
 /// The line of a funding or a defunding.
-fn funding_line(number: u32, kind: LineKind, id: Ident, cents: Cents, position: u64) -> Line
-    ensures { result ≡ record { number = number; kind = kind; other = None; id = id; cents = cents; position = position } }
+fn funding_line(number: u32, kind: LineKind, funding: &Funding, position: u64) -> Line
+    ensures { result ≡ record {
+      number = number;
+      kind = kind;
+      other = None;
+      id = funding.now.reference;
+      cents = funding.now.cents;
+      position = position;
+    } }
 {
     Line {
         number,
         kind,
         other: None,
-        id,
-        cents,
+        id: funding.reference,
+        cents: funding.cents,
         position,
     }
 }
@@ -212,7 +220,8 @@ pub(crate) fn statement(
 ) -> Result<Handled, Fault>
     requires lawful { IsSettings settings.now }
     requires sound { IsSound settings.now who events.now }
-    ensures { IsUnlessMemory result (answered (Reply.Statement (statement_part events.now skip count))) }
+    ensures { IsUnlessMemory result
+        (answered (Reply.Statement (statement_part events.now skip count))) }
 {
     let lines = lines_part(alloc, settings, who, events, skip, count)?;
     let reply = Reply::Statement {

@@ -1,7 +1,8 @@
 //! The plain sums over a history, in cents.
 ghost use Rattle.std.specs.Prelude.{◌≡◌, ◌+◌, ◌*◌, ◌≤◌, length, sum_by, if◌then◌else◌};
 ghost use Rattle.inst_base.specs.declared.cents.TheConstants.{MOST_CENTS};
-ghost use Rattle.inst_journal.specs.Sums.{if_accepted, if_unbooked, funding, defunding, credit, debit, reservation};
+ghost use Rattle.inst_journal.specs.Sums.{if_accepted, if_unbooked, funding, defunding, credit};
+ghost use Rattle.inst_journal.specs.Sums.{debit, reservation};
 ghost use Rattle.inst_journal.specs.Sums.{funded, defunded, credits, debits};
 ghost use Rattle.inst_journal.specs.Booked.{is_forwarding};
 ghost use Rattle.inst_journal.specs.Keys.{is_funding};
@@ -40,7 +41,7 @@ fn funding(event: &Event) -> u64
     ensures within { result ≤ (if is_funding event.now then MOST_CENTS else 0) }
 {
     match event {
-        Event::Funded { cents, .. } => cents.get(),
+        Event::Funded(funding) => funding.cents.get(),
         _ => 0,
     }
 }
@@ -51,7 +52,7 @@ fn defunding(event: &Event) -> u64
     ensures within { result ≤ MOST_CENTS }
 {
     match event {
-        Event::Defunded { cents, .. } => cents.get(),
+        Event::Defunded(funding) => funding.cents.get(),
         _ => 0,
     }
 }
@@ -98,7 +99,8 @@ fn reservation(events: &[Event], event: &Event) -> u64
 pub(crate) fn funded(events: &[Event]) -> u128
     ensures value { result ≡ funded events.now }
     ensures within { result ≤ length events.now * MOST_CENTS }
-    ensures counted { result ≤ sum_by (λ event. if is_funding event then MOST_CENTS else 0) events.now }
+    ensures counted { result ≤ sum_by (λ event. if is_funding event then MOST_CENTS
+        else 0) events.now }
 {
     let mut total = 0;
     for event in events {
@@ -123,7 +125,8 @@ pub(crate) fn defunded(events: &[Event]) -> u128
 pub(crate) fn credits(events: &[Event]) -> u128
     ensures value { result ≡ credits events.now }
     ensures within { result ≤ length events.now * MOST_CENTS }
-    ensures counted { result ≤ sum_by (λ event. if is_forwarding event then MOST_CENTS else 0) events.now }
+    ensures counted { result ≤ sum_by (λ event. if is_forwarding event then MOST_CENTS
+        else 0) events.now }
 {
     let mut total = 0;
     for event in events {
@@ -159,7 +162,8 @@ pub(crate) fn reserved(events: &[Event]) -> u128
 /// Net funding and credits less debits.
 pub(crate) fn position(events: &[Event]) -> u128
     ensures value { result ≡ position events.now }
-    ensures counted { result ≤ sum_by (λ event. if is_funding event then MOST_CENTS else 0) events.now
+    ensures counted { result ≤ sum_by (λ event. if is_funding event then MOST_CENTS
+        else 0) events.now
         + sum_by (λ event. if is_forwarding event then MOST_CENTS else 0) events.now }
 {
     let came_in = funded(events) + credits(events);

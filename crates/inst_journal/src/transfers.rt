@@ -2,7 +2,8 @@
 ghost use Rattle.std.specs.Prelude.{◌≡◌, true, if◌then◌else◌};
 ghost use Rattle.inst_base.specs.Moment.{is_moment};
 ghost use Rattle.inst_base.specs.TimeLimit.{deadline_of};
-ghost use Rattle.inst_journal.specs.Reply.{submit, standing, still_pending, answer_forwarded, confirm, reject, investigate};
+ghost use Rattle.inst_journal.specs.Reply.{submit, standing, still_pending, answer_forwarded};
+ghost use Rattle.inst_journal.specs.Reply.{confirm, reject, investigate};
 
 use crate::Event;
 use crate::booked::{booked, is_forwarded, is_taken, live_submissions};
@@ -83,8 +84,8 @@ pub fn still_pending(from: u8, id: Ident) -> Result<Handled, Fault>
     })
 }
 
-/// What a side that has booked `known` and finds `found` is answered: `pending` where it is neither, and
-/// else the outcome, whose booking is kept where it is new. It takes no memory.
+/// What a side that has booked `known` and finds `found` is answered: `pending` where it is
+/// neither, and else the outcome, whose booking is kept where it is new. It takes no memory.
 pub fn standing(
     from: u8,
     id: Ident,
@@ -104,7 +105,8 @@ pub fn standing(
 /// The reply that tells the outcome, and where it is new the event that books it.
 fn decided(from: u8, id: Ident, is_new: bool, outcome: &Outcome) -> Handled
     ensures reply { result.reply ≡ Reply.State from id (State.Decided outcome.now) }
-    ensures kept { result.kept ≡ (if is_new then Some (Event.Booked from id outcome.now) else None) }
+    ensures kept { result.kept
+        ≡ (if is_new then Some (Event.Booked from id outcome.now) else None) }
 {
     let reply = told(from, id, State::Decided(*outcome));
     if !is_new {
@@ -121,8 +123,8 @@ fn decided(from: u8, id: Ident, is_new: bool, outcome: &Outcome) -> Handled
     }
 }
 
-/// Books what is found of a forwarded transfer, and answers `pending` where it is pending. Refused by
-/// `UnknownTransfer` where it wasn't forwarded.
+/// Books what is found of a forwarded transfer, and answers `pending` where it is pending. Refused
+/// by `UnknownTransfer` where it wasn't forwarded.
 fn answer_forwarded(
     events: &[Event],
     from: u8,
@@ -138,8 +140,8 @@ fn answer_forwarded(
     standing(from, id, pending, booked(events, from, &id), found)
 }
 
-/// Books what is found of a forwarded transfer. A confirmation that leaves it pending was read in the
-/// margin before the deadline: it is refused as `Expired`.
+/// Books what is found of a forwarded transfer. A confirmation that leaves it pending was read in
+/// the margin before the deadline: it is refused as `Expired`.
 pub(crate) fn confirm(
     events: &[Event],
     from: u8,

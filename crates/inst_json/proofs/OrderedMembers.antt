@@ -18,7 +18,7 @@ use Rattle.serde_json.proofs.Views.{get_member-put, get_member-put_other}
 use Rattle.inst_json.specs.inner.Scalar.{IsScalar, data_of}
 use Rattle.inst_json.specs.inner.Names.{names, place_of}
 use Rattle.inst_json.specs.LineFields.{no_fields}
-use Rattle.inst_json.proofs.Told.{TellsMembers, TellsObject}
+use Rattle.inst_json.proofs.FieldsOfLineValue.{TellsMembers, TellsObject}
 use Rattle.inst_json.specs.declared.scanning.fields.Field.{Field}
 use Rattle.inst_json.specs.declared.scanning.fields.Field.TheVariants.{Missing}
 

@@ -5,7 +5,7 @@ use Rattle.std.proofs.lemmas.Bool.Decides.{nat_tests}
 use Rattle.std.proofs.lemmas.Str.{IsUtf8-from_ascii}
 use Rattle.std.specs.Str.{IsUtf8}
 use Rattle.serde_json.specs.Read.{read}
-use Rattle.inst_base.proofs.Ascii.{IsAscii-from_each}
+use Rattle.inst_base.proofs.TextsAreAscii.{IsAscii-from_each}
 use Rattle.inst_base.specs.Cents.{is_amount}
 use Rattle.inst_base.specs.Moment.{is_moment}
 use Rattle.inst_base.specs.TimeLimit.{deadline_of}
@@ -18,6 +18,7 @@ use Rattle.inst_command.specs.LineText.{code_numbered}
 use Rattle.inst_command.specs.Step.{step_fits}
 use Rattle.inst_command.specs.declared.command.Command.{Command}
 use Rattle.inst_command.specs.declared.command.Command.TheVariants as command
+use Rattle.inst_command.specs.declared.query.Query.TheVariants as query
 use Rattle.inst_command.specs.declared.step.Step.{Step}
 use Rattle.inst_command.specs.declared.step.Step.TheVariants as step
 use Rattle.inst_json.specs.LineFields.{fields_of}
@@ -27,23 +28,23 @@ use Rattle.inst_json.specs.Members.{is_printable, is_plain}
 use Rattle.inst_json.specs.Refusals.{◌>>=◌, as_whole, by_fault}
 use Rattle.inst_json.specs.StepLines.{ask_rows, step_rows, step_data, step_line}
 use Rattle.inst_json.specs.Steps.{step_of}
-use Rattle.inst_json.proofs.Asking.{stamp_moment, step_again}
-use Rattle.inst_json.proofs.Json.{json_of-value}
-use Rattle.inst_json.proofs.Plain.{plain_identifier, plain_code, plain_reason}
+use Rattle.inst_json.proofs.StepFieldsReadBack.{stamp_moment, step_again}
+use Rattle.inst_json.proofs.LineAsJson.{json_of-value}
+use Rattle.inst_json.proofs.TextsWithoutEscapes.{plain_identifier, plain_code, plain_reason}
 use Rattle.inst_json.proofs.Tables.{Printable, ArePlain, AreWords, AreSorted, line_printable, line_reads}
 
 -- ---- the members of a step
 
 command_sorted : (s : HubSettings) (who at : ℕ) (c : Command) → AreSorted (ask_rows s (record { who = who; command = c; at = at }))
-command_sorted s who at (command.Fund reference cents) = refl
-command_sorted s who at (command.Defund reference cents) = refl
+command_sorted s who at (command.Fund funding) = refl
+command_sorted s who at (command.Defund funding) = refl
 command_sorted s who at (command.Submit x) = refl
 command_sorted s who at (command.Confirm from id) = refl
 command_sorted s who at (command.Reject from id reason) = refl
 command_sorted s who at (command.Investigate id) = refl
 command_sorted s who at (command.Fetch max) = refl
-command_sorted s who at command.Position = refl
-command_sorted s who at (command.Statement skip count) = refl
+command_sorted s who at (command.Query query.Position) = refl
+command_sorted s who at (command.Query (query.Statement skip count)) = refl
 
 rows_sorted : (s : HubSettings) (x : Step) → AreSorted (step_rows s x)
 rows_sorted s (step.Ask ask) = command_sorted s ask.who ask.at ask.command
@@ -57,10 +58,10 @@ code_plain : (s : HubSettings) (i : ℕ) → has_code s i ≡ true → is_plain 
 code_plain s i h = plain_code (code_numbered s i) h
 
 command_plain : (s : HubSettings) (who at : ℕ) (c : Command) → has_code s who ≡ true → command_has_form s c ≡ true → ArePlain (ask_rows s (record { who = who; command = c; at = at }))
-command_plain s who at (command.Fund reference cents) coded form =
-    rw (plain_identifier reference (and_parts (is_identifier reference) (is_amount cents) form).0, code_plain s who coded) refl
-command_plain s who at (command.Defund reference cents) coded form =
-    rw (plain_identifier reference (and_parts (is_identifier reference) (is_amount cents) form).0, code_plain s who coded) refl
+command_plain s who at (command.Fund funding) coded form =
+    rw (plain_identifier funding.reference (and_parts (is_identifier funding.reference) (is_amount funding.cents) form).0, code_plain s who coded) refl
+command_plain s who at (command.Defund funding) coded form =
+    rw (plain_identifier funding.reference (and_parts (is_identifier funding.reference) (is_amount funding.cents) form).0, code_plain s who coded) refl
 command_plain s who at (command.Submit x) coded form =
     let outer = and_parts (has_code s x.to && is_identifier x.id) (is_amount x.cents) form in
     let parts = and_parts (has_code s x.to) (is_identifier x.id) outer.0 in
@@ -74,8 +75,8 @@ command_plain s who at (command.Reject from id reason) coded form =
     rw (code_plain s from parts.0, plain_identifier id parts.1, plain_reason reason outer.1, code_plain s who coded) refl
 command_plain s who at (command.Investigate id) coded form = rw (plain_identifier id form, code_plain s who coded) refl
 command_plain s who at (command.Fetch max) coded form = rw (code_plain s who coded) refl
-command_plain s who at command.Position coded form = rw (code_plain s who coded) refl
-command_plain s who at (command.Statement skip count) coded form = rw (code_plain s who coded) refl
+command_plain s who at (command.Query query.Position) coded form = rw (code_plain s who coded) refl
+command_plain s who at (command.Query (query.Statement skip count)) coded form = rw (code_plain s who coded) refl
 
 rows_plain : (s : HubSettings) (x : Step) → step_has_form s x ≡ true → ArePlain (step_rows s x)
 rows_plain s (step.Ask ask) form =
@@ -105,10 +106,10 @@ place_word place h = grind (arith, nat_tests)
 
 module _ (s : HubSettings) (low : s.base ≤ 2 ^ 62) where
   command_words : (who at : ℕ) (c : Command) → is_moment at ≡ true → command_fits s c ≡ true → command_has_form s c ≡ true → AreWords (ask_rows s (record { who = who; command = c; at = at }))
-  command_words who at (command.Fund reference cents) moment fits form =
-      rw (moment_word s.base at low moment, amount_word cents (and_parts (is_identifier reference) (is_amount cents) form).1) refl
-  command_words who at (command.Defund reference cents) moment fits form =
-      rw (moment_word s.base at low moment, amount_word cents (and_parts (is_identifier reference) (is_amount cents) form).1) refl
+  command_words who at (command.Fund funding) moment fits form =
+      rw (moment_word s.base at low moment, amount_word funding.cents (and_parts (is_identifier funding.reference) (is_amount funding.cents) form).1) refl
+  command_words who at (command.Defund funding) moment fits form =
+      rw (moment_word s.base at low moment, amount_word funding.cents (and_parts (is_identifier funding.reference) (is_amount funding.cents) form).1) refl
   command_words who at (command.Submit x) moment fits form =
       let stamp = stamp_moment s.limit x.stamp (and_parts (is_participant s x.to && is_within_ceiling s x.cents) (is_moment (deadline_of s.limit x.stamp)) fits).1 in
       rw (moment_word s.base at low moment, amount_word x.cents (and_parts (has_code s x.to && is_identifier x.id) (is_amount x.cents) form).1, moment_word s.base x.stamp low stamp) refl
@@ -116,8 +117,8 @@ module _ (s : HubSettings) (low : s.base ≤ 2 ^ 62) where
   command_words who at (command.Reject from id reason) moment fits form = rw (moment_word s.base at low moment) refl
   command_words who at (command.Investigate id) moment fits form = rw (moment_word s.base at low moment) refl
   command_words who at (command.Fetch max) moment fits form = rw (moment_word s.base at low moment, count_word max fits) refl
-  command_words who at command.Position moment fits form = rw (moment_word s.base at low moment) refl
-  command_words who at (command.Statement skip count) moment fits form = rw (moment_word s.base at low moment, count_word count fits, form) refl
+  command_words who at (command.Query query.Position) moment fits form = rw (moment_word s.base at low moment) refl
+  command_words who at (command.Query (query.Statement skip count)) moment fits form = rw (moment_word s.base at low moment, count_word count fits, form) refl
 
   rows_words : (x : Step) → step_fits s x ≡ true → step_has_form s x ≡ true → has_place x ≡ true → AreWords (step_rows s x)
   rows_words (step.Ask ask) fits form place =

@@ -15,10 +15,10 @@ use Rattle.serde_json.specs.Written.{compact_text, members_text, comma_if, outli
 use Rattle.inst_json.specs.Laws.{is_word}
 use Rattle.inst_json.specs.Members.{is_printable, is_plain_character, is_plain, first_member, next_member, next_members}
 use Rattle.inst_json.specs.Replies.{members}
-use Rattle.inst_json.specs.StepLines.{line_of}
-use Rattle.inst_json.proofs.Plain.{escape_plain, each_weaker}
-use Rattle.inst_json.proofs.Texts.{one_more}
-use Rattle.inst_json.proofs.Reading.{from_parts, read_word, word_below}
+use Rattle.inst_json.specs.StepLines.{members_line}
+use Rattle.inst_json.proofs.TextsWithoutEscapes.{escape_plain, each_weaker}
+use Rattle.inst_json.proofs.ReplyTexts.{one_more}
+use Rattle.inst_json.proofs.ReplyReadsBack.{from_parts, read_word, word_below}
 
 -- ---- the text
 
@@ -43,15 +43,15 @@ members_are (row ∷ rows) =
     ∙ ap (λ (t : List ℕ). name ++ 58 ∷ (value ++ t)) (members_are rows))
 
 -- the first member, others and the closing brace
-pub object_is : (row : List ℕ × Data) (rows : List (List ℕ × Data)) → first_member row.0 row.1 ++ (next_members rows ++ 125 ∷ []) ≡ line_of (row ∷ rows)
-unfolding first_member line_of
+pub object_is : (row : List ℕ × Data) (rows : List (List ℕ × Data)) → first_member row.0 row.1 ++ (next_members rows ++ 125 ∷ []) ≡ members_line (row ∷ rows)
+unfolding first_member members_line
 object_is row rows =
     let name = quoted row.0 in
     let value = compact_text row.1 in
     ap (λ (t : List ℕ). 123 ∷ t) (append_assoc name (58 ∷ value) (next_members rows ++ 125 ∷ []) ∙ ap (λ (t : List ℕ). name ++ 58 ∷ (value ++ t)) (members_are rows))
 
 -- the first member, others put after it, and the closing brace
-pub whole_line : (old : List ℕ) (row : List ℕ × Data) (rows : List (List ℕ × Data)) {begun all closed : List ℕ} → begun ≡ old ++ first_member row.0 row.1 → all ≡ begun ++ next_members rows → closed ≡ all ++ 125 ∷ [] → closed ≡ old ++ line_of (row ∷ rows)
+pub whole_line : (old : List ℕ) (row : List ℕ × Data) (rows : List (List ℕ × Data)) {begun all closed : List ℕ} → begun ≡ old ++ first_member row.0 row.1 → all ≡ begun ++ next_members rows → closed ≡ all ++ 125 ∷ [] → closed ≡ old ++ members_line (row ∷ rows)
 whole_line old row rows one two three =
     let first = first_member row.0 row.1 in
     let rest = next_members rows in
@@ -69,7 +69,7 @@ first_of old row is = is ∙ ap (λ (t : List ℕ). old ++ t) (sym (append-nil (
 
 -- four members and the closing brace
 pub four_line : (old : List ℕ) (first second third fourth : List ℕ × Data) {one two three four closed : List ℕ} → one ≡ old ++ first_member first.0 first.1 → two ≡ one ++ next_member second.0 second.1 → three ≡ two ++ next_member third.0 third.1
-    → four ≡ three ++ next_member fourth.0 fourth.1 → closed ≡ four ++ 125 ∷ [] → closed ≡ old ++ line_of (first ∷ second ∷ third ∷ fourth ∷ [])
+    → four ≡ three ++ next_member fourth.0 fourth.1 → closed ≡ four ++ 125 ∷ [] → closed ≡ old ++ members_line (first ∷ second ∷ third ∷ fourth ∷ [])
 four_line old first second third fourth {one} a b c d e =
     let all = one_member one (second ∷ third ∷ []) fourth (one_member one (second ∷ []) third (first_of one second b) c) d in
     whole_line old first (second ∷ third ∷ fourth ∷ []) a all e
@@ -149,8 +149,8 @@ members_printable later (row ∷ rows) h =
     joined (comma_if later) (quoted row.0 ++ 58 ∷ (value ++ rest)) (comma_printable later)
     (joined (quoted row.0) (58 ∷ (value ++ rest)) (quoted_printable row.0 first.0) (joined value rest (value_printable row.1 first.1) (members_printable true rows parts.1)))
 
-pub line_printable : (rows : List (List ℕ × Data)) → ArePlain rows → Printable (line_of rows)
-unfolding line_of
+pub line_printable : (rows : List (List ℕ × Data)) → ArePlain rows → Printable (members_line rows)
+unfolding members_line
 line_printable rows h = members_printable false rows h
 
 -- ---- the text is read as the table
@@ -230,8 +230,8 @@ members_again (row ∷ rows) found h =
 abbrev pub AreSorted : List (List ℕ × Data) → Type 0
 AreSorted rows = put_all rows no_members ≡ members rows
 
-pub line_reads : (rows : List (List ℕ × Data)) → AreWords rows → AreSorted rows → read (line_of rows) ≡ Some (object (members rows))
-unfolding line_of
+pub line_reads : (rows : List (List ℕ × Data)) → AreWords rows → AreSorted rows → read (members_line rows) ≡ Some (object (members rows))
+unfolding members_line
 line_reads rows words sorted =
     from_parts (object (members rows)) (record {
       numbers = members_numbers rows words;

@@ -1,5 +1,5 @@
--- What every command has: who asks, and when. It is read first and checked late, since what is refused of a moment comes
--- behind what is refused of an amount. This hub's own choice.
+-- What every command has: who asks, and when. It is read first and checked late, since what is
+-- refused of a moment comes behind what is refused of an amount. This hub's own choice.
 use Rattle.std.specs.Prelude.{Result, Ok}
 use Rattle.inst_base.specs.Moment.{moment_of}
 use Rattle.inst_settings.specs.Settings.{HubSettings}

@@ -1,10 +1,11 @@
--- The checks of a line that come after each field is there, in their order: amount, moments, participants.
--- The order is this hub's own choice.
+-- The checks of a line that come after each field is there, in their order: amount, moments,
+-- participants. The order is this hub's own choice.
 use Rattle.std.specs.Prelude.{ℕ, List, ok_or, Result, Ok, Err, if◌then◌else◌}
 use Rattle.inst_base.specs.Moment.{is_moment, moment_of}
 use Rattle.inst_base.specs.TimeLimit.{deadline_of}
 use Rattle.inst_base.specs.declared.fault.Fault.{Fault}
-use Rattle.inst_base.specs.declared.fault.Fault.TheVariants.{BadAmount, BadMoment, UnknownParticipant}
+use Rattle.inst_base.specs.declared.fault.Fault.TheVariants.{BadAmount, BadMoment}
+use Rattle.inst_base.specs.declared.fault.Fault.TheVariants.{UnknownParticipant}
 use Rattle.inst_settings.specs.Settings.{HubSettings, is_within_ceiling}
 use Rattle.inst_settings.specs.Codes.{index_of}
 use Rattle.inst_json.specs.Refusals.{◌>>=◌}

@@ -1,12 +1,14 @@
--- The asks of command lines. Each command is a table of its fields, in which no order counts, and then the
--- checks of what they hold, in the order in which refusals are told: identifier, amount, moments, participants. Where
--- two checks have the same refusal, as those of two moments, no reply tells which came first. The commands stand for
--- the scheme's messages (EPC004-16, chapter 4: datasets); fields and order are this hub's own choice.
+-- The asks of command lines. Each command is a table of its fields, in which no order counts, and
+-- then the checks of what they hold, in the order in which refusals are told: identifier, amount,
+-- moments, participants. Where two checks have the same refusal, as those of two moments, no reply
+-- tells which came first. The commands stand for the scheme's messages (EPC004-16, chapter 4:
+-- datasets); fields and order are this hub's own choice.
 use Rattle.std.specs.Prelude.{Result, Ok}
 use Rattle.inst_base.specs.Text.{identifier_of}
 use Rattle.inst_settings.specs.Settings.{HubSettings}
 use Rattle.inst_command.specs.declared.ask.Ask.{Ask}
 use Rattle.inst_command.specs.declared.command.Command.TheVariants as command
+use Rattle.inst_command.specs.declared.query.Query.TheVariants as query
 use Rattle.inst_json.specs.LineFields.{LineFields}
 use Rattle.inst_json.specs.Refusals.{◌>>=◌, in_field}
 use Rattle.inst_json.specs.Fields.{text_in, whole_in, code_in, reason_in, count_in}
@@ -14,7 +16,7 @@ use Rattle.inst_json.specs.Checks.{amount_of, stamp_of, participant_of}
 use Rattle.inst_json.specs.Asker.{asker_of, known_of, asking}
 use Rattle.inst_json.specs.Verb.{verb_in}
 use Rattle.inst_json.specs.declared.asker.Asker.{Asker}
-use Rattle.inst_json.specs.declared.command.Funding.{Funding}
+use Rattle.inst_json.specs.declared.command.AskedFunding.{AskedFunding}
 use Rattle.inst_json.specs.declared.command.Received.{Received}
 use Rattle.inst_json.specs.declared.name.Name.TheVariants as name
 use Rattle.inst_json.specs.declared.refusal.Refusal.{Refusal}
@@ -22,14 +24,14 @@ use Rattle.inst_json.specs.declared.verb.Verb.{Verb}
 use Rattle.inst_json.specs.declared.verb.Verb.TheVariants as verb
 
 -- what is funded or defunded, and by whom
-unfoldable pub funding_of : HubSettings → Asker → LineFields → Result Funding Refusal
+unfoldable pub funding_of : HubSettings → Asker → LineFields → Result AskedFunding Refusal
 funding_of s asker line = do
   reference ← in_field name.Reference (text_in line.reference)
   cents ← in_field name.Cents (whole_in line.cents)
   reference ← in_field name.Reference (identifier_of reference)
   cents ← in_field name.Cents (amount_of s cents)
   asker ← known_of s asker
-  Ok (record { asker = asker; reference = reference; cents = cents })
+  Ok (record { asker = asker; funding = record { reference = reference; cents = cents } })
 
 -- a submission
 unfoldable pub submit_of : HubSettings → Asker → LineFields → Result Ask Refusal
@@ -83,16 +85,16 @@ statement_of s asker line = do
   skip ← in_field name.Skip (whole_in line.skip)
   count ← in_field name.Count (count_in line.count)
   asker ← known_of s asker
-  Ok (asking asker (command.Statement skip count))
+  Ok (asking asker (command.Query (query.Statement skip count)))
 
 -- the ask of a command line with a verb
 unfoldable pub command_of : HubSettings → Asker → LineFields → Verb → Result Ask Refusal
 command_of s asker line verb.Fund = do
-  funding ← funding_of s asker line
-  Ok (asking funding.asker (command.Fund funding.reference funding.cents))
+  asked ← funding_of s asker line
+  Ok (asking asked.asker (command.Fund asked.funding))
 command_of s asker line verb.Defund = do
-  funding ← funding_of s asker line
-  Ok (asking funding.asker (command.Defund funding.reference funding.cents))
+  asked ← funding_of s asker line
+  Ok (asking asked.asker (command.Defund asked.funding))
 command_of s asker line verb.Submit = submit_of s asker line
 command_of s asker line verb.Confirm = do
   transfer ← received_of s asker line
@@ -102,7 +104,7 @@ command_of s asker line verb.Investigate = investigate_of s asker line
 command_of s asker line verb.Fetch = fetch_of s asker line
 command_of s asker line verb.Position = do
   asker ← known_of s asker
-  Ok (asking asker command.Position)
+  Ok (asking asker (command.Query query.Position))
 command_of s asker line verb.Statement = statement_of s asker line
 
 -- the ask of a command line

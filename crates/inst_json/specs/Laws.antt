@@ -1,5 +1,5 @@
--- The laws of written lines: a reply reads back as the object that was meant, and its text tells which reply it is; a
--- step reads back as the step. They are this hub's own promises.
+-- The laws of written lines: a reply reads back as the object that was meant, and its text tells
+-- which reply it is; a step reads back as the step. They are this hub's own promises.
 use Rattle.std.specs.Prelude.{◌≡◌, ℕ, ◌+◌, ◌^◌, ◌&&◌, Bool, true, nat_lt, List, map, Some, Ok}
 use Rattle.std.specs.List.{list_all}
 use Rattle.serde_json.specs.Read.{read}
@@ -16,6 +16,8 @@ use Rattle.inst_command.specs.declared.ask.Ask.{Ask}
 use Rattle.inst_command.specs.declared.command.Command.{Command}
 use Rattle.inst_command.specs.declared.command.Command.TheVariants as command
 use Rattle.inst_command.specs.declared.entry.Entry.{Entry}
+use Rattle.inst_command.specs.declared.query.Query.{Query}
+use Rattle.inst_command.specs.declared.query.Query.TheVariants as query
 use Rattle.inst_command.specs.declared.reply.Reply.{Reply}
 use Rattle.inst_command.specs.declared.reply.Reply.TheVariants as reply
 use Rattle.inst_command.specs.declared.step.Step.{Step}
@@ -38,7 +40,8 @@ has_words s (reply.Done reference) = true
 has_words s (reply.Taken id deadline) = is_word (s.base + deadline)
 has_words s (reply.State from id state) = true
 has_words s (reply.Inbox entries) = list_all (entry_has_words s) entries
-has_words s (reply.Position position reserved available) = is_word position && is_word reserved && is_word available
+has_words s (reply.Position position reserved available) =
+    is_word position && is_word reserved && is_word available
 has_words s (reply.Statement lines) = true
 has_words s (reply.Refused fault) = true
 
@@ -59,13 +62,16 @@ content_of s (reply.Done reference) = the_reply (reply.Done reference)
 content_of s (reply.Taken id deadline) = the_reply (reply.Taken id deadline)
 content_of s (reply.State from id state) = the_reply (reply.State from id state)
 content_of s (reply.Inbox entries) = the_reply (reply.Inbox entries)
-content_of s (reply.Position position reserved available) = the_reply (reply.Position position reserved available)
+content_of s (reply.Position position reserved available) =
+    the_reply (reply.Position position reserved available)
 content_of s (reply.Statement lines) = the_lines (map (line_text s) lines)
 content_of s (reply.Refused fault) = the_reply (reply.Refused fault)
 
 -- what is written of a reply reads back as its object
 abbrev pub WhatIsWrittenReadsBack : Type 0
-WhatIsWrittenReadsBack = (s : HubSettings) (r : Reply) → IsReplyOf s r → read (compact_text (reply_data s r)) ≡ Some (reply_data s r)
+WhatIsWrittenReadsBack =
+    (s : HubSettings) (r : Reply) → IsReplyOf s r →
+    read (compact_text (reply_data s r)) ≡ Some (reply_data s r)
 
 -- two replies with the same text tell the same
 abbrev pub ATextTellsItsReply : Type 0
@@ -76,17 +82,24 @@ ATextTellsItsReply = (s : HubSettings) (a b : Reply) → IsReplyOf s a → IsRep
 abbrev pub has_code : HubSettings → ℕ → Bool
 has_code s number = is_code (code_numbered s number)
 
+-- whether the numbers of a query are such, as they are in the program
+abbrev pub query_has_form : Query → Bool
+query_has_form query.Position = true
+query_has_form (query.Statement skip count) = is_word skip
+
 -- whether codes, identifiers, amounts, reasons and numbers are such, as they are in the program
 abbrev pub command_has_form : HubSettings → Command → Bool
-command_has_form s (command.Fund reference cents) = is_identifier reference && is_amount cents
-command_has_form s (command.Defund reference cents) = is_identifier reference && is_amount cents
+command_has_form s (command.Fund funding) =
+    is_identifier funding.reference && is_amount funding.cents
+command_has_form s (command.Defund funding) =
+    is_identifier funding.reference && is_amount funding.cents
 command_has_form s (command.Submit x) = has_code s x.to && is_identifier x.id && is_amount x.cents
 command_has_form s (command.Confirm from id) = has_code s from && is_identifier id
-command_has_form s (command.Reject from id reason) = has_code s from && is_identifier id && is_reason reason
+command_has_form s (command.Reject from id reason) =
+    has_code s from && is_identifier id && is_reason reason
 command_has_form s (command.Investigate id) = is_identifier id
 command_has_form s (command.Fetch max) = true
-command_has_form s command.Position = true
-command_has_form s (command.Statement skip count) = is_word skip
+command_has_form s (command.Query asked) = query_has_form asked
 
 abbrev pub ask_has_form : HubSettings → Ask → Bool
 ask_has_form s ask = has_code s ask.who && is_moment ask.at && command_has_form s ask.command
@@ -113,4 +126,5 @@ pub record IsStepOf (s : HubSettings) (x : Step) : Type 0 where
 
 -- what is written of a step reads back as the step
 abbrev pub WhatIsWrittenOfAStepReadsBack : Type 0
-WhatIsWrittenOfAStepReadsBack = (s : HubSettings) (x : Step) → IsStepOf s x → step_of_line s (step_line s x) ≡ Ok x
+WhatIsWrittenOfAStepReadsBack =
+    (s : HubSettings) (x : Step) → IsStepOf s x → step_of_line s (step_line s x) ≡ Ok x

@@ -1,4 +1,5 @@
--- The members of a JSON object (RFC 8259) as text, each after those before, where no name and no text needs an escape.
+-- The members of a JSON object (RFC 8259) as text, each after those before, where no name and no
+-- text needs an escape.
 use Rattle.std.specs.Prelude.{ℕ, Bool, not, ◌&&◌, ◌==◌, nat_le, List, [], ◌∷◌, ◌++◌}
 use Rattle.std.specs.List.{list_all}
 use Rattle.json.specs.Print.{quoted}
@@ -9,7 +10,8 @@ use Rattle.serde_json.specs.Written.{compact_text}
 abbrev pub is_printable : ℕ → Bool
 is_printable b = nat_le 32 b && nat_le b 126
 
--- whether a character needs no escape: a printable one that is neither a quotation mark nor a backslash
+-- whether a character needs no escape: a printable one that is neither a quotation mark nor a
+-- backslash
 abbrev pub is_plain_character : ℕ → Bool
 is_plain_character b = is_printable b && not (b == 34) && not (b == 92)
 

@@ -1,5 +1,5 @@
--- One step after another, of which the first refusal stands, and what a reader or a writer of lines returns. This hub's
--- own choice.
+-- One step after another, of which the first refusal stands, and what a reader or a writer of lines
+-- returns. This hub's own choice.
 use Rattle.std.specs.Prelude.{◌≡◌, ◌⊎◌, Some, None, Result, Ok, Err}
 pub use Rattle.inst_base.specs.Fault.{IsUnlessMemory}
 use Rattle.inst_base.specs.declared.fault.Fault.{Fault}

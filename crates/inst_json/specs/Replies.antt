@@ -1,9 +1,11 @@
--- The replies as JSON objects. Each is a table of its members, with the keys in byte order. Moments are absolute
--- milliseconds, amounts cents, and participants codes. The replies stand for the scheme's answers and
--- confirmations (EPC004-16, chapter 4: datasets); their form is this hub's own choice.
+-- The replies as JSON objects. Each is a table of its members, with the keys in byte order. Moments
+-- are absolute milliseconds, amounts cents, and participants codes. The replies stand for the
+-- scheme's answers and confirmations (EPC004-16, chapter 4: datasets); their form is this hub's own
+-- choice.
 use Rattle.std.specs.Prelude.{ℕ, ◌+◌, ◌&&◌, Bool, true, false, List, [], ◌∷◌, map, codes}
 use Rattle.std.specs.List.{list_all}
-use Rattle.serde_json.specs.Data.{Data, object, array, string, boolean, number, unsigned, Items, no_items, item, Members, no_members, member}
+use Rattle.serde_json.specs.Data.{Data, object, array, string, boolean, number, unsigned, Items}
+use Rattle.serde_json.specs.Data.{no_items, item, Members, no_members, member}
 use Rattle.inst_base.specs.Fault.{number_of, name_of}
 use Rattle.inst_base.specs.declared.fault.Fault.{Fault}
 use Rattle.inst_settings.specs.Settings.{HubSettings, is_participant}
@@ -33,26 +35,26 @@ abbrev pub whole : ℕ → Data
 whole n = number (unsigned n)
 
 -- a reply, by its name
-abbrev pub named : List ℕ → List ℕ × Data
-named name = (codes "reply", string name)
+abbrev pub reply_member : List ℕ → List ℕ × Data
+reply_member name = (codes "reply", string name)
 
 abbrev pub done_data : List ℕ → Data
 done_data reference = object (members (
     (codes "ref", string reference)
-    ∷ named (codes "done") ∷ []))
+    ∷ reply_member (codes "done") ∷ []))
 
 abbrev pub taken_data : List ℕ → ℕ → Data
 taken_data id deadline = object (members (
     (codes "deadline", whole deadline)
     ∷ (codes "id", string id)
-    ∷ named (codes "taken") ∷ []))
+    ∷ reply_member (codes "taken") ∷ []))
 
 -- a state without a reason
 abbrev pub state_data : List ℕ → List ℕ → List ℕ → Data
 state_data from id name = object (members (
     (codes "from", string from)
     ∷ (codes "id", string id)
-    ∷ named (codes "state")
+    ∷ reply_member (codes "state")
     ∷ (codes "state", string name) ∷ []))
 
 abbrev pub rejected_data : List ℕ → List ℕ → List ℕ → Data
@@ -60,21 +62,21 @@ rejected_data from id reason = object (members (
     (codes "from", string from)
     ∷ (codes "id", string id)
     ∷ (codes "reason", string reason)
-    ∷ named (codes "state")
+    ∷ reply_member (codes "state")
     ∷ (codes "state", string (codes "rejected")) ∷ []))
 
 abbrev pub position_data : ℕ → ℕ → ℕ → Data
 position_data position reserved available = object (members (
     (codes "available", whole available)
     ∷ (codes "position", whole position)
-    ∷ named (codes "position")
+    ∷ reply_member (codes "position")
     ∷ (codes "reserved", whole reserved) ∷ []))
 
 abbrev pub refused_data : Fault → Data
 refused_data fault = object (members (
     (codes "fault", string (name_of fault))
     ∷ (codes "number", whole (number_of fault))
-    ∷ named (codes "refused") ∷ []))
+    ∷ reply_member (codes "refused") ∷ []))
 
 abbrev pub entry_members : ℕ → ℕ → List ℕ → List ℕ → Data
 entry_members cents deadline from id = object (members (
@@ -84,33 +86,35 @@ entry_members cents deadline from id = object (members (
     ∷ (codes "id", string id) ∷ []))
 
 abbrev pub entry_data : HubSettings → Entry → Data
-entry_data s entry = entry_members entry.cents (s.base + entry.deadline) (code_numbered s entry.from) entry.id
+entry_data s entry =
+    entry_members entry.cents (s.base + entry.deadline) (code_numbered s entry.from) entry.id
 
 abbrev pub inbox_data : HubSettings → List Entry → Data
 inbox_data s entries = object (members (
     (codes "entries", array (items (map (entry_data s) entries)))
-    ∷ named (codes "inbox") ∷ []))
+    ∷ reply_member (codes "inbox") ∷ []))
 
 abbrev pub statement_data : HubSettings → List Line → Data
 statement_data s lines = object (members (
     (codes "lines", array (items (map (λ line. string (line_text s line)) lines)))
-    ∷ named (codes "statement") ∷ []))
+    ∷ reply_member (codes "statement") ∷ []))
 
 -- how far a transfer has come; nothing is told of a place that is unused
-abbrev pub state_of : List ℕ → List ℕ → State → Data
-state_of from id state.Unused = state_data from id []
-state_of from id state.Pending = state_data from id (codes "pending")
-state_of from id (state.Decided Accepted) = state_data from id (codes "accepted")
-state_of from id (state.Decided (Rejected reason)) = rejected_data from id reason
-state_of from id (state.Decided TimedOut) = state_data from id (codes "timed_out")
+abbrev pub state_members : List ℕ → List ℕ → State → Data
+state_members from id state.Unused = state_data from id []
+state_members from id state.Pending = state_data from id (codes "pending")
+state_members from id (state.Decided Accepted) = state_data from id (codes "accepted")
+state_members from id (state.Decided (Rejected reason)) = rejected_data from id reason
+state_members from id (state.Decided TimedOut) = state_data from id (codes "timed_out")
 
 -- a reply
 abbrev pub reply_data : HubSettings → Reply → Data
 reply_data s (reply.Done reference) = done_data reference
 reply_data s (reply.Taken id deadline) = taken_data id (s.base + deadline)
-reply_data s (reply.State from id state) = state_of (code_numbered s from) id state
+reply_data s (reply.State from id state) = state_members (code_numbered s from) id state
 reply_data s (reply.Inbox entries) = inbox_data s entries
-reply_data s (reply.Position position reserved available) = position_data position reserved available
+reply_data s (reply.Position position reserved available) =
+    position_data position reserved available
 reply_data s (reply.Statement lines) = statement_data s lines
 reply_data s (reply.Refused fault) = refused_data fault
 
@@ -125,7 +129,8 @@ abbrev pub reply_can_be_written : HubSettings → Reply → Bool
 reply_can_be_written s (reply.Done reference) = true
 reply_can_be_written s (reply.Taken id deadline) = true
 reply_can_be_written s (reply.State from id state) = is_participant s from && is_used state
-reply_can_be_written s (reply.Inbox entries) = list_all (λ entry. is_participant s entry.from) entries
+reply_can_be_written s (reply.Inbox entries) =
+    list_all (λ entry. is_participant s entry.from) entries
 reply_can_be_written s (reply.Position position reserved available) = true
 reply_can_be_written s (reply.Statement lines) = list_all (line_fits s) lines
 reply_can_be_written s (reply.Refused fault) = true
@@ -134,7 +139,7 @@ reply_can_be_written s (reply.Refused fault) = true
 abbrev pub new_data : Bool → Data
 new_data new = object (members (
     (codes "new", boolean new)
-    ∷ named (codes "step") ∷ []))
+    ∷ reply_member (codes "step") ∷ []))
 
 abbrev pub answer_data : HubSettings → Answer → Data
 answer_data s (answer.Reply reply) = reply_data s reply

@@ -1,6 +1,7 @@
--- The lines of steps as JSON objects. Each is a table of its members, with the keys in byte order: every command begins
--- with the clock reading and ends with the asker. Moments are absolute milliseconds, amounts cents, and participants
--- codes. The commands stand for the scheme's messages (EPC004-16, chapter 4: datasets); their form is this hub's own.
+-- The lines of steps as JSON objects. Each is a table of its members, with the keys in byte order:
+-- every command begins with the clock reading and ends with the asker. Moments are absolute
+-- milliseconds, amounts cents, and participants codes. The commands stand for the scheme's messages
+-- (EPC004-16, chapter 4: datasets); their form is this hub's own.
 use Rattle.std.specs.Prelude.{ℕ, ◌+◌, List, [], ◌∷◌, ◌++◌, codes}
 use Rattle.serde_json.specs.Data.{Data, object, string}
 use Rattle.serde_json.specs.Written.{compact_text}
@@ -9,6 +10,9 @@ use Rattle.inst_command.specs.LineText.{code_numbered}
 use Rattle.inst_command.specs.declared.ask.Ask.{Ask}
 use Rattle.inst_command.specs.declared.command.Command.{Command}
 use Rattle.inst_command.specs.declared.command.Command.TheVariants as command
+use Rattle.inst_command.specs.declared.funding.Funding.{Funding}
+use Rattle.inst_command.specs.declared.query.Query.{Query}
+use Rattle.inst_command.specs.declared.query.Query.TheVariants as query
 use Rattle.inst_command.specs.declared.submission.Submission.{Submission}
 use Rattle.inst_command.specs.declared.step.Step.{Step}
 use Rattle.inst_command.specs.declared.step.Step.TheVariants as step
@@ -27,11 +31,11 @@ abbrev pub coded : HubSettings → List ℕ → ℕ → List ℕ × Data
 coded s key number = (key, string (code_numbered s number))
 
 -- a funding or a defunding of the asker's position, by its name
-abbrev pub funding_rows : List ℕ → List ℕ → ℕ → List (List ℕ × Data)
-funding_rows name reference cents =
-    (codes "cents", whole cents)
+abbrev pub funding_rows : List ℕ → Funding → List (List ℕ × Data)
+funding_rows name funding =
+    (codes "cents", whole funding.cents)
     ∷ named_command name
-    ∷ (codes "ref", string reference) ∷ []
+    ∷ (codes "ref", string funding.reference) ∷ []
 
 -- a submission of a credit transfer (pacs.008)
 abbrev pub submission_rows : HubSettings → Submission → List (List ℕ × Data)
@@ -76,17 +80,21 @@ statement_rows skip count =
     ∷ (codes "count", whole count)
     ∷ (codes "skip", whole skip) ∷ []
 
+-- a query
+abbrev pub query_rows : Query → List (List ℕ × Data)
+query_rows query.Position = named_command (codes "position") ∷ []
+query_rows (query.Statement skip count) = statement_rows skip count
+
 -- what a command has between the clock reading and the asker
 abbrev pub command_rows : HubSettings → Command → List (List ℕ × Data)
-command_rows s (command.Fund reference cents) = funding_rows (codes "fund") reference cents
-command_rows s (command.Defund reference cents) = funding_rows (codes "defund") reference cents
+command_rows s (command.Fund funding) = funding_rows (codes "fund") funding
+command_rows s (command.Defund funding) = funding_rows (codes "defund") funding
 command_rows s (command.Submit submission) = submission_rows s submission
 command_rows s (command.Confirm from id) = confirmation_rows s from id
 command_rows s (command.Reject from id reason) = rejection_rows s from id reason
 command_rows s (command.Investigate id) = investigation_rows id
 command_rows s (command.Fetch max) = fetch_rows max
-command_rows s command.Position = named_command (codes "position") ∷ []
-command_rows s (command.Statement skip count) = statement_rows skip count
+command_rows s (command.Query asked) = query_rows asked
 
 -- a command line: the clock reading, the command and the asker
 abbrev pub ask_rows : HubSettings → Ask → List (List ℕ × Data)
@@ -122,9 +130,9 @@ abbrev pub step_data : HubSettings → Step → Data
 step_data s step = object (members (step_rows s step))
 
 -- the text of an object with these members
-unfoldable pub line_of : List (List ℕ × Data) → List ℕ
-line_of rows = compact_text (object (members rows))
+unfoldable pub members_line : List (List ℕ × Data) → List ℕ
+members_line rows = compact_text (object (members rows))
 
 -- the line of a step, without the newline
 abbrev pub step_line : HubSettings → Step → List ℕ
-step_line s step = line_of (step_rows s step)
+step_line s step = members_line (step_rows s step)

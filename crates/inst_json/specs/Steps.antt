@@ -1,5 +1,6 @@
--- The steps of script lines. Each is a table of its fields, in which no order counts, and then the checks of
--- what they hold, in the order in which refusals are told: moments, participants. Steps are this hub's own.
+-- The steps of script lines. Each is a table of its fields, in which no order counts, and then the
+-- checks of what they hold, in the order in which refusals are told: moments, participants. Steps
+-- are this hub's own.
 use Rattle.std.specs.Prelude.{ℕ, List, Result, Ok, Err, if◌then◌else◌, codes}
 use Rattle.inst_base.specs.declared.fault.Fault.TheVariants.{BadField}
 use Rattle.inst_settings.specs.Settings.{HubSettings, same_text}
@@ -50,7 +51,8 @@ abbrev pub step_named : HubSettings → LineFields → List ℕ → Result Step 
 step_named s line text =
     if same_text text (codes "deliver") then deliver_of s line else
     (if same_text text (codes "learn") then learn_of s line else
-    (if same_text text (codes "expire") then expire_of s line else in_field name.Step (Err BadField)))
+    (if same_text text (codes "expire") then expire_of s line
+    else in_field name.Step (Err BadField)))
 
 -- the step that the field `step` names
 unfoldable pub move_of : HubSettings → LineFields → Result Step Refusal
@@ -64,6 +66,7 @@ asked_of s line = do
   ask ← ask_of s line
   Ok (step.Ask ask)
 
--- the step of a script line: an object with the field `step`, whatever it holds, is read by that field alone
+-- the step of a script line: an object with the field `step`, whatever it holds, is read by that
+-- field alone
 unfoldable pub step_of : HubSettings → LineFields → Result Step Refusal
 step_of s line = if is_there line.step then move_of s line else asked_of s line

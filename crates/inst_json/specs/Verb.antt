@@ -3,11 +3,12 @@ use Rattle.std.specs.Prelude.{ℕ, List, Result, Ok, Err, if◌then◌else◌, c
 use Rattle.inst_base.specs.declared.fault.Fault.{Fault}
 use Rattle.inst_base.specs.declared.fault.Fault.TheVariants.{BadField}
 use Rattle.inst_settings.specs.Settings.{same_text}
-use Rattle.inst_json.specs.LineFields.{Found}
+use Rattle.inst_json.specs.LineFields.{FoundValue}
 use Rattle.inst_json.specs.Refusals.{◌>>=◌}
 use Rattle.inst_json.specs.Fields.{text_in}
 use Rattle.inst_json.specs.declared.verb.Verb.{Verb}
-use Rattle.inst_json.specs.declared.verb.Verb.TheVariants.{Fund, Defund, Submit, Confirm, Reject, Investigate, Fetch, Position, Statement}
+use Rattle.inst_json.specs.declared.verb.Verb.TheVariants.{Fund, Defund, Submit, Confirm, Reject}
+use Rattle.inst_json.specs.declared.verb.Verb.TheVariants.{Investigate, Fetch, Position, Statement}
 
 -- the verb of a name, or that there is none
 unfoldable pub verb_of : List ℕ → Result Verb Fault
@@ -23,5 +24,5 @@ verb_of name =
     (if same_text name (codes "statement") then Ok Statement else Err BadField))))))))
 
 -- the verb in a field
-unfoldable pub verb_in : Found → Result Verb Fault
+unfoldable pub verb_in : FoundValue → Result Verb Fault
 verb_in field = text_in field >>= verb_of

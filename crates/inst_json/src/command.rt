@@ -3,7 +3,8 @@ ghost use Rattle.std.specs.Prelude.{◌≡◌, true, IfOk};
 ghost use Rattle.inst_json.specs.LineFields.{fields_told};
 ghost use Rattle.inst_settings.specs.Settings.{is_participant, is_within_ceiling};
 ghost use Rattle.inst_command.specs.Ask.{ask_fits};
-ghost use Rattle.inst_json.specs.Commands.{funding_of, submit_of, received_of, reject_of, investigate_of, fetch_of, statement_of, ask_of};
+ghost use Rattle.inst_json.specs.Commands.{funding_of, submit_of, received_of, reject_of};
+ghost use Rattle.inst_json.specs.Commands.{investigate_of, fetch_of, statement_of, ask_of};
 
 use crate::asker::{Asker, KnownAsker, asker_of};
 use crate::checks::{amount, participant, time_stamp};
@@ -12,34 +13,37 @@ use crate::refusal::in_field;
 use crate::scanning::Fields;
 use crate::verb::{Verb, verb_in};
 use crate::{Name, Refusal};
-use inst_base::{Cents, Ident};
-use inst_command::{Ask, Command, Submission};
+use inst_base::Ident;
+use inst_command::{Ask, Command, Funding, Query, Submission};
 use inst_settings::Settings;
 
 /// What is funded or defunded, and by whom.
 #[derive(Clone, Copy)]
-struct Funding {
+struct AskedFunding {
     asker: KnownAsker,
-    reference: Ident,
-    cents: Cents,
+    funding: Funding,
 }
 
 /// What a fund or defund command says, or the first refusal of its line.
 #[tactic(auto, unfolding(crate::specs::Commands::funding_of))]
-fn funding_of(settings: &Settings, asker: &Asker, line: &Fields<'_>) -> Result<Funding, Refusal>
+fn funding_of(
+    settings: &Settings,
+    asker: &Asker,
+    line: &Fields<'_>,
+) -> Result<AskedFunding, Refusal>
     ensures value { result ≡ funding_of settings.now asker.now (fields_told line.now) }
-    ensures asker_fits { IfOk result (λ funding. is_participant settings.now funding.asker.who ≡ true) }
-    ensures cents_fit { IfOk result (λ funding. is_within_ceiling settings.now funding.cents ≡ true) }
+    ensures asker_fits { IfOk result (λ asked. is_participant settings.now asked.asker.who ≡ true) }
+    ensures cents_fit { IfOk result (λ asked.
+        is_within_ceiling settings.now asked.funding.cents ≡ true) }
 {
     let reference = in_field(Name::Reference, text(line.reference))?;
     let cents = in_field(Name::Cents, whole(line.cents))?;
     let reference = in_field(Name::Reference, Ident::new(reference))?;
     let cents = in_field(Name::Cents, amount(settings, cents))?;
     let asker = asker.known(settings)?;
-    Ok(Funding {
+    Ok(AskedFunding {
         asker,
-        reference,
-        cents,
+        funding: Funding { reference, cents },
     })
 }
 
@@ -78,7 +82,8 @@ struct Received {
 #[tactic(auto, unfolding(crate::specs::Commands::received_of))]
 fn received_of(settings: &Settings, asker: &Asker, line: &Fields<'_>) -> Result<Received, Refusal>
     ensures value { result ≡ received_of settings.now asker.now (fields_told line.now) }
-    ensures asker_fits { IfOk result (λ transfer. is_participant settings.now transfer.asker.who ≡ true) }
+    ensures asker_fits { IfOk result (λ transfer.
+        is_participant settings.now transfer.asker.who ≡ true) }
     ensures from_fits { IfOk result (λ transfer. is_participant settings.now transfer.from ≡ true) }
 {
     let from = in_field(Name::From, code(line.from))?;
@@ -132,7 +137,7 @@ fn statement(settings: &Settings, asker: &Asker, line: &Fields<'_>) -> Result<As
     let skip = in_field(Name::Skip, whole(line.skip))?;
     let count = in_field(Name::Count, count(line.count))?;
     let asker = asker.known(settings)?;
-    Ok(asker.asks(Command::Statement { skip, count }))
+    Ok(asker.asks(Command::Query(Query::Statement { skip, count })))
 }
 
 /// The ask of a command line's fields, or the first refusal of the line.
@@ -145,20 +150,12 @@ pub(crate) fn ask_of(settings: &Settings, line: &Fields<'_>) -> Result<Ask, Refu
     let asker = asker_of(line)?;
     match verb {
         Verb::Fund => {
-            let Funding {
-                asker,
-                reference,
-                cents,
-            } = funding_of(settings, &asker, line)?;
-            Ok(asker.asks(Command::Fund { reference, cents }))
+            let AskedFunding { asker, funding } = funding_of(settings, &asker, line)?;
+            Ok(asker.asks(Command::Fund(funding)))
         }
         Verb::Defund => {
-            let Funding {
-                asker,
-                reference,
-                cents,
-            } = funding_of(settings, &asker, line)?;
-            Ok(asker.asks(Command::Defund { reference, cents }))
+            let AskedFunding { asker, funding } = funding_of(settings, &asker, line)?;
+            Ok(asker.asks(Command::Defund(funding)))
         }
         Verb::Submit => submit(settings, &asker, line),
         Verb::Confirm => {
@@ -168,7 +165,7 @@ pub(crate) fn ask_of(settings: &Settings, line: &Fields<'_>) -> Result<Ask, Refu
         Verb::Reject => reject(settings, &asker, line),
         Verb::Investigate => investigate(settings, &asker, line),
         Verb::Fetch => fetch(settings, &asker, line),
-        Verb::Position => Ok(asker.known(settings)?.asks(Command::Position)),
+        Verb::Position => Ok(asker.known(settings)?.asks(Command::Query(Query::Position))),
         Verb::Statement => statement(settings, &asker, line),
     }
 }

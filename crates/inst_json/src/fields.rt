@@ -1,9 +1,10 @@
 //! What a line's fields hold.
 ghost use Rattle.std.specs.Prelude.{◌≡◌, true, IfOk};
 ghost use Rattle.inst_command.specs.Ask.{is_count};
-ghost use Rattle.inst_json.specs.LineFields.{told};
+ghost use Rattle.inst_json.specs.LineFields.{field_value};
 ghost use Rattle.inst_json.specs.Refusals.{Gives};
-ghost use Rattle.inst_json.specs.Fields.{text_in, whole_in, code_in, reason_in, count_in, place_in, is_there};
+ghost use Rattle.inst_json.specs.Fields.{text_in, whole_in, code_in, reason_in, count_in, place_in};
+ghost use Rattle.inst_json.specs.Fields.{is_there};
 
 use crate::scanning::Field;
 use inst_base::{Code, Fault, Reason};
@@ -13,7 +14,7 @@ use inst_settings::MOST_PLACES;
 /// The text in a field, or `BadField` where there is none.
 #[inline(always)]
 pub fn text(field: Field<'_>) -> Result<&str, Fault>
-    ensures { Gives (λ text. text.now) result (text_in (told field.entry)) }
+    ensures { Gives (λ text. text.now) result (text_in (field_value field.entry)) }
 {
     match field {
         Field::Text(text) => Ok(text),
@@ -24,7 +25,7 @@ pub fn text(field: Field<'_>) -> Result<&str, Fault>
 /// The whole number in a field, or `BadField` where there is none of 64 bits.
 #[inline(always)]
 pub fn whole(field: Field<'_>) -> Result<u64, Fault>
-    ensures { result ≡ whole_in (told field.entry) }
+    ensures { result ≡ whole_in (field_value field.entry) }
 {
     match field {
         Field::Whole(whole) => Ok(whole),
@@ -35,7 +36,7 @@ pub fn whole(field: Field<'_>) -> Result<u64, Fault>
 /// Whether anything stands in a field.
 #[inline(always)]
 pub(crate) fn is_there(field: Field<'_>) -> bool
-    ensures { result ≡ is_there (told field.entry) }
+    ensures { result ≡ is_there (field_value field.entry) }
 {
     match field {
         Field::Missing => false,
@@ -46,7 +47,7 @@ pub(crate) fn is_there(field: Field<'_>) -> bool
 /// The participant's code in a field, or `BadField` where there is none.
 #[tactic(auto, unfolding(crate::specs::Fields::code_in))]
 pub fn code(field: Field<'_>) -> Result<Code, Fault>
-    ensures { result ≡ code_in (told field.entry) }
+    ensures { result ≡ code_in (field_value field.entry) }
 {
     Code::new(text(field)?)
 }
@@ -54,7 +55,7 @@ pub fn code(field: Field<'_>) -> Result<Code, Fault>
 /// The reason in a field, or `BadField` where there is none.
 #[tactic(auto, unfolding(crate::specs::Fields::reason_in))]
 pub fn reason(field: Field<'_>) -> Result<Reason, Fault>
-    ensures { result ≡ reason_in (told field.entry) }
+    ensures { result ≡ reason_in (field_value field.entry) }
 {
     Reason::new(text(field)?)
 }
@@ -62,7 +63,7 @@ pub fn reason(field: Field<'_>) -> Result<Reason, Fault>
 /// How many entries or lines a field asks for, 1 to 100, or `BadField`.
 #[tactic(auto, unfolding(crate::specs::Fields::count_in))]
 pub fn count(field: Field<'_>) -> Result<u32, Fault>
-    ensures value { result ≡ count_in (told field.entry) }
+    ensures value { result ≡ count_in (field_value field.entry) }
     ensures fits { IfOk result (λ count. is_count count ≡ true) }
 {
     match u32::try_from(whole(field)?) {
@@ -74,7 +75,7 @@ pub fn count(field: Field<'_>) -> Result<u32, Fault>
 /// The place in a field, 0 to 1,023, or `BadField`.
 #[tactic(auto, unfolding(crate::specs::Fields::place_in))]
 pub(crate) fn place(field: Field<'_>) -> Result<u16, Fault>
-    ensures { result ≡ place_in (told field.entry) }
+    ensures { result ≡ place_in (field_value field.entry) }
 {
     match u16::try_from(whole(field)?) {
         Ok(place) if place < MOST_PLACES => Ok(place),

@@ -1,6 +1,7 @@
-//! The laws of written replies and steps. Each is a function without a body whose contract is the law, so that
-//! the check proves it.
-ghost use Rattle.inst_json.specs.Laws.{WhatIsWrittenReadsBack, ATextTellsItsReply, WhatIsWrittenOfAStepReadsBack};
+//! The laws of written replies and steps. Each is a function without a body whose contract is the
+//! law, so that the check proves it.
+ghost use Rattle.inst_json.specs.Laws.{WhatIsWrittenReadsBack, ATextTellsItsReply};
+ghost use Rattle.inst_json.specs.Laws.{WhatIsWrittenOfAStepReadsBack};
 
 /// What is written of a reply is JSON that reads back as the reply's object.
 pub fn what_is_written_reads_back()

@@ -26,6 +26,6 @@ pub use name::Name;
 pub use read::{LineReader, read_command, read_step};
 pub use refusal::Refusal;
 pub use reply::{append_reply, code_text};
-pub use scanning::{Field, Fields, Form, scan, scan_into};
+pub use scanning::{Field, Fields, Form, scan};
 pub use step_lines::append_step;
 pub use write::{append_answer, write_answer, write_reply};

@@ -5,10 +5,10 @@ ghost use Rattle.serde_json.specs.Find.{get};
 ghost use Rattle.serde_json.specs.View.{view};
 ghost use Rattle.inst_base.specs.declared.fault.Fault.TheVariants.{NotJson};
 ghost use Rattle.inst_json.specs.declared.scanning.form.Form.TheVariants.{Plain, Broken};
-ghost use Rattle.inst_json.specs.LineFields.{found, told, fields_of, fields_told};
+ghost use Rattle.inst_json.specs.LineFields.{value_found, field_value, fields_of, fields_told};
 ghost use Rattle.inst_json.specs.Lines.{json_of};
 
-use crate::scanning::{Field, Fields, Form, scan_into};
+use crate::scanning::{Field, Fields, Form, scan};
 use serde_json::Value;
 
 /// What one pass over a line finds.
@@ -30,13 +30,13 @@ pub(crate) fn scan_line(line: &[u8]) -> Scanned<'_>
         form: Form::Other,
         fields: Fields::new(),
     };
-    scanned.form = scan_into(line, &mut scanned.fields);
+    scanned.form = scan(line, &mut scanned.fields);
     scanned
 }
 
 /// What a value has under a name.
 pub fn field_at<'v>(value: &'v Value, name: &str) -> Field<'v>
-    ensures { told result ≡ found (get name.now (view value.now)) }
+    ensures { field_value result ≡ value_found (get name.now (view value.now)) }
 {
     let Some(member) = value.get(name) else {
         return Field::Missing;

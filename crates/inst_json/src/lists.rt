@@ -6,7 +6,7 @@ ghost use Rattle.serde_json.specs.Written.{compact_text, comma_if};
 ghost use Rattle.inst_settings.specs.Settings.{is_participant};
 ghost use Rattle.inst_command.specs.LineText.{line_fits, line_text};
 ghost use Rattle.inst_json.specs.Laws.{entry_has_words};
-ghost use Rattle.inst_json.specs.inner.Row.{put};
+ghost use Rattle.inst_json.specs.inner.Row.{row_with_text};
 ghost use Rattle.inst_json.specs.Replies.{entry_data, inbox_data, statement_data};
 
 use crate::piece::{push_number, push_text};
@@ -22,7 +22,8 @@ pub(crate) fn append_inbox(
     entries: &[Entry],
 ) -> Result<(), AllocError>
     requires { list_all (λ entry. is_participant settings.now entry.from) entries.now ≡ true }
-    ensures text { OnOk result (out.new.items ≡ out.old.items ++ compact_text (inbox_data settings.now entries.now)) }
+    ensures text { OnOk result (out.new.items
+        ≡ out.old.items ++ compact_text (inbox_data settings.now entries.now)) }
     ensures words { OnOk result (list_all (entry_has_words settings.now) entries.now ≡ true) }
 {
     push_text(out, "{\"entries\":[")?;
@@ -50,7 +51,8 @@ fn append_entry<'a>(
     entry: &'a Entry,
 ) -> Result<(), AllocError>
     requires { is_participant settings.now entry.now.from ≡ true }
-    ensures text { OnOk result (out.new.items ≡ out.old.items ++ compact_text (entry_data settings.now entry.now)) }
+    ensures text { OnOk result (out.new.items
+        ≡ out.old.items ++ compact_text (entry_data settings.now entry.now)) }
     ensures words { OnOk result (entry_has_words settings.now entry.now ≡ true) }
 {
     let cents = entry.cents.get();
@@ -74,7 +76,8 @@ pub(crate) fn append_statement(
     lines: &[Line],
 ) -> Result<(), AllocError>
     requires { list_all (line_fits settings.now) lines.now ≡ true }
-    ensures { OnOk result (out.new.items ≡ out.old.items ++ compact_text (statement_data settings.now lines.now)) }
+    ensures { OnOk result (out.new.items
+        ≡ out.old.items ++ compact_text (statement_data settings.now lines.now)) }
 {
     push_text(out, "{\"lines\":[")?;
     for (index, line) in lines.iter().enumerate() {
@@ -106,7 +109,7 @@ fn append_line(out: &mut Vec<u8>, settings: &Settings, line: &Line) -> Result<()
 #[inline(always)]
 fn put_text(row: &mut [u8; 93], column: usize, text: &str)
     requires { column + length text.now ≤ 93 }
-    ensures { row.new ≡ put row.old column text.now }
+    ensures { row.new ≡ row_with_text row.old column text.now }
 {
     row[column..column + text.len()].copy_from_slice(text.as_bytes());
 }
@@ -115,7 +118,7 @@ fn put_text(row: &mut [u8; 93], column: usize, text: &str)
 #[inline(always)]
 fn put_number(row: &mut [u8; 93], end: usize, number: u64)
     requires { (length (decimal number) ≤ end) × (end ≤ 93) }
-    ensures { row.new ≡ put row.old (end - length (decimal number)) (decimal number) }
+    ensures { row.new ≡ row_with_text row.old (end - length (decimal number)) (decimal number) }
 {
     write_digits(number, row, end);
 }

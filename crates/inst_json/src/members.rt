@@ -1,4 +1,5 @@
-//! The members of a JSON object, each put at the end of those before. No name and no text of theirs needs an escape.
+//! The members of a JSON object, each put at the end of those before. No name and no text of theirs
+//! needs an escape.
 ghost use Rattle.std.specs.Prelude.{◌≡◌, ◌++◌, [], ◌∷◌, IsTrue, OnOk};
 ghost use Rattle.json.specs.Print.{quoted};
 ghost use Rattle.serde_json.specs.Data.{string};
@@ -16,7 +17,8 @@ pub(crate) fn begin_with_text<'a>(
 ) -> Result<(), AllocError>
     requires name { IsTrue (is_plain name.now) }
     requires text { IsTrue (is_plain text.now) }
-    ensures { OnOk result (out.new.items ≡ out.old.items ++ first_member name.now (string text.now)) }
+    ensures { OnOk result (out.new.items
+        ≡ out.old.items ++ first_member name.now (string text.now)) }
 {
     push_text(out, "{")?;
     push_name(out, name)?;
@@ -41,7 +43,8 @@ pub(crate) fn push_text_member<'a>(
 ) -> Result<(), AllocError>
     requires name { IsTrue (is_plain name.now) }
     requires text { IsTrue (is_plain text.now) }
-    ensures { OnOk result (out.new.items ≡ out.old.items ++ next_member name.now (string text.now)) }
+    ensures { OnOk result (out.new.items
+        ≡ out.old.items ++ next_member name.now (string text.now)) }
 {
     push_text(out, ",")?;
     push_name(out, name)?;

@@ -5,7 +5,8 @@ ghost use Rattle.inst_command.specs.Ask.{ask_fits};
 ghost use Rattle.inst_command.specs.Step.{step_fits};
 ghost use Rattle.inst_json.specs.Refusals.{IsUnlessMemory, IsReadUnlessMemory};
 ghost use Rattle.inst_json.specs.inner.Refusals.{GivesUnlessMemory};
-ghost use Rattle.inst_json.specs.Lines.{json_of, blamed_command_of_line, command_of_line, blamed_step_of_line, step_of_line};
+ghost use Rattle.inst_json.specs.Lines.{json_of, blamed_command_of_line, command_of_line};
+ghost use Rattle.inst_json.specs.Lines.{blamed_step_of_line, step_of_line};
 ghost use Rattle.inst_json.specs.inner.Lines.{document};
 
 use crate::Refusal;
@@ -24,8 +25,8 @@ use std::str;
 /// How deep arrays and objects of a line may nest, as `serde_json` reads them.
 const MOST_DEPTH: usize = 127;
 
-/// Reads lines one after another. A plain line takes no memory, nor does one that the pass over it knows
-/// to be no JSON; what refuses any other that is none is kept from line to line.
+/// Reads lines one after another. A plain line takes no memory, nor does one that the pass over it
+/// knows to be no JSON; what refuses any other that is none is kept from line to line.
 ///
 /// ```text
 /// let mut reader = LineReader::new(alloc);
@@ -46,11 +47,11 @@ impl LineReader {
         }
     }
 
-    /// The ask of a command line, or the first of its refusals: `NotJson`, `BadField`, `BadIdentifier`,
-    /// `BadAmount`, `BadMoment`, `UnknownParticipant`, in this order. Moments in the line are absolute
-    /// milliseconds, and amounts are cents. The fields may stand in any order, fields that the command
-    /// doesn't have are ignored, and of a field given twice the last counts. `Memory` comes only where
-    /// memory was refused.
+    /// The ask of a command line, or the first of its refusals: `NotJson`, `BadField`,
+    /// `BadIdentifier`, `BadAmount`, `BadMoment`, `UnknownParticipant`, in this order. Moments in
+    /// the line are absolute milliseconds, and amounts are cents. The fields may stand in any
+    /// order, fields that the command doesn't have are ignored, and of a field given twice the last
+    /// counts. `Memory` comes only where memory was refused.
     #[tactic(auto, unfolding(crate::specs::Lines::command_of_line))]
     pub fn read_command(&mut self, settings: &Settings, line: &[u8]) -> Result<Ask, Fault>
         ensures value { IsUnlessMemory result (command_of_line settings.now line.now) }
@@ -62,8 +63,8 @@ impl LineReader {
         }
     }
 
-    /// The same, where a refusal tells by which field the line is refused: of fields that are refused alike, the one that
-    /// is looked at first.
+    /// The same, where a refusal tells by which field the line is refused: of fields that are
+    /// refused alike, the one that is looked at first.
     #[tactic(auto, unfolding(crate::specs::Lines::blamed_command_of_line))]
     #[inline(always)]
     pub fn read_blamed_command(&mut self, settings: &Settings, line: &[u8]) -> Result<Ask, Refusal>
@@ -81,9 +82,9 @@ impl LineReader {
         }
     }
 
-    /// The step of a script line, or the first of its refusals, in the order of `read_command`. An object
-    /// with the field `step` is a delivery, a booking or an expiry, and any other is a command. `Memory`
-    /// comes only where memory was refused.
+    /// The step of a script line, or the first of its refusals, in the order of `read_command`. An
+    /// object with the field `step` is a delivery, a booking or an expiry, and any other is a
+    /// command. `Memory` comes only where memory was refused.
     #[tactic(auto, unfolding(crate::specs::Lines::step_of_line))]
     pub fn read_step(&mut self, settings: &Settings, line: &[u8]) -> Result<Step, Fault>
         ensures value { IsUnlessMemory result (step_of_line settings.now line.now) }
@@ -113,8 +114,8 @@ impl LineReader {
         }
     }
 
-    /// The JSON value of a line, or `NotJson` where it is no JSON text in UTF-8 that nests at most 127
-    /// deep: that is found without a tree, and without the place of the error.
+    /// The JSON value of a line, or `NotJson` where it is no JSON text in UTF-8 that nests at most
+    /// 127 deep: that is found without a tree, and without the place of the error.
     #[tactic(auto, unfolding(crate::specs::Lines::json_of))]
     #[inline(never)]
     fn json_of(&mut self, line: &[u8]) -> Result<Value, Fault>

@@ -5,8 +5,8 @@ ghost use Rattle.inst_json.specs.Refusals.{in_field};
 use crate::Name;
 use inst_base::Fault;
 
-/// Why a line asks for nothing: the fault that its reply tells, and the field that lacks what its command wants,
-/// where the line is an object.
+/// Why a line asks for nothing: the fault that its reply tells, and the field that lacks what its
+/// command wants, where the line is an object.
 #[derive(Clone, Copy, Debug, PartialEq, Eq)]
 pub struct Refusal {
     pub fault: Fault,

@@ -5,8 +5,10 @@ ghost use Rattle.inst_base.specs.Text.{is_code};
 ghost use Rattle.inst_settings.specs.Settings.{is_participant};
 ghost use Rattle.inst_command.specs.LineText.{code_numbered};
 ghost use Rattle.inst_json.specs.Laws.{has_words};
-ghost use Rattle.inst_json.specs.Replies.{done_data, taken_data, state_data, rejected_data, state_of, is_used};
-ghost use Rattle.inst_json.specs.Replies.{position_data, refused_data, reply_data, reply_can_be_written};
+ghost use Rattle.inst_json.specs.Replies.{done_data, taken_data, state_data, rejected_data};
+ghost use Rattle.inst_json.specs.Replies.{state_members, is_used};
+ghost use Rattle.inst_json.specs.Replies.{position_data, refused_data, reply_data};
+ghost use Rattle.inst_json.specs.Replies.{reply_can_be_written};
 ghost use Rattle.inst_json.specs.inner.Replies.{is_state_name};
 
 use crate::lists::{append_inbox, append_statement};
@@ -16,12 +18,13 @@ use inst_command::{Outcome, Reply, State};
 use inst_settings::Settings;
 use std::alloc::AllocError;
 
-/// Puts the line of a reply, without its newline, at the end of `out`: compact JSON with the keys in
-/// byte order. Moments are absolute milliseconds, and amounts are cents. After an error a part of the
-/// line may stand at the end.
+/// Puts the line of a reply, without its newline, at the end of `out`: compact JSON with the keys
+/// in byte order. Moments are absolute milliseconds, and amounts are cents. After an error a part
+/// of the line may stand at the end.
 pub fn append_reply(settings: &Settings, reply: &Reply, out: &mut Vec<u8>) -> Result<(), AllocError>
     requires { reply_can_be_written settings.now reply.now ≡ true }
-    ensures text { OnOk result (out.new.items ≡ out.old.items ++ compact_text (reply_data settings.now reply.now)) }
+    ensures text { OnOk result (out.new.items
+        ≡ out.old.items ++ compact_text (reply_data settings.now reply.now)) }
     ensures words { OnOk result (has_words settings.now reply.now ≡ true) }
 {
     match reply {
@@ -40,7 +43,8 @@ pub fn append_reply(settings: &Settings, reply: &Reply, out: &mut Vec<u8>) -> Re
 }
 
 fn append_done(out: &mut Vec<u8>, reference: &Ident) -> Result<(), AllocError>
-    ensures { OnOk result (out.new.items ≡ out.old.items ++ compact_text (done_data reference.now)) }
+    ensures { OnOk result (out.new.items
+        ≡ out.old.items ++ compact_text (done_data reference.now)) }
 {
     let reference = reference.text();
     push_text(out, "{\"ref\":\"")?;
@@ -50,7 +54,8 @@ fn append_done(out: &mut Vec<u8>, reference: &Ident) -> Result<(), AllocError>
 
 /// The deadline is in absolute milliseconds.
 fn append_taken(out: &mut Vec<u8>, id: &Ident, deadline: u64) -> Result<(), AllocError>
-    ensures { OnOk result (out.new.items ≡ out.old.items ++ compact_text (taken_data id.now deadline)) }
+    ensures { OnOk result (out.new.items
+        ≡ out.old.items ++ compact_text (taken_data id.now deadline)) }
 {
     let id = id.text();
     push_text(out, "{\"deadline\":")?;
@@ -66,7 +71,8 @@ fn append_position(
     reserved: u64,
     available: u64,
 ) -> Result<(), AllocError>
-    ensures { OnOk result (out.new.items ≡ out.old.items ++ compact_text (position_data position reserved available)) }
+    ensures { OnOk result (out.new.items
+        ≡ out.old.items ++ compact_text (position_data position reserved available)) }
 {
     push_text(out, "{\"available\":")?;
     push_number(out, available)?;
@@ -109,7 +115,8 @@ fn append_state(
     requires known { is_participant settings.now from ≡ true }
     requires used { is_used state.now ≡ true }
     ensures { OnOk result (out.new.items
-        ≡ out.old.items ++ compact_text (state_of (code_numbered settings.now from) id.now state.now)) }
+        ≡ out.old.items
+        ++ compact_text (state_members (code_numbered settings.now from) id.now state.now)) }
 {
     let from = code_text(settings, from);
     match state {
@@ -130,7 +137,8 @@ fn append_named_state<'a>(
 ) -> Result<(), AllocError>
     requires from_form { IsTrue (is_code from.now) }
     requires name_form { is_state_name name.now ≡ true }
-    ensures { OnOk result (out.new.items ≡ out.old.items ++ compact_text (state_data from.now id.now name.now)) }
+    ensures { OnOk result (out.new.items
+        ≡ out.old.items ++ compact_text (state_data from.now id.now name.now)) }
 {
     let id = id.text();
     push_text(out, "{\"from\":\"")?;
@@ -149,7 +157,8 @@ fn append_rejected<'a>(
     reason: &'a Reason,
 ) -> Result<(), AllocError>
     requires { IsTrue (is_code from.now) }
-    ensures { OnOk result (out.new.items ≡ out.old.items ++ compact_text (rejected_data from.now id.now reason.now)) }
+    ensures { OnOk result (out.new.items
+        ≡ out.old.items ++ compact_text (rejected_data from.now id.now reason.now)) }
 {
     let id = id.text();
     let reason = reason.text();

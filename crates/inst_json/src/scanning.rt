@@ -9,4 +9,4 @@ mod parts;
 
 pub use fields::{Field, Fields};
 pub use form::Form;
-pub use line::{scan, scan_into};
+pub use line::scan;

@@ -3,7 +3,8 @@ ghost use Rattle.std.specs.Prelude.{◌≡◌, true, IfOk};
 ghost use Rattle.inst_json.specs.LineFields.{fields_told};
 ghost use Rattle.inst_settings.specs.Settings.{is_participant};
 ghost use Rattle.inst_command.specs.Step.{step_fits};
-ghost use Rattle.inst_json.specs.Steps.{passing_of, deliver_of, learn_of, expire_of, move_of, step_of};
+ghost use Rattle.inst_json.specs.Steps.{passing_of, deliver_of, learn_of, expire_of, move_of};
+ghost use Rattle.inst_json.specs.Steps.{step_of};
 
 use crate::asker::{KnownAsker, asker_of};
 use crate::checks::participant;
@@ -16,8 +17,8 @@ use inst_base::Fault;
 use inst_command::Step;
 use inst_settings::Settings;
 
-/// The step of a script line's fields, or the first refusal of the line: what its field `step` names,
-/// or else its ask.
+/// The step of a script line's fields, or the first refusal of the line: what its field `step`
+/// names, or else its ask.
 #[tactic(auto, unfolding(crate::specs::Steps::step_of, crate::specs::Steps::asked_of))]
 pub(crate) fn step_of(settings: &Settings, line: &Fields<'_>) -> Result<Step, Refusal>
     ensures value { result ≡ step_of settings.now (fields_told line.now) }

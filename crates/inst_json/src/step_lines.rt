@@ -8,25 +8,30 @@ ghost use Rattle.inst_settings.specs.Settings.{is_participant};
 ghost use Rattle.inst_settings.specs.Lawful.{IsSettings};
 ghost use Rattle.inst_command.specs.Ask.{command_fits, ask_fits};
 ghost use Rattle.inst_command.specs.Step.{step_fits};
-ghost use Rattle.inst_json.specs.Laws.{has_code, command_has_form, ask_has_form, has_place};
+ghost use Rattle.inst_json.specs.Laws.{has_code, query_has_form, command_has_form, ask_has_form};
+ghost use Rattle.inst_json.specs.Laws.{has_place};
 ghost use Rattle.inst_json.specs.Lines.{step_of_line};
 ghost use Rattle.inst_json.specs.Members.{is_plain, is_printable, next_members};
-ghost use Rattle.inst_json.specs.StepLines.{funding_rows, submission_rows, confirmation_rows, rejection_rows};
-ghost use Rattle.inst_json.specs.StepLines.{investigation_rows, fetch_rows, statement_rows, command_rows, ask_rows};
-ghost use Rattle.inst_json.specs.StepLines.{passing_rows, expiry_rows, line_of, step_line};
+ghost use Rattle.inst_json.specs.StepLines.{funding_rows, submission_rows, confirmation_rows};
+ghost use Rattle.inst_json.specs.StepLines.{rejection_rows};
+ghost use Rattle.inst_json.specs.StepLines.{investigation_rows, fetch_rows, statement_rows};
+ghost use Rattle.inst_json.specs.StepLines.{query_rows};
+ghost use Rattle.inst_json.specs.StepLines.{command_rows, ask_rows};
+ghost use Rattle.inst_json.specs.StepLines.{passing_rows, expiry_rows, members_line, step_line};
 
 use crate::members::{
     begin_with_text, begin_with_whole, push_end, push_text_member, push_whole_member,
 };
 use crate::reply::code_text;
 use crate::step::Passing;
-use inst_base::{Cents, Ident, Moment, Reason};
-use inst_command::{Ask, Command, Step, Submission};
+use inst_base::{Ident, Moment, Reason};
+use inst_command::{Ask, Command, Funding, Query, Step, Submission};
 use inst_settings::Settings;
 use std::alloc::AllocError;
 
-/// Appends the line of a step, without its newline, to `out`: compact JSON with the keys in byte order, which
-/// `read_step` reads as the step if its place is below 1,024. Moments are absolute milliseconds, and amounts are cents.
+/// Appends the line of a step, without its newline, to `out`: compact JSON with the keys in byte
+/// order, which `read_step` reads as the step if its place is below 1,024. Moments are absolute
+/// milliseconds, and amounts are cents.
 ///
 /// # Errors
 ///
@@ -36,7 +41,8 @@ pub fn append_step(settings: &Settings, step: &Step, out: &mut Vec<u8>) -> Resul
     ensures text { OnOk result (out.new.items ≡ out.old.items ++ step_line settings.now step.now) }
     ensures back { OnOk result (IsSettings settings.now → has_place step.now ≡ true
         → step_of_line settings.now (step_line settings.now step.now) ≡ Ok step.now) }
-    ensures printable { OnOk result (list_all is_printable (step_line settings.now step.now) ≡ true) }
+    ensures printable { OnOk result (list_all is_printable (step_line settings.now step.now)
+        ≡ true) }
 {
     match step {
         Step::Ask(ask) => append_ask(settings, ask, out),
@@ -61,10 +67,11 @@ pub fn append_step(settings: &Settings, step: &Step, out: &mut Vec<u8>) -> Resul
 }
 
 /// Appends the line of an ask.
-#[tactic(auto, using(crate::proofs::Plain::plain_code))]
+#[tactic(auto, using(crate::proofs::TextsWithoutEscapes::plain_code))]
 fn append_ask(settings: &Settings, ask: &Ask, out: &mut Vec<u8>) -> Result<(), AllocError>
     requires { ask_fits settings.now ask.now ≡ true }
-    ensures text { OnOk result (out.new.items ≡ out.old.items ++ line_of (ask_rows settings.now ask.now)) }
+    ensures text { OnOk result (out.new.items
+        ≡ out.old.items ++ members_line (ask_rows settings.now ask.now)) }
     ensures form { OnOk result (ask_has_form settings.now ask.now ≡ true) }
 {
     let at = millis(settings, ask.at);
@@ -76,7 +83,7 @@ fn append_ask(settings: &Settings, ask: &Ask, out: &mut Vec<u8>) -> Result<(), A
 }
 
 /// Appends the line of a delivery or a booking, by its name.
-#[tactic(auto, using(crate::proofs::Plain::plain_code))]
+#[tactic(auto, using(crate::proofs::TextsWithoutEscapes::plain_code))]
 fn append_passing(
     settings: &Settings,
     name: &str,
@@ -87,8 +94,10 @@ fn append_passing(
     requires who { is_participant settings.now passing.who ≡ true }
     requires from { is_participant settings.now passing.from ≡ true }
     ensures text { OnOk result (out.new.items
-        ≡ out.old.items ++ line_of (passing_rows settings.now name.now passing.who passing.from passing.index)) }
-    ensures form { (has_code settings.now passing.who && has_code settings.now passing.from) ≡ true }
+        ≡ out.old.items
+        ++ members_line (passing_rows settings.now name.now passing.who passing.from passing.index)) }
+    ensures form { (has_code settings.now passing.who && has_code settings.now passing.from)
+        ≡ true }
 {
     let from = code_text(settings, passing.from);
     let who = code_text(settings, passing.who);
@@ -100,7 +109,7 @@ fn append_passing(
 }
 
 /// Appends the line of an expiry.
-#[tactic(auto, using(crate::proofs::Plain::plain_code))]
+#[tactic(auto, using(crate::proofs::TextsWithoutEscapes::plain_code))]
 fn append_expiry(
     settings: &Settings,
     who: u8,
@@ -110,7 +119,7 @@ fn append_expiry(
 ) -> Result<(), AllocError>
     requires { is_participant settings.now who ≡ true }
     ensures text { OnOk result (out.new.items
-        ≡ out.old.items ++ line_of (expiry_rows settings.now who index at)) }
+        ≡ out.old.items ++ members_line (expiry_rows settings.now who index at)) }
     ensures form { (has_code settings.now who && is_moment at) ≡ true }
 {
     let at = millis(settings, at);
@@ -130,38 +139,32 @@ fn push_command(settings: &Settings, command: &Command, out: &mut Vec<u8>) -> Re
     ensures form { OnOk result (command_has_form settings.now command.now ≡ true) }
 {
     match command {
-        Command::Fund { reference, cents } => push_funding("fund", reference, *cents, out),
-        Command::Defund { reference, cents } => push_funding("defund", reference, *cents, out),
+        Command::Fund(funding) => push_funding("fund", funding, out),
+        Command::Defund(funding) => push_funding("defund", funding, out),
         Command::Submit(submission) => push_submission(settings, submission, out),
         Command::Confirm { from, id } => push_confirmation(settings, *from, id, out),
         Command::Reject { from, id, reason } => push_rejection(settings, *from, id, reason, out),
         Command::Investigate { id } => push_investigation(id, out),
         Command::Fetch { max } => push_fetch(*max, out),
-        Command::Position => push_text_member(out, "cmd", "position"),
-        Command::Statement { skip, count } => push_statement(*skip, *count, out),
+        Command::Query(query) => push_query(query, out),
     }
 }
 
 /// Appends the members of a funding or a defunding, by its name.
-#[tactic(auto, using(crate::proofs::Plain::plain_identifier))]
-fn push_funding<'a>(
-    name: &'a str,
-    reference: &'a Ident,
-    cents: Cents,
-    out: &mut Vec<u8>,
-) -> Result<(), AllocError>
+#[tactic(auto, using(crate::proofs::TextsWithoutEscapes::plain_identifier))]
+fn push_funding(name: &str, funding: &Funding, out: &mut Vec<u8>) -> Result<(), AllocError>
     requires { IsTrue (is_plain name.now) }
     ensures text { OnOk result (out.new.items
-        ≡ out.old.items ++ next_members (funding_rows name.now reference.now cents)) }
-    ensures form { (is_identifier reference.now && is_amount cents) ≡ true }
+        ≡ out.old.items ++ next_members (funding_rows name.now funding.now)) }
+    ensures form { (is_identifier funding.now.reference && is_amount funding.now.cents) ≡ true }
 {
-    let reference = reference.text();
-    push_whole_member(out, "cents", cents.get())?;
+    let reference = funding.reference.text();
+    push_whole_member(out, "cents", funding.cents.get())?;
     push_text_member(out, "cmd", name)?;
     push_text_member(out, "ref", reference)
 }
 
-#[tactic(auto, using(crate::proofs::Plain::plain_identifier, crate::proofs::Plain::plain_code))]
+#[tactic(auto, using(crate::proofs::TextsWithoutEscapes::plain_identifier, crate::proofs::TextsWithoutEscapes::plain_code,))]
 fn push_submission(
     settings: &Settings,
     submission: &Submission,
@@ -183,7 +186,7 @@ fn push_submission(
     push_text_member(out, "to", to)
 }
 
-#[tactic(auto, using(crate::proofs::Plain::plain_identifier, crate::proofs::Plain::plain_code))]
+#[tactic(auto, using(crate::proofs::TextsWithoutEscapes::plain_identifier, crate::proofs::TextsWithoutEscapes::plain_code,))]
 fn push_confirmation<'a>(
     settings: &'a Settings,
     from: u8,
@@ -202,7 +205,7 @@ fn push_confirmation<'a>(
     push_text_member(out, "id", id)
 }
 
-#[tactic(auto, using(crate::proofs::Plain::plain_identifier, crate::proofs::Plain::plain_code, crate::proofs::Plain::plain_reason))]
+#[tactic(auto, using(crate::proofs::TextsWithoutEscapes::plain_identifier, crate::proofs::TextsWithoutEscapes::plain_code, crate::proofs::TextsWithoutEscapes::plain_reason,))]
 fn push_rejection<'a>(
     settings: &'a Settings,
     from: u8,
@@ -213,7 +216,8 @@ fn push_rejection<'a>(
     requires { is_participant settings.now from ≡ true }
     ensures text { OnOk result (out.new.items
         ≡ out.old.items ++ next_members (rejection_rows settings.now from id.now reason.now)) }
-    ensures form { (has_code settings.now from && is_identifier id.now && is_reason reason.now) ≡ true }
+    ensures form { (has_code settings.now from && is_identifier id.now && is_reason reason.now)
+        ≡ true }
 {
     let from = code_text(settings, from);
     let id = id.text();
@@ -224,9 +228,10 @@ fn push_rejection<'a>(
     push_text_member(out, "reason", reason)
 }
 
-#[tactic(auto, using(crate::proofs::Plain::plain_identifier))]
+#[tactic(auto, using(crate::proofs::TextsWithoutEscapes::plain_identifier))]
 fn push_investigation(id: &Ident, out: &mut Vec<u8>) -> Result<(), AllocError>
-    ensures text { OnOk result (out.new.items ≡ out.old.items ++ next_members (investigation_rows id.now)) }
+    ensures text { OnOk result (out.new.items
+        ≡ out.old.items ++ next_members (investigation_rows id.now)) }
     ensures form { is_identifier id.now ≡ true }
 {
     let id = id.text();
@@ -241,8 +246,22 @@ fn push_fetch(max: u32, out: &mut Vec<u8>) -> Result<(), AllocError>
     push_whole_member(out, "max", u64::from(max))
 }
 
+/// Appends the members of a query.
+fn push_query(query: &Query, out: &mut Vec<u8>) -> Result<(), AllocError>
+    ensures text { OnOk result (out.new.items
+        ≡ out.old.items ++ next_members (query_rows query.now)) }
+    ensures form { query_has_form query.now ≡ true }
+{
+    match query {
+        Query::Position => push_text_member(out, "cmd", "position"),
+        Query::Statement { skip, count } => push_statement(*skip, *count, out),
+    }
+}
+
+/// Appends the members of a question for statement lines.
 fn push_statement(skip: u64, count: u32, out: &mut Vec<u8>) -> Result<(), AllocError>
-    ensures { OnOk result (out.new.items ≡ out.old.items ++ next_members (statement_rows skip count)) }
+    ensures { OnOk result (out.new.items
+        ≡ out.old.items ++ next_members (statement_rows skip count)) }
 {
     push_text_member(out, "cmd", "statement")?;
     push_whole_member(out, "count", u64::from(count))?;

@@ -1,5 +1,5 @@
 ghost use Rattle.std.specs.Prelude.{◌≡◌};
-ghost use Rattle.inst_json.specs.LineFields.{told};
+ghost use Rattle.inst_json.specs.LineFields.{field_value};
 ghost use Rattle.inst_json.specs.Verb.{verb_of, verb_in};
 
 use crate::fields::text;
@@ -42,7 +42,7 @@ fn verb_of(name: &str) -> Result<Verb, Fault>
 /// The verb in a field, or `BadField` where there is none.
 #[tactic(auto, unfolding(crate::specs::Verb::verb_in))]
 pub(crate) fn verb_in(field: Field<'_>) -> Result<Verb, Fault>
-    ensures { result ≡ verb_in (told field.entry) }
+    ensures { result ≡ verb_in (field_value field.entry) }
 {
     verb_of(text(field)?)
 }

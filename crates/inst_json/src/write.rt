@@ -5,7 +5,8 @@ ghost use Rattle.serde_json.specs.Read.{read};
 ghost use Rattle.inst_command.specs.declared.reply.Answer.TheVariants.{Reply as ReplyAnswer};
 ghost use Rattle.inst_command.specs.declared.reply.Reply.{Reply};
 ghost use Rattle.inst_json.specs.Laws.{has_words};
-ghost use Rattle.inst_json.specs.Replies.{reply_data, reply_can_be_written, answer_data, new_data, answer_can_be_written};
+ghost use Rattle.inst_json.specs.Replies.{reply_data, reply_can_be_written, answer_data, new_data};
+ghost use Rattle.inst_json.specs.Replies.{answer_can_be_written};
 
 use crate::piece::push_text;
 use crate::reply::append_reply;
@@ -13,8 +14,8 @@ use inst_command::{Answer, Reply};
 use inst_settings::Settings;
 use std::alloc::{AllocError, Global};
 
-/// The line of a reply, without its newline: compact JSON with the keys in byte order, which reads back
-/// as the reply's object. Moments are absolute milliseconds, and amounts are cents.
+/// The line of a reply, without its newline: compact JSON with the keys in byte order, which reads
+/// back as the reply's object. Moments are absolute milliseconds, and amounts are cents.
 pub fn write_reply(alloc: Global, settings: &Settings, reply: &Reply) -> Result<Vec<u8>, AllocError>
     requires { reply_can_be_written settings.now reply.now ≡ true }
     ensures text { IfOk result (λ bytes. bytes.items
@@ -45,16 +46,18 @@ pub fn write_answer(
     Ok(text)
 }
 
-/// Puts the line of an answer, without its newline, at the end of `out`, as `write_answer` gives it. After
-/// an error a part of the line may stand at the end.
+/// Puts the line of an answer, without its newline, at the end of `out`, as `write_answer` gives
+/// it. After an error a part of the line may stand at the end.
 pub fn append_answer(
     settings: &Settings,
     answer: &Answer,
     out: &mut Vec<u8>,
 ) -> Result<(), AllocError>
     requires { answer_can_be_written settings.now answer.now ≡ true }
-    ensures text { OnOk result (out.new.items ≡ out.old.items ++ compact_text (answer_data settings.now answer.now)) }
-    ensures words { OnOk result ((reply : Reply) → answer.now ≡ ReplyAnswer reply → has_words settings.now reply ≡ true) }
+    ensures text { OnOk result (out.new.items
+        ≡ out.old.items ++ compact_text (answer_data settings.now answer.now)) }
+    ensures words { OnOk result ((reply : Reply) → answer.now ≡ ReplyAnswer reply →
+        has_words settings.now reply ≡ true) }
 {
     match answer {
         Answer::Reply(reply) => append_reply(settings, reply, out),

@@ -15,11 +15,11 @@ use Rattle.inst_journal.specs.Sums.{if_accepted, if_unbooked, credit, debit, res
 use Rattle.inst_journal.specs.Keys.{is_this_submission, is_submission_repeat}
 use Rattle.inst_journal.specs.Money.{reserved}
 use Rattle.inst_journal.specs.Sound.{Fits, IsSound}
-use Rattle.inst_journal.proofs.Pushing.{sum_by_push, sum_by-both, first_some_push, list_any_push, or_else-none}
+use Rattle.inst_journal.proofs.OneMoreElement.{sum_by_push, sum_by-both, first_some_push, list_any_push, or_else-none}
 use Rattle.inst_journal.proofs.Soundness.{sound_induction}
 use Rattle.inst_journal.proofs.OwnBookings.{own_unforwarded, own_booked-booked}
-use Rattle.inst_journal.proofs.Covering.{own_push}
-use Rattle.inst_journal.proofs.Places.{sum_same}
+use Rattle.inst_journal.proofs.PaidAndReservedIsCovered.{own_push}
+use Rattle.inst_journal.proofs.PlacesOfTakenAmounts.{sum_same}
 use Rattle.inst_ledger.specs.declared.sending.Sending.{Sending}
 use Rattle.inst_ledger.specs.Kept.{sending_of}
 use Rattle.inst_ledger.specs.inner.Kept.{cents_of, is_sending}
@@ -33,8 +33,8 @@ module _ (s : HubSettings) (who : ℕ) (J : List Event) (new : Event) (sound : I
   quiet_debit : (event : Event) → debit (J ++ new ∷ []) event ≡ debit J event
   quiet_debit (Taken id to cents stamp) = ap (λ o. if_accepted o cents) (quiet_own id)
   quiet_debit (Forwarded from id cents deadline) = refl
-  quiet_debit (Funded reference cents) = refl
-  quiet_debit (Defunded reference cents) = refl
+  quiet_debit (Funded funding) = refl
+  quiet_debit (Defunded funding) = refl
   quiet_debit (Booked from id outcome) = refl
   quiet_debit (Fetched count) = refl
   quiet_debit Opened = refl
@@ -42,8 +42,8 @@ module _ (s : HubSettings) (who : ℕ) (J : List Event) (new : Event) (sound : I
   quiet_reservation : (event : Event) → reservation (J ++ new ∷ []) event ≡ reservation J event
   quiet_reservation (Taken id to cents stamp) = ap (λ o. if_unbooked o cents) (quiet_own id)
   quiet_reservation (Forwarded from id cents deadline) = refl
-  quiet_reservation (Funded reference cents) = refl
-  quiet_reservation (Defunded reference cents) = refl
+  quiet_reservation (Funded funding) = refl
+  quiet_reservation (Defunded funding) = refl
   quiet_reservation (Booked from id outcome) = refl
   quiet_reservation (Fetched count) = refl
   quiet_reservation Opened = refl
@@ -62,8 +62,8 @@ module _ (J : List Event) (new : Event) (quiet : (from : ℕ) (id : List ℕ) �
   quiet_credit : (event : Event) → credit (J ++ new ∷ []) event ≡ credit J event
   quiet_credit (Forwarded from id cents deadline) = ap (λ o. if_accepted o cents) (quiet_booked from id)
   quiet_credit (Taken id to cents stamp) = refl
-  quiet_credit (Funded reference cents) = refl
-  quiet_credit (Defunded reference cents) = refl
+  quiet_credit (Funded funding) = refl
+  quiet_credit (Defunded funding) = refl
   quiet_credit (Booked from id outcome) = refl
   quiet_credit (Fetched count) = refl
   quiet_credit Opened = refl
@@ -93,8 +93,8 @@ unbooked_new s who id J (Booked from other outcome) sound fits untaken = elim fi
     other_from true own forwarded = absurd (true≢false (sym forwarded ∙ ap (λ f. is_forwarded f other J) (eqb-true from who own) ∙ own_unforwarded s who other J sound))
     other_from false own forwarded = ap (λ b. pick (b && same_text other id)) own
 unbooked_new s who id J (Taken other to cents stamp) sound fits untaken = refl
-unbooked_new s who id J (Funded reference cents) sound fits untaken = refl
-unbooked_new s who id J (Defunded reference cents) sound fits untaken = refl
+unbooked_new s who id J (Funded funding) sound fits untaken = refl
+unbooked_new s who id J (Defunded funding) sound fits untaken = refl
 unbooked_new s who id J (Forwarded from other cents deadline) sound fits untaken = refl
 unbooked_new s who id J (Fetched count) sound fits untaken = refl
 unbooked_new s who id J Opened sound fits untaken = refl
@@ -126,8 +126,8 @@ once_new s who id J (Taken other to cents stamp) fits = by (same_text other id) 
     by : (b : Bool) → same_text other id ≡ b → (sending_of id (Taken other to cents stamp) ≡ None) ⊎ (first_some (sending_of id) J ≡ None)
     by true same = inr (sending_absent other id J fits.new same)
     by false same = inl (ap (λ b. cond {A = Option Sending} b (Some (record { to = to; cents = cents; stamp = stamp })) None) same)
-once_new s who id J (Funded reference cents) fits = inl refl
-once_new s who id J (Defunded reference cents) fits = inl refl
+once_new s who id J (Funded funding) fits = inl refl
+once_new s who id J (Defunded funding) fits = inl refl
 once_new s who id J (Forwarded from other cents deadline) fits = inl refl
 once_new s who id J (Booked from other outcome) fits = inl refl
 once_new s who id J (Fetched count) fits = inl refl
@@ -156,8 +156,8 @@ repeats_sending x (Taken other other_to other_cents other_stamp) = by (same_text
     by : (b : Bool) → (b && (other_to == x.to) && (other_cents == x.cents) && (other_stamp == x.stamp)) ≡ is_sending x (cond b (Some (record { to = other_to; cents = other_cents; stamp = other_stamp })) None)
     by true = refl
     by false = refl
-repeats_sending x (Funded reference amount) = refl
-repeats_sending x (Defunded reference amount) = refl
+repeats_sending x (Funded funding) = refl
+repeats_sending x (Defunded funding) = refl
 repeats_sending x (Forwarded from other amount deadline) = refl
 repeats_sending x (Booked from other outcome) = refl
 repeats_sending x (Fetched count) = refl
@@ -228,8 +228,8 @@ module _ (s : HubSettings) (who : ℕ) (J : List Event) (id : List ℕ) (outcome
       reserved_at other cents (same_text other id) (none_at other)
       ∙ ap (λ o. if_unbooked o cents + cond (same_text other id) cents 0) (sym (own_after other))
       ∙ ap (λ n. if_unbooked (own_booked other (J ++ new ∷ [])) cents + n) (at_cond other to cents stamp)
-  released (Funded reference cents) = refl
-  released (Defunded reference cents) = refl
+  released (Funded funding) = refl
+  released (Defunded funding) = refl
   released (Forwarded from other cents deadline) = refl
   released (Booked from other o) = refl
   released (Fetched count) = refl
@@ -239,8 +239,8 @@ module _ (s : HubSettings) (who : ℕ) (J : List Event) (id : List ℕ) (outcome
   debited (Taken other to cents stamp) =
       ap (λ o. if_accepted o cents) (own_after other) ∙ debited_at other cents (same_text other id) (none_at other)
       ∙ ap (λ n. if_accepted (own_booked other J) cents + if_accepted (Some outcome) n) (at_cond other to cents stamp)
-  debited (Funded reference cents) = omega (arith, accepted_none outcome)
-  debited (Defunded reference cents) = omega (arith, accepted_none outcome)
+  debited (Funded funding) = omega (arith, accepted_none outcome)
+  debited (Defunded funding) = omega (arith, accepted_none outcome)
   debited (Forwarded from other cents deadline) = omega (arith, accepted_none outcome)
   debited (Booked from other o) = omega (arith, accepted_none outcome)
   debited (Fetched count) = omega (arith, accepted_none outcome)
@@ -270,8 +270,8 @@ module _ (s : HubSettings) (who : ℕ) (J : List Event) (id : List ℕ) (outcome
       let same : credit (J ++ new ∷ []) (Forwarded from other cents deadline) ≡ credit J (Forwarded from other cents deadline) = ap (λ o. if_accepted o cents) here in
       omega (arith, sum_by-cons (credit (J ++ new ∷ [])) (Forwarded from other cents deadline) xs, sum_by-cons (credit J) (Forwarded from other cents deadline) xs, same, uncredited xs parts.1)
   uncredited (Taken other to cents stamp ∷ xs) none = uncredited xs none
-  uncredited (Funded reference cents ∷ xs) none = uncredited xs none
-  uncredited (Defunded reference cents ∷ xs) none = uncredited xs none
+  uncredited (Funded funding ∷ xs) none = uncredited xs none
+  uncredited (Defunded funding ∷ xs) none = uncredited xs none
   uncredited (Booked from other o ∷ xs) none = uncredited xs none
   uncredited (Fetched count ∷ xs) none = uncredited xs none
   uncredited (Opened ∷ xs) none = uncredited xs none

@@ -6,7 +6,7 @@ use Rattle.inst_journal.specs.declared.event.Event.{Event}
 use Rattle.inst_journal.specs.declared.event.Event.TheVariants.{Funded, Defunded, Taken, Forwarded, Booked, Fetched, Opened}
 use Rattle.inst_journal.specs.Booked.{or_else, first_some}
 use Rattle.inst_journal.specs.Sound.{Fits, IsSound}
-use Rattle.inst_journal.proofs.Pushing.{first_some_push}
+use Rattle.inst_journal.proofs.OneMoreElement.{first_some_push}
 use Rattle.inst_journal.proofs.Soundness.{sound_induction}
 use Rattle.inst_ledger.specs.declared.sending.Sending.{Sending}
 use Rattle.inst_ledger.specs.Kept.{sending_of}
@@ -31,8 +31,8 @@ made_cond make false x = refl
 
 sending_to : (id : List ℕ) (event : Event) → option_map to_of (sending_of id event) ≡ takes_to id event
 sending_to id (Taken other to cents stamp) = made_cond to_of (same_text other id) (record { to = to; cents = cents; stamp = stamp })
-sending_to id (Funded reference cents) = refl
-sending_to id (Defunded reference cents) = refl
+sending_to id (Funded funding) = refl
+sending_to id (Defunded funding) = refl
 sending_to id (Forwarded from other cents deadline) = refl
 sending_to id (Booked from other outcome) = refl
 sending_to id (Fetched count) = refl
@@ -60,8 +60,8 @@ Participates s to = is_participant s to ≡ true
 
 takes_to_participant : (s : HubSettings) (who : ℕ) (id : List ℕ) (J : List Event) (event : Event) → Fits s who J event → IfSome (takes_to id event) (Participates s)
 takes_to_participant s who id J (Taken other to cents stamp) fits = where_true (Participates s) (same_text other id) to fits.beneficiary
-takes_to_participant s who id J (Funded reference cents) fits = tt
-takes_to_participant s who id J (Defunded reference cents) fits = tt
+takes_to_participant s who id J (Funded funding) fits = tt
+takes_to_participant s who id J (Defunded funding) fits = tt
 takes_to_participant s who id J (Forwarded from other cents deadline) fits = tt
 takes_to_participant s who id J (Booked from other outcome) fits = tt
 takes_to_participant s who id J (Fetched count) fits = tt

@@ -9,15 +9,15 @@ use Rattle.inst_journal.specs.declared.event.Event.{Event}
 use Rattle.inst_journal.specs.declared.event.Event.TheVariants.{Forwarded, Fetched}
 use Rattle.inst_journal.specs.Booked.{is_forwarding}
 use Rattle.inst_journal.specs.Reply.{inbox, handed_out}
-use Rattle.inst_journal.proofs.Paging.{in_order_of_arrival}
-use Rattle.inst_journal.proofs.Pushing.{sum_by_push}
+use Rattle.inst_journal.proofs.PagesOfInboxAndStatement.{in_order_of_arrival}
+use Rattle.inst_journal.proofs.OneMoreElement.{sum_by_push}
 use Rattle.inst_transfers.specs.State.{row_of, rows_of}
 use Rattle.inst_transfers.specs.declared.transfer.Found.{Found}
 use Rattle.inst_transfers.specs.Held.{Held, state_in, row_in, AreWithin, FindsAt}
 use Rattle.inst_transfers.proofs.Rows.{within_more, within_last, row_there}
 use Rattle.inst_ledger.specs.Inbox.{no_entry, entries_at, IsRead}
 use Rattle.inst_ledger.specs.Right.{IsRight}
-use Rattle.inst_ledger.proofs.Right.{rows_push}
+use Rattle.inst_ledger.proofs.TableStaysRight.{rows_push}
 
 pub get_still : (xs ys : List Entry) (p : ℕ) (d : Entry) → p < length xs → get_or (xs ++ ys) p d ≡ get_or xs p d
 get_still [] ys p d below = absurd (omega (arith, below))

@@ -3,7 +3,7 @@ use Rattle.std.proofs.Common.{◌≡◌, ℕ, Bool, true, false, ◌||◌, zero,
 use Rattle.std.specs.List.{filter}
 use Rattle.std.specs.Prelude.{slice_get}
 use Rattle.inst_settings.specs.Settings.{same_text}
-use Rattle.inst_settings.proofs.Numbering.{same_text_refl}
+use Rattle.inst_settings.proofs.CodeTellsNumber.{same_text_refl}
 use Rattle.std.proofs.lemmas.List.{map-append}
 use Rattle.inst_journal.specs.declared.event.Event.{Event}
 use Rattle.inst_journal.specs.declared.event.Event.TheVariants.{Funded, Defunded, Taken, Forwarded, Booked, Fetched, Opened}
@@ -14,8 +14,8 @@ use Rattle.std.proofs.Common.{append-nil}
 use Rattle.std.proofs.lemmas.Bool.{true≢false}
 use Rattle.std.proofs.lemmas.List.Elements.{filter-append}
 use Rattle.inst_command.specs.declared.outcome.Outcome.{Outcome}
-use Rattle.inst_journal.proofs.Carrying.{carried_push, carried_opened, carried_unbooked}
-use Rattle.inst_journal.proofs.Living.{same_keys}
+use Rattle.inst_journal.proofs.EventsCarriedOverOpening.{carried_push, carried_opened, carried_unbooked}
+use Rattle.inst_journal.proofs.EffectsOfAnOpening.{same_keys}
 
 or_right : (a b : Bool) → b ≡ true → (a || b) ≡ true
 or_right true b h = refl
@@ -51,8 +51,8 @@ module _ (who : ℕ) (C K : List Event) (p : List ℕ → Bool) (still : (id : L
   all_live_on [] = refl
   all_live_on (Taken id to cents stamp ∷ J) =
       lives_on p (Taken id to cents stamp) (filter (takes_live who C) J) (filter (takes_live who K) J) (is_none (booked who id C)) (is_none (booked who id K)) (still id) (waits id) (all_live_on J)
-  all_live_on (Funded reference cents ∷ J) = all_live_on J
-  all_live_on (Defunded reference cents ∷ J) = all_live_on J
+  all_live_on (Funded funding ∷ J) = all_live_on J
+  all_live_on (Defunded funding ∷ J) = all_live_on J
   all_live_on (Forwarded from id cents deadline ∷ J) = all_live_on J
   all_live_on (Booked from id outcome ∷ J) = all_live_on J
   all_live_on (Fetched count ∷ J) = all_live_on J
@@ -83,8 +83,8 @@ own_taken_only who C id (Taken other to cents stamp ∷ J) k there =
     listed_step id (Taken other to cents stamp) (filter (takes_live who C) J) (is_none (booked who other C)) k (is_taken id (Taken other to cents stamp ∷ J) ≡ true)
     (λ lives same. ap (λ (b : Bool). b || is_taken id J) (ap (λ (i : List ℕ). same_text i id) same ∙ same_text_refl id))
     (λ j rest. or_right (same_text other id) (is_taken id J) (own_taken_only who C id J j rest)) there
-own_taken_only who C id (Funded reference cents ∷ J) k there = own_taken_only who C id J k there
-own_taken_only who C id (Defunded reference cents ∷ J) k there = own_taken_only who C id J k there
+own_taken_only who C id (Funded funding ∷ J) k there = own_taken_only who C id J k there
+own_taken_only who C id (Defunded funding ∷ J) k there = own_taken_only who C id J k there
 own_taken_only who C id (Forwarded from other cents deadline ∷ J) k there = own_taken_only who C id J k there
 own_taken_only who C id (Booked from other outcome ∷ J) k there = own_taken_only who C id J k there
 own_taken_only who C id (Fetched count ∷ J) k there = own_taken_only who C id J k there

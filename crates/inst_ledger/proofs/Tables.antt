@@ -5,10 +5,10 @@ use Rattle.inst_settings.specs.Settings.{same_text}
 use Rattle.inst_journal.specs.declared.event.Event.{Event}
 use Rattle.inst_journal.specs.declared.event.Event.TheVariants.{Funded, Defunded, Taken, Forwarded, Booked, Fetched, Opened}
 use Rattle.inst_journal.specs.Booked.{or_else, first_some, takes, is_taken}
-use Rattle.inst_journal.proofs.Pushing.{first_some_push, or_else-none}
+use Rattle.inst_journal.proofs.OneMoreElement.{first_some_push, or_else-none}
 use Rattle.inst_ledger.specs.declared.sending.Sending.{Sending}
 use Rattle.inst_ledger.specs.Kept.{sending_of, IsTable}
-use Rattle.inst_statement.proofs.Found.{some_cond, none_of, any_first}
+use Rattle.inst_statement.proofs.AmountAndTermsInHistory.{some_cond, none_of, any_first}
 use Rattle.inst_statement.proofs.Tables.{put_first}
 
 -- an event of a new key, put into the table
@@ -27,8 +27,8 @@ table_keep gives J event found before none q =
 
 takes_sending : (id : List ℕ) (event : Event) → takes id event ≡ is_some (sending_of id event)
 takes_sending id (Taken other to cents stamp) = some_cond {A = Sending} (same_text other id) (record { to = to; cents = cents; stamp = stamp })
-takes_sending id (Funded reference cents) = refl
-takes_sending id (Defunded reference cents) = refl
+takes_sending id (Funded funding) = refl
+takes_sending id (Defunded funding) = refl
 takes_sending id (Forwarded from other cents deadline) = refl
 takes_sending id (Booked from other outcome) = refl
 takes_sending id (Fetched count) = refl

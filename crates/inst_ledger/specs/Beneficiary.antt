@@ -1,4 +1,5 @@
--- To whom a participant's own transfer goes, by its identifier. That a history keeps it is this hub's own choice.
+-- To whom a participant's own transfer goes, by its identifier. That a history keeps it is this
+-- hub's own choice.
 use Rattle.std.specs.Prelude.{ℕ, if◌then◌else◌, List, Option, Some, None}
 use Rattle.inst_settings.specs.Settings.{same_text}
 use Rattle.inst_journal.specs.declared.event.Event.{Event}

@@ -1,6 +1,7 @@
--- What a ledger keeps beside its history, all of it: the totals, the transfers and the fundings by their keys, how many
--- are live, and the inbox with how much of it was handed out.
-use Rattle.std.specs.Prelude.{◌≡◌, ℕ, ◌+◌, ◌*◌, ◌≤◌, List, length, Option, Some, None, sum_by, if◌then◌else◌, true, false}
+-- What a ledger keeps beside its history, all of it: the totals, the transfers and the fundings by
+-- their keys, how many are live, and the inbox with how much of it was handed out.
+use Rattle.std.specs.Prelude.{◌≡◌, ℕ, ◌+◌, ◌*◌, ◌≤◌, List, length, Option, Some, None, sum_by}
+use Rattle.std.specs.Prelude.{if◌then◌else◌, true, false}
 use Rattle.inst_settings.specs.Settings.{HubSettings, same_text}
 use Rattle.inst_journal.specs.declared.event.Event.{Event}
 use Rattle.inst_journal.specs.declared.event.Event.TheVariants.{Funded, Defunded, Forwarded}
@@ -20,15 +21,17 @@ use Rattle.inst_statement.specs.KeptStatement.{Stated, IsStatementOf}
 
 -- the funding that the event keeps under this reference
 abbrev pub funding_of : List ℕ → Event → Option KeptFunding
-funding_of reference (Funded other cents) =
-    if same_text other reference then Some (record { is_defunding = false; cents = cents }) else None
-funding_of reference (Defunded other cents) =
-    if same_text other reference then Some (record { is_defunding = true; cents = cents }) else None
+funding_of reference (Funded funding) =
+    if same_text funding.reference reference
+    then Some (record { is_defunding = false; cents = funding.cents }) else None
+funding_of reference (Defunded funding) =
+    if same_text funding.reference reference
+    then Some (record { is_defunding = true; cents = funding.cents }) else None
 funding_of reference _ = None
 
 -- what the event adds to the position at most
 abbrev pub amount_of : Event → ℕ
-amount_of (Funded reference cents) = cents
+amount_of (Funded funding) = funding.cents
 amount_of (Forwarded from id cents deadline) = cents
 amount_of _ = 0
 
@@ -39,7 +42,8 @@ most_of J = sum_by (λ event. if is_funding event then MOST_CENTS else 0) J
 
 -- all that a ledger keeps beside its history is right of it
 -- within: what came is within what the length of the history allows
-pub record IsBeside (s : HubSettings) (who : ℕ) (J : List Event) (t : Totals) (table : Held) (references : List ℕ → Option KeptFunding)
+pub record IsBeside (s : HubSettings) (who : ℕ) (J : List Event) (t : Totals) (table : Held)
+    (references : List ℕ → Option KeptFunding)
     (since : ℕ) (positions : List ℕ) (read : ℕ) : Type 0 where
   pub lawful : IsSettings s
   pub sound : IsSound s who J
@@ -54,7 +58,8 @@ pub record IsBeside (s : HubSettings) (who : ℕ) (J : List Event) (t : Totals) 
   pub amounts : sum_by amount_of J ≤ most_of J
 
 -- the statement that is kept beside them is the history's too
-pub record IsLedger (s : HubSettings) (who : ℕ) (J : List Event) (t : Totals) (table : Held) (references : List ℕ → Option KeptFunding)
+pub record IsLedger (s : HubSettings) (who : ℕ) (J : List Event) (t : Totals) (table : Held)
+    (references : List ℕ → Option KeptFunding)
     (since : ℕ) (positions : List ℕ) (read : ℕ) (stated : Stated) : Type 0 where
   pub beside : IsBeside s who J t table references since positions read
   pub lines : IsStatementOf J stated

@@ -1,6 +1,7 @@
--- What a contract sees of a ledger: the participant's book, and for how many more events of no new key it has room.
--- Keeping a history is this hub's own choice.
-use Rattle.std.specs.Prelude.{ℕ, Bool, true, false, List, [], ◌∷◌, ◌++◌, Option, Some, None, Result, Ok, Err}
+-- What a contract sees of a ledger: the participant's book, and for how many more events of no new
+-- key it has room. Keeping a history is this hub's own choice.
+use Rattle.std.specs.Prelude.{ℕ, Bool, true, false, List, [], ◌∷◌, ◌++◌, Option, Some, None, Result}
+use Rattle.std.specs.Prelude.{Ok, Err}
 use Rattle.inst_base.specs.TimeLimit.{deadline_of}
 use Rattle.inst_base.specs.declared.fault.Fault.{Fault}
 use Rattle.inst_settings.specs.Settings.{HubSettings}
@@ -13,7 +14,8 @@ use Rattle.inst_journal.specs.declared.handle.Handled.{Handled}
 use Rattle.inst_transfers.specs.Held.{Held}
 use Rattle.inst_journal.specs.Reply.{handle, answered, keeping}
 use Rattle.inst_journal.specs.Sound.{Fits}
-use Rattle.inst_journal.specs.declared.event.Event.TheVariants.{Funded, Defunded, Taken, Forwarded, Booked, Fetched, Opened}
+use Rattle.inst_journal.specs.declared.event.Event.TheVariants.{Funded, Defunded, Taken, Forwarded}
+use Rattle.inst_journal.specs.declared.event.Event.TheVariants.{Booked, Fetched, Opened}
 
 -- a participant's history, with whose it is and of which hub
 pub record Book : Type 0 where
@@ -32,8 +34,8 @@ with_event book event = record book { events = book.events ++ event ∷ [] }
 
 -- whether the event brings a new key: a reference, or a transfer
 abbrev pub brings_key : Event → Bool
-brings_key (Funded reference cents) = true
-brings_key (Defunded reference cents) = true
+brings_key (Funded funding) = true
+brings_key (Defunded funding) = true
 brings_key (Taken id to cents stamp) = true
 brings_key (Forwarded from id cents deadline) = true
 brings_key (Booked from id outcome) = false
@@ -45,14 +47,16 @@ abbrev pub answer_to : Book → Command → ℕ → Option Outcome → Result Ha
 answer_to book command at found = handle book.settings book.who book.events command at found
 
 -- that a submission is taken
-abbrev pub taken : Submission → Event
-taken x = Taken x.id x.to x.cents x.stamp
+abbrev pub submission_event : Submission → Event
+submission_event x = Taken x.id x.to x.cents x.stamp
 
--- what a submission is answered, and what the book is to keep of it, where it is refused, a repeat, or new
-abbrev pub submitted : HubSettings → Submission → Result Bool Fault → Result Handled Fault
-submitted s x (Err fault) = Err fault
-submitted s x (Ok false) = answered (TakenReply x.id (deadline_of s.limit x.stamp))
-submitted s x (Ok true) = keeping (taken x) (TakenReply x.id (deadline_of s.limit x.stamp))
+-- what a submission is answered, and what the book is to keep of it, where it is refused, a repeat,
+-- or new
+abbrev pub submission_result : HubSettings → Submission → Result Bool Fault → Result Handled Fault
+submission_result s x (Err fault) = Err fault
+submission_result s x (Ok false) = answered (TakenReply x.id (deadline_of s.limit x.stamp))
+submission_result s x (Ok true) =
+    keeping (submission_event x) (TakenReply x.id (deadline_of s.limit x.stamp))
 
 -- the event, if any, fits the book
 abbrev pub MayKeep : Book → Option Event → Type 0

@@ -1,5 +1,5 @@
--- How a ledger keeps what was forwarded to its participant: by the positions in the table of its transfers, in order of
--- arrival. What came is read off the table. This hub's own choice.
+-- How a ledger keeps what was forwarded to its participant: by the positions in the table of its
+-- transfers, in order of arrival. What came is read off the table. This hub's own choice.
 use Rattle.std.specs.Prelude.{◌≡◌, ℕ, List, [], length, map, get_or, sum_by}
 use Rattle.inst_command.specs.declared.entry.Entry.{Entry}
 use Rattle.inst_journal.specs.declared.event.Event.{Event}

@@ -1,5 +1,5 @@
--- What a ledger keeps beside its history: running totals, and tables that find by a key what a walk over the events
--- would find first.
+-- What a ledger keeps beside its history: running totals, and tables that find by a key what a walk
+-- over the events would find first.
 use Rattle.std.specs.Prelude.{◌≡◌, ℕ, if◌then◌else◌, List, Option, Some, None}
 use Rattle.inst_settings.specs.Settings.{same_text}
 use Rattle.inst_journal.specs.declared.event.Event.{Event}
@@ -17,7 +17,8 @@ sending_of id _ = None
 -- what the event forwards of the transfer of this key
 abbrev pub forwarding_of : ℕ × List ℕ → Event → Option Forwarding
 forwarding_of key (Forwarded from id cents deadline) =
-    if same_transfer key.0 key.1 from id then Some (record { cents = cents; deadline = deadline }) else None
+    if same_transfer key.0 key.1 from id then Some (record { cents = cents; deadline = deadline })
+    else None
 forwarding_of key _ = None
 
 -- a table finds at each key what a walk over the events finds first

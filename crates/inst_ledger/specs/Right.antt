@@ -1,4 +1,5 @@
--- The table is right of a history: what it finds and sums is what a walk over the history would find and sum.
+-- The table is right of a history: what it finds and sums is what a walk over the history would
+-- find and sum.
 use Rattle.std.specs.Prelude.{◌≡◌, ◌≢◌, ℕ, List, [], map, count_by, Option, Some, None}
 use Rattle.inst_journal.specs.declared.event.Event.{Event}
 use Rattle.inst_journal.specs.declared.event.Event.TheVariants.{Taken}
@@ -14,7 +15,7 @@ use Rattle.inst_ledger.specs.Kept.{sending_of, forwarding_of}
 use Rattle.inst_transfers.specs.declared.transfer.Side.{Side}
 use Rattle.inst_transfers.specs.declared.transfer.Side.TheVariants.{Own, Other}
 use Rattle.inst_transfers.specs.declared.transfer.Transfer.{Transfer}
-use Rattle.inst_transfers.specs.State.{Key, State, outcome_in, state_of, rows_of}
+use Rattle.inst_transfers.specs.State.{Key, State, outcome_in, table_of_history, rows_of}
 
 -- what was sent, where the transfer is the participant's own
 abbrev pub sending_by : ℕ → Side → Option Sending
@@ -43,10 +44,6 @@ id_of _ = []
 abbrev pub own_ids : ℕ → List Event → List (List ℕ)
 own_ids who J = map id_of (live_taken who J)
 
--- how many of the participant's own transfers have nothing booked
-abbrev pub unbooked : ℕ → List Event → ℕ
-unbooked who J = count_by (takes_live who J) J
-
 pub record IsRight (who : ℕ) (J : List Event) (st : State) : Type 0 where
   pub taken : (id : List ℕ) → sending_in (st.found (who, id)) ≡ first_some (sending_of id) J
   pub others : (key : Key) → key.0 ≢ who → sending_in (st.found key) ≡ None
@@ -57,7 +54,8 @@ pub record IsRight (who : ℕ) (J : List Event) (st : State) : Type 0 where
   pub reserved : st.reserved ≡ reserved J
   pub credits : st.credits ≡ credits J
   pub debits : st.debits ≡ debits J
-  pub waiting : st.waiting ≡ unbooked who J
 
 abbrev pub ATableIsRight : Type 0
-ATableIsRight = (s : HubSettings) (who : ℕ) (J : List Event) → IsSound s who J → IsRight who J (state_of who J)
+ATableIsRight =
+    (s : HubSettings) (who : ℕ) (J : List Event) → IsSound s who J →
+    IsRight who J (table_of_history who J)

@@ -18,8 +18,8 @@ use inst_transfers::Transfers;
 use std::alloc::{AllocError, Global};
 use std::marker::Model;
 
-/// The books of one participant: its history, which is sound, and beside it running totals, tables and the
-/// statement, so that nothing walks the history.
+/// The books of one participant: its history, which is sound, and beside it running totals, tables
+/// and the statement, so that nothing walks the history.
 #[derive(Drop)]
 pub struct Ledger {
     settings: Box<Settings>,
@@ -52,7 +52,8 @@ impl Model for Ledger {
         (funding_at l.references) l.fundings l.inbox.items l.read l.statement };
 }
 
-/// A copy of the settings, in memory of its own: they have a table, and who moves a ledger doesn't move that.
+/// A copy of the settings, in memory of its own: they have a table, and who moves a ledger doesn't
+/// move that.
 fn boxed(alloc: Global, settings: &Settings) -> Result<Box<Settings>, AllocError>
     ensures ok { IfOk result (λ b. b.value ≡ settings.now) }
     ensures lawful { IsSettings settings.now }
@@ -60,14 +61,16 @@ fn boxed(alloc: Global, settings: &Settings) -> Result<Box<Settings>, AllocError
     Ok(Box::new(alloc, settings.copy()?)?)
 }
 
-/// How many transfers an opening has of a participant that submits as many as it may, and to which as many come.
+/// How many transfers an opening has of a participant that submits as many as it may, and to which
+/// as many come.
 fn expected_transfers(settings: &Settings) -> usize
     ensures { result ≡ 2 * settings.now.places }
 {
     2 * usize::from(settings.places())
 }
 
-/// How many events it keeps then, where it is funded as often as it may be too: each transfer, and its outcome.
+/// How many events it keeps then, where it is funded as often as it may be too: each transfer, and
+/// its outcome.
 fn expected_events(settings: &Settings) -> usize
     ensures { result ≡ 4 * settings.now.places + settings.now.fundings }
 {
@@ -82,7 +85,8 @@ impl Ledger {
         who: u8,
         room: usize,
     ) -> Result<Ledger, AllocError>
-        ensures ok { IfOk result (λ l. l.book ≡ record { settings = settings.now; who = who; events = [] }) }
+        ensures ok { IfOk result (λ l.
+            l.book ≡ record { settings = settings.now; who = who; events = [] }) }
     {
         let journal = Journal::with_room(alloc, room)?;
         Ok(Ledger {
@@ -99,16 +103,18 @@ impl Ledger {
         })
     }
 
-    /// The books of the participant `who`, with no history. They have a copy of the settings, and room for the events
-    /// that an opening may keep; more of them take more memory.
+    /// The books of the participant `who`, with no history. They have a copy of the settings, and
+    /// room for the events that an opening may keep; more of them take more memory.
     pub fn open(alloc: Global, settings: &Settings, who: u8) -> Result<Ledger, AllocError>
-        ensures ok { IfOk result (λ l. l.book ≡ record { settings = settings.now; who = who; events = [] }) }
+        ensures ok { IfOk result (λ l.
+            l.book ≡ record { settings = settings.now; who = who; events = [] }) }
     {
         Ledger::with_room(alloc, settings, who, expected_events(settings))
     }
 
-    /// The books of the participant `who` with this history, opened again from them. It is copied, and there is room for
-    /// the events of an opening behind it. It costs a look at a table for each event.
+    /// The books of the participant `who` with this history, opened again from them. It is copied,
+    /// and there is room for the events of an opening behind it. It costs a look at a table for
+    /// each event.
     pub fn open_from(
         alloc: Global,
         settings: &Settings,
@@ -130,23 +136,26 @@ impl Ledger {
         Ok(ledger)
     }
 
-    /// Keeps all events of a history, the first ones, and that the books are opened again behind them.
+    /// Keeps all events of a history, the first ones, and that the books are opened again behind
+    /// them.
     fn carry(&mut self, journal: &Journal) -> Result<(), AllocError>
         requires blank { self.old.book.events ≡ [] }
         requires sound { IsSound self.old.book.settings self.old.book.who journal.now.events }
         requires few { HasOpeningsLeft journal.now.events }
-        ensures ok { OnOk result (self.new.book ≡ record self.old.book { events = journal.now.events ++ Event.Opened ∷ [] }) }
+        ensures ok { OnOk result (self.new.book
+            ≡ record self.old.book { events = journal.now.events ++ Event.Opened ∷ [] }) }
     {
         self.keep_all(journal)?;
         self.keep(Event::Opened)
     }
 
-    /// Keeps all events of a history, the first ones. Where memory is refused those are kept for which there
-    /// was room.
+    /// Keeps all events of a history, the first ones. Where memory is refused those are kept for
+    /// which there was room.
     fn keep_all(&mut self, journal: &Journal) -> Result<(), AllocError>
         requires blank { self.old.book.events ≡ [] }
         requires sound { IsSound self.old.book.settings self.old.book.who journal.now.events }
-        ensures ok { OnOk result (self.new.book ≡ record self.old.book { events = journal.now.events }) }
+        ensures ok { OnOk result (self.new.book
+            ≡ record self.old.book { events = journal.now.events }) }
     {
         mention::<Outcome>();
         for event in journal.events() {

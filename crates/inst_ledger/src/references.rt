@@ -40,7 +40,8 @@ impl References {
     /// Puts the funding at this reference. Where memory is refused all is as it was.
     pub(crate) fn put(&mut self, reference: Ident, funding: KeptFunding) -> Result<(), AllocError>
         ensures ok { OnOk result (PutsFunding self.old reference funding self.new) }
-        ensures err { OnErr result ((key : List ℕ) → funding_at self.new key ≡ funding_at self.old key) }
+        ensures err { OnErr result ((key : List ℕ) →
+            funding_at self.new key ≡ funding_at self.old key) }
     {
         self.table.insert(reference, funding)?;
         Ok(())

@@ -1,4 +1,5 @@
-ghost use Rattle.std.specs.Prelude.{◌≡◌};
+ghost use Rattle.std.specs.Prelude.{◌≡◌, ◌<◌, ◌^◌, ◌+◌};
+ghost use Rattle.inst_ledger.specs.inner.Beside.{totals_with};
 
 /// The running totals of a history's fundings, in cents.
 #[derive(Clone, Copy)]
@@ -15,6 +16,19 @@ impl Totals {
         Totals {
             funded: 0,
             defunded: 0,
+        }
+    }
+
+    /// Adds what a fund or defund command moves.
+    pub(crate) fn keep(&mut self, is_defunding: bool, cents: u64)
+        requires funded { self.old.funded + cents < 2 ^ 128 }
+        requires defunded { self.old.defunded + cents < 2 ^ 128 }
+        ensures { self.new ≡ totals_with is_defunding cents self.old }
+    {
+        if is_defunding {
+            self.defunded += u128::from(cents);
+        } else {
+            self.funded += u128::from(cents);
         }
     }
 }

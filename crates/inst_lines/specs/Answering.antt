@@ -1,13 +1,14 @@
--- How a hub answers lines. In a run a line is a command: its ask is answered, and then all transfers are followed up. In a
--- play a line is one step, and nothing else happens. That a line refused in reading changes nothing, and all of this, is
--- this hub's own choice.
+-- How a hub answers lines. In a run a line is a command: its ask is answered, and then all
+-- transfers are followed up. In a play a line is one step, and nothing else happens. That a line
+-- refused in reading changes nothing, and all of this, is this hub's own choice.
 use Rattle.std.specs.Prelude.{◌≡◌, ℕ, Bool, true, false, List, [], ◌∷◌, Result, Ok, Err}
 use Rattle.serde_json.specs.Written.{compact_text}
 use Rattle.inst_base.specs.declared.fault.Fault.{Fault}
 use Rattle.inst_base.specs.declared.fault.Fault.TheVariants.{LineTooLong}
 use Rattle.inst_settings.specs.Settings.{HubSettings}
 use Rattle.inst_command.specs.declared.ask.Ask.{Ask as AskValue}
-use Rattle.inst_command.specs.declared.reply.Reply.TheVariants.{Done, Taken, State, Inbox, Position, Statement, Refused}
+use Rattle.inst_command.specs.declared.reply.Reply.TheVariants.{Done, Taken, State, Inbox, Position}
+use Rattle.inst_command.specs.declared.reply.Reply.TheVariants.{Statement, Refused}
 use Rattle.inst_command.specs.declared.reply.Answer.{Answer}
 use Rattle.inst_command.specs.declared.reply.Answer.TheVariants.{Reply, New}
 use Rattle.inst_command.specs.declared.step.Step.{Step}
@@ -22,69 +23,70 @@ use Rattle.inst_lines.specs.declared.mode.Mode.TheVariants.{Run, Play}
 use Rattle.inst_agenda.specs.declared.runner.Runner.{Runner}
 use Rattle.inst_lines.specs.Answers.{Answerer}
 use Rattle.inst_agenda.specs.FollowUps.{followed_up}
-use Rattle.inst_world.specs.HasRun.{World, settings_of, HasRun}
+use Rattle.inst_world.specs.HasRun.{World, world_settings, HasRun}
 use Rattle.inst_agenda.specs.Watching.{Watches}
 
 -- what a hub has gone through: how it was opened, and all steps since, the newest in front
-pub record Past : Type 0 where
+pub record HubPast : Type 0 where
   pub settings : HubSettings
   pub opening : Opening
   pub steps : List Step
 
 -- of a hub that opens for the first time
-abbrev pub opened : HubSettings → Past
+abbrev pub opened : HubSettings → HubPast
 opened s = record { settings = s; opening = First; steps = [] }
 
 -- the world has gone through this
-pub record IsPastOf (past : Past) (hub : World) : Type 0 where
-  pub settings_are : settings_of hub ≡ past.settings
+pub record IsPastOf (past : HubPast) (hub : World) : Type 0 where
+  pub settings_are : world_settings hub ≡ past.settings
   pub ran : HasRun past.opening past.steps hub
 
 -- so has a run's, and its agenda says what is left to do
-pub record IsRunOf (past : Past) (runner : Runner) : Type 0 where
-  pub settings_are : settings_of runner.world ≡ past.settings
+pub record IsRunOf (past : HubPast) (runner : Runner) : Type 0 where
+  pub settings_are : world_settings runner.world ≡ past.settings
   pub watches : Watches past.opening past.steps runner.world runner.agenda
 
 -- what a runner has gone through, by what its lines stand for
-abbrev pub Keeps : Mode → Past → Runner → Type 0
+abbrev pub Keeps : Mode → HubPast → Runner → Type 0
 Keeps Run past runner = IsRunOf past runner
 Keeps Play past runner = IsPastOf past runner.world
 
-abbrev pub step_answer : Past → Step → Answer
+abbrev pub step_answer : HubPast → Step → Answer
 step_answer past step = answer past.settings past.opening past.steps step
 
-abbrev pub after_step : Past → Step → Past
+abbrev pub after_step : HubPast → Step → HubPast
 after_step past step = record past { steps = step ∷ past.steps }
 
-abbrev pub after_follow_ups : Past → ℕ → Past
-after_follow_ups past at = record past { steps = followed_up past.settings past.opening past.steps at }
+abbrev pub after_follow_ups : HubPast → ℕ → HubPast
+after_follow_ups past at =
+    record past { steps = followed_up past.settings past.opening past.steps at }
 
 -- what a command line is answered, by what it was read as
-abbrev pub command_answer : Past → Result AskValue Fault → Answer
+abbrev pub command_answer : HubPast → Result AskValue Fault → Answer
 command_answer past (Ok ask) = step_answer past (Ask ask)
 command_answer past (Err fault) = Reply (Refused fault)
 
 -- what it leaves; a refusal by a slot is an answer like any other
-abbrev pub after_command : Past → Result AskValue Fault → Past
+abbrev pub after_command : HubPast → Result AskValue Fault → HubPast
 after_command past (Ok ask) = after_follow_ups (after_step past (Ask ask)) ask.at
 after_command past (Err fault) = past
 
 -- what a line of a script of steps is answered, by what it was read as
-abbrev pub script_answer : Past → Result Step Fault → Answer
+abbrev pub script_answer : HubPast → Result Step Fault → Answer
 script_answer past (Ok step) = step_answer past step
 script_answer past (Err fault) = Reply (Refused fault)
 
-abbrev pub after_script : Past → Result Step Fault → Past
+abbrev pub after_script : HubPast → Result Step Fault → HubPast
 after_script past (Ok step) = after_step past step
 after_script past (Err fault) = past
 
 -- what a line is answered
-unfoldable pub line_answer : Mode → Past → List ℕ → Answer
+unfoldable pub line_answer : Mode → HubPast → List ℕ → Answer
 line_answer Run past line = command_answer past (command_of_line past.settings line)
 line_answer Play past line = script_answer past (step_of_line past.settings line)
 
 -- what it leaves
-unfoldable pub after_line : Mode → Past → List ℕ → Past
+unfoldable pub after_line : Mode → HubPast → List ℕ → HubPast
 after_line Run past line = after_command past (command_of_line past.settings line)
 after_line Play past line = after_script past (step_of_line past.settings line)
 
@@ -107,16 +109,16 @@ unfoldable pub too_long_text : List ℕ
 too_long_text = compact_text (refused_data LineTooLong)
 
 -- how a hub answers lines
-abbrev pub answering : Mode → Answerer Past
-answering mode = record {
+abbrev pub hub_answerer : Mode → Answerer HubPast
+hub_answerer mode = record {
   reply = λ past line. answer_text past.settings (line_answer mode past line);
   next = after_line mode;
   is_refusal = λ past line. is_refusal (line_answer mode past line);
   too_long = too_long_text;
 }
 
-abbrev pub running : Answerer Past
-running = answering Run
+abbrev pub run_answerer : Answerer HubPast
+run_answerer = hub_answerer Run
 
-abbrev pub playing : Answerer Past
-playing = answering Play
+abbrev pub play_answerer : Answerer HubPast
+play_answerer = hub_answerer Play

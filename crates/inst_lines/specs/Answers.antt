@@ -1,10 +1,11 @@
 -- What is answered to lines, at any world that holds a state. This hub's own choice.
-use Rattle.std.specs.Prelude.{◌≡◌, ℕ, ◌+◌, ◌<◌, Bool, true, false, List, [], ◌∷◌, ◌++◌, length, nat_lt, if◌then◌else◌}
+use Rattle.std.specs.Prelude.{◌≡◌, ℕ, ◌+◌, ◌<◌, Bool, true, false, List, [], ◌∷◌, ◌++◌, length}
+use Rattle.std.specs.Prelude.{nat_lt, if◌then◌else◌}
 use Rattle.inst_lines.specs.Limits.{most_line_bytes}
 use Rattle.inst_base.specs.Newline.{newline, NoNewline}
 
--- how a line is answered at a state: by which reply, into which state, and whether the reply is a refusal; and the reply
--- to a line that is too long, which is a refusal and changes no state
+-- how a line is answered at a state: by which reply, into which state, and whether the reply is a
+-- refusal; and the reply to a line that is too long, which is a refusal and changes no state
 pub record Answerer (S : Type 0) : Type 0 where
   pub reply : S → List ℕ → List ℕ
   pub next : S → List ℕ → S
@@ -29,7 +30,8 @@ is_refused a s line = if is_too_long line then true else a.is_refusal s line
 -- the replies to lines in order, with a newline after each
 abbrev pub output : {S : Type 0} → Answerer S → S → List (List ℕ) → List ℕ
 output a s [] = []
-output a s (line ∷ lines) = (reply_to a s line ++ newline ∷ []) ++ output a (state_after_line a s line) lines
+output a s (line ∷ lines) =
+    (reply_to a s line ++ newline ∷ []) ++ output a (state_after_line a s line) lines
 
 -- the state after lines
 abbrev pub state_after : {S : Type 0} → Answerer S → S → List (List ℕ) → S
@@ -49,14 +51,19 @@ IsFront false front = front ≡ []
 
 -- what is held changes where no newline is: part of it may be let go, where the line is too long
 pub record MakesRoom (was_long : Bool) (old : List ℕ) (is_long : Bool) (new : List ℕ) : Type 0 where
-  pub line : (front : List ℕ) → IsFront was_long front → (front' : List ℕ) × IsFront is_long front' × (front' ++ new ≡ front ++ old)
+  pub line : (front : List ℕ) → IsFront was_long front →
+      (front' : List ℕ) × IsFront is_long front' × (front' ++ new ≡ front ++ old)
   pub no_newline : NoNewline new
   pub idle : was_long ≡ false → old ≡ [] → (is_long ≡ false) × (new ≡ [])
 
--- a line is answered, of which this part is held and any front of it was let go, whatever state the world holds
-pub record AnswersLine {S W : Type 0} (a : Answerer S) (holds : S → W → Type 0) (is_long : Bool) (part : List ℕ)
+-- a line is answered, of which this part is held and any front of it was let go, whatever state the
+-- world holds
+pub record AnswersLine {S W : Type 0} (a : Answerer S) (holds : S → W →
+    Type 0) (is_long : Bool) (part : List ℕ)
     (old new : W) (out_old out_new : List ℕ) (refused : Bool) : Type 0 where
   pub reply : (s : S) → holds s old → (front : List ℕ) → IsFront is_long front →
       out_new ≡ out_old ++ (reply_to a s (front ++ part) ++ newline ∷ [])
-  pub state : (s : S) → holds s old → (front : List ℕ) → IsFront is_long front → holds (state_after_line a s (front ++ part)) new
-  pub refusal : (s : S) → holds s old → (front : List ℕ) → IsFront is_long front → refused ≡ is_refused a s (front ++ part)
+  pub state : (s : S) → holds s old → (front : List ℕ) → IsFront is_long front →
+      holds (state_after_line a s (front ++ part)) new
+  pub refusal : (s : S) → holds s old → (front : List ℕ) → IsFront is_long front →
+      refused ≡ is_refused a s (front ++ part)

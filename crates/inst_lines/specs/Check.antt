@@ -1,5 +1,7 @@
--- What is told of lines that no hub takes, before any hub answers them. The text is this hub's own choice.
-use Rattle.std.specs.Prelude.{ℕ, ◌+◌, List, [], ◌∷◌, ◌++◌, Option, Some, None, Result, Ok, Err, if◌then◌else◌, codes}
+-- What is told of lines that no hub takes, before any hub answers them. The text is this hub's own
+-- choice.
+use Rattle.std.specs.Prelude.{ℕ, ◌+◌, List, [], ◌∷◌, ◌++◌, Option, Some, None, Result, Ok, Err}
+use Rattle.std.specs.Prelude.{if◌then◌else◌, codes}
 use Rattle.std.specs.Fmt.{decimal}
 use Rattle.inst_base.specs.Fault.{number_of, name_of}
 use Rattle.inst_base.specs.declared.fault.Fault.TheVariants.{LineTooLong}
@@ -21,7 +23,8 @@ refusal_in (Err refusal) = Some refusal
 -- why a command line is refused by itself, if it is
 abbrev pub refusal_of : HubSettings → List ℕ → Option Refusal
 refusal_of s line =
-    if is_too_long line then Some (record { fault = LineTooLong; field = None }) else refusal_in (blamed_command_of_line s line)
+    if is_too_long line then Some (record { fault = LineTooLong; field = None })
+    else refusal_in (blamed_command_of_line s line)
 
 -- where it is wrong
 abbrev pub field_text : Option Name → List ℕ
@@ -31,7 +34,8 @@ field_text (Some name) = codes " in \"" ++ text_of name ++ codes "\""
 -- the line that tells of a refusal of the line of this number
 abbrev pub refusal_text : ℕ → Refusal → List ℕ
 refusal_text n refusal =
-    ((((((codes "line " ++ decimal n) ++ codes ": fault ") ++ decimal (number_of refusal.fault)) ++ codes " ")
+    ((((((codes "line " ++ decimal n) ++ codes ": fault ") ++ decimal (number_of refusal.fault))
+    ++ codes " ")
     ++ name_of refusal.fault) ++ field_text refusal.field) ++ newline ∷ []
 
 -- the same, if it is refused
@@ -49,9 +53,9 @@ told_lines s n [] = []
 told_lines s n (line ∷ lines) = told_line s n line ++ told_lines s (n + 1) lines
 
 -- what is told of the lines of some bytes
-abbrev pub told_of : HubSettings → List ℕ → List ℕ
-told_of s bytes = told_lines s 1 (lines_of bytes)
+abbrev pub check_report : HubSettings → List ℕ → List ℕ
+check_report s bytes = told_lines s 1 (lines_of bytes)
 
 -- no more than a front of it is written
 abbrev pub TellsPart : HubSettings → List ℕ → Option (List ℕ) → Option (List ℕ) → Type 0
-TellsPart s bytes before after = WritesPart before after (told_of s bytes)
+TellsPart s bytes before after = WritesPart before after (check_report s bytes)

@@ -5,15 +5,15 @@ use Rattle.inst_lines.specs.declared.line_buffer.LineBuffer.{LineBuffer}
 use Rattle.inst_lines.specs.Limits.{most_bytes}
 
 -- the bytes that were read and not answered, but for the front of a line that is too long
-abbrev pub held : LineBuffer → List ℕ
-held input = slice_range input.bytes.items input.start input.end
+abbrev pub unanswered_bytes : LineBuffer → List ℕ
+unanswered_bytes input = slice_range input.bytes.items input.start input.end
 
 -- n bytes were read, none only at the end
 pub record Fills (old new : LineBuffer) (n : ℕ) (before after : Option (List ℕ)) : Type 0 where
   pub read : List ℕ
   pub length_is : length read ≡ n
   pub consumes : Consumes before after read
-  pub held_is : held new ≡ held old ++ read
+  pub held_is : unanswered_bytes new ≡ unanswered_bytes old ++ read
   pub is_long_is : new.is_long ≡ old.is_long
   pub taken_is : new.taken ≡ old.taken + n
   pub at_end : n ≡ 0 → IsAtEnd after

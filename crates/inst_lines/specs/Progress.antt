@@ -7,13 +7,16 @@ use Rattle.inst_lines.specs.Answers.{Answerer, output, state_after, refusals, Is
 -- the bytes are these lines, each with its newline, and then the rest
 pub record Splits (bytes : List ℕ) (first : List (List ℕ)) (rest : List ℕ) : Type 0 where
   pub lines : (more : List ℕ) → lines_of (bytes ++ more) ≡ first ++ lines_of (rest ++ more)
-  pub whole : (more : List ℕ) → whole_lines_of (bytes ++ more) ≡ first ++ whole_lines_of (rest ++ more)
+  pub whole : (more : List ℕ) →
+      whole_lines_of (bytes ++ more) ≡ first ++ whole_lines_of (rest ++ more)
 
--- of the bytes that were read, the lines in `answered` are answered and the rest is held, but for a front
--- of a line that is too long; what the writer held `before`, and has `now`, shows the replies, but for
--- those still `pending`
-pub record Progress {S : Type 0} (a : Answerer S) (start : S) (before : Option (List ℕ)) (bytes : List ℕ)
-    (now : Option (List ℕ)) (pending : List ℕ) (state : S) (is_long : Bool) (held : List ℕ) (lines refused : ℕ)
+-- of the bytes that were read, the lines in `answered` are answered and the rest is held, but for a
+-- front of a line that is too long; what the writer held `before`, and has `now`, shows the
+-- replies, but for those still `pending`
+pub record Progress {S : Type 0} (a : Answerer S) (start : S) (before : Option (List ℕ))
+    (bytes : List ℕ)
+    (now : Option (List ℕ)) (pending : List ℕ) (state : S) (is_long : Bool) (held : List ℕ)
+    (lines refused : ℕ)
     : Type 0 where
   pub answered : List (List ℕ)
   pub front : List ℕ
@@ -27,14 +30,16 @@ pub record Progress {S : Type 0} (a : Answerer S) (start : S) (before : Option (
   pub refused_are : refused ≡ refusals a start answered
 
 -- what was written is a front of the replies to the bytes that were read
-pub record Stopped {S : Type 0} (a : Answerer S) (start : S) (before : Option (List ℕ)) (bytes : List ℕ) (now : Option (List ℕ)) : Type 0 where
+pub record Stopped {S : Type 0} (a : Answerer S) (start : S) (before : Option (List ℕ))
+    (bytes : List ℕ) (now : Option (List ℕ)) : Type 0 where
   pub written : List ℕ
   pub unwritten : List ℕ
   pub appends : Appends before now written
   pub is_front : output a start (lines_of bytes) ≡ written ++ unwritten
 
 -- each line of the bytes is answered and written
-pub record Finished {S : Type 0} (a : Answerer S) (start : S) (before : Option (List ℕ)) (bytes : List ℕ)
+pub record Finished {S : Type 0} (a : Answerer S) (start : S) (before : Option (List ℕ))
+    (bytes : List ℕ)
     (now : Option (List ℕ)) (state : S) (lines refused : ℕ) : Type 0 where
   pub appends : Appends before now (output a start (lines_of bytes))
   pub state_is : state ≡ state_after a start (lines_of bytes)
@@ -42,5 +47,6 @@ pub record Finished {S : Type 0} (a : Answerer S) (start : S) (before : Option (
   pub refused_are : refused ≡ refusals a start (lines_of bytes)
 
 -- each line whose newline was read within the limits is answered and written, and nothing else
-pub record CutOff {S : Type 0} (a : Answerer S) (start : S) (before : Option (List ℕ)) (bytes : List ℕ) (now : Option (List ℕ)) : Type 0 where
+pub record CutOff {S : Type 0} (a : Answerer S) (start : S) (before : Option (List ℕ))
+    (bytes : List ℕ) (now : Option (List ℕ)) : Type 0 where
   pub appends : Appends before now (output a start (whole_lines_within bytes))

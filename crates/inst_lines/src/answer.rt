@@ -5,8 +5,9 @@ ghost use Rattle.inst_json.specs.Replies.{answer_data, answer_can_be_written};
 ghost use Rattle.inst_json.specs.Lines.{command_of_line, step_of_line};
 ghost use Rattle.inst_base.specs.Newline.{newline};
 ghost use Rattle.inst_lines.specs.Answers.{AnswersLine};
-ghost use Rattle.inst_lines.specs.Answering.{Keeps, is_refusal, answering};
-ghost use Rattle.inst_lines.specs.Answering.{command_answer, after_command, script_answer, after_script};
+ghost use Rattle.inst_lines.specs.Answering.{Keeps, is_refusal, hub_answerer};
+ghost use Rattle.inst_lines.specs.Answering.{command_answer, after_command, script_answer};
+ghost use Rattle.inst_lines.specs.Answering.{after_script};
 ghost use Rattle.inst_lines.specs.inner.Answering.{RepliesToLine, RepliesToRead};
 
 use crate::line_buffer::is_too_long;
@@ -18,9 +19,9 @@ use inst_json::LineReader;
 use inst_settings::Settings;
 use std::alloc::AllocError;
 
-/// Appends the answer to a line, whose newline is not among its bytes, and a newline to `out`, and says whether it is a
-/// refusal. A line of more than 4,096 bytes is refused. After an error a front of the answer may stand in `out`, and
-/// the runner may have gone on: let both go.
+/// Appends the answer to a line, whose newline is not among its bytes, and a newline to `out`, and
+/// says whether it is a refusal. A line of more than 4,096 bytes is refused. After an error a front
+/// of the answer may stand in `out`, and the runner may have gone on: let both go.
 pub fn answer_line(
     reader: &mut LineReader,
     mode: Mode,
@@ -28,14 +29,14 @@ pub fn answer_line(
     line: &[u8],
     out: &mut Vec<u8>,
 ) -> Result<bool, AllocError>
-    ensures { IfOk result (λ refused. AnswersLine (answering mode) (Keeps mode) false line.now
+    ensures { IfOk result (λ refused. AnswersLine (hub_answerer mode) (Keeps mode) false line.now
         runner.old runner.new out.old.items out.new.items refused) }
 {
     answer_part(reader, mode, runner, false, line, out)
 }
 
-/// Appends the answer to a line, and a newline, to `out`, and says whether it is a refusal. This part of the line is
-/// held, and where it is long a front of it was let go.
+/// Appends the answer to a line, and a newline, to `out`, and says whether it is a refusal. This
+/// part of the line is held, and where it is long a front of it was let go.
 pub(crate) fn answer_part(
     reader: &mut LineReader,
     mode: Mode,
@@ -44,7 +45,8 @@ pub(crate) fn answer_part(
     part: &[u8],
     out: &mut Vec<u8>,
 ) -> Result<bool, AllocError>
-    ensures ok { IfOk result (λ refused. AnswersLine (answering mode) (Keeps mode) is_long part.now
+    ensures ok { IfOk result (λ refused.
+        AnswersLine (hub_answerer mode) (Keeps mode) is_long part.now
         runner.old runner.new out.old.items out.new.items refused) }
 {
     let answer = answer_to(reader, mode, runner, is_long, part)?;
@@ -59,7 +61,8 @@ fn answer_to(
     is_long: bool,
     part: &[u8],
 ) -> Result<Answer, AllocError>
-    ensures ok { IfOk result (λ answer. RepliesToLine mode is_long part.now runner.old runner.new answer) }
+    ensures ok { IfOk result (λ answer.
+        RepliesToLine mode is_long part.now runner.old runner.new answer) }
 {
     if is_too_long(is_long, part.len()) {
         return Ok(Answer::Reply(Reply::Refused(Fault::LineTooLong)));
@@ -77,7 +80,8 @@ fn append_answer(
     out: &mut Vec<u8>,
 ) -> Result<bool, AllocError>
     requires { answer_can_be_written settings.now answer.now ≡ true }
-    ensures ok { OnOk result (out.new.items ≡ out.old.items ++ (compact_text (answer_data settings.now answer.now) ++ newline ∷ [])) }
+    ensures ok { OnOk result (out.new.items
+        ≡ out.old.items ++ (compact_text (answer_data settings.now answer.now) ++ newline ∷ [])) }
     ensures refusal { IfOk result (λ refused. refused ≡ is_refusal answer.now) }
 {
     inst_json::append_answer(settings, answer, out)?;
@@ -124,7 +128,8 @@ fn answer_step(
 
 /// What a line is answered that is refused in reading.
 fn refused(fault: Fault) -> Result<Answer, AllocError>
-    ensures ok { IfOk result (λ answer. (answer ≡ Answer.Reply (Reply.Refused fault)) × (fault ≢ Fault.Memory)) }
+    ensures ok { IfOk result (λ answer. (answer ≡ Answer.Reply (Reply.Refused fault))
+        × (fault ≢ Fault.Memory)) }
 {
     Ok(Answer::Reply(refusals_told(Err(fault))?))
 }

@@ -1,7 +1,9 @@
 //! What is wrong with lines by themselves, before any hub answers them.
 ghost use Rattle.std.specs.Prelude.{◌≡◌, ◌⊎◌, ◌++◌, OnOk, IfOk, IfErr, IfSome, OnErr};
 ghost use Rattle.std.specs.Io.KnownBytes.{Appends, IsAtEnd};
-ghost use Rattle.inst_lines.specs.Check.{refusal_of, refusal_text, field_text, told_line, told_of, TellsPart};
+ghost use Rattle.inst_lines.specs.Check.{refusal_of, refusal_text, field_text, told_line};
+ghost use Rattle.inst_lines.specs.Check.{check_report};
+ghost use Rattle.inst_lines.specs.Check.{TellsPart};
 
 use crate::limits::MOST_LINE_BYTES;
 use crate::replies::ReplyBuffer;
@@ -12,13 +14,13 @@ use inst_settings::Settings;
 use std::alloc::{AllocError, Global};
 use std::io::{ErrorKind, Read, Write};
 
-/// Tells of each command line that the reader gives and that no hub of these settings takes, one line each to the
-/// writer: its number from 1, the fault, and the field that is missing or wrong, as in
-/// `line 3: fault 4 BadAmount in "cents"`. What a hub refuses by its books isn't told. All is read before anything is
-/// written, and held in memory.
+/// Tells of each command line that the reader gives and that no hub of these settings takes, one
+/// line each to the writer: its number from 1, the fault, and the field that is missing or wrong,
+/// as in `line 3: fault 4 BadAmount in "cents"`. What a hub refuses by its books isn't told. All is
+/// read before anything is written, and held in memory.
 ///
-/// `ReadFault` comes where a read fails, `Memory` where there is none, and nothing is written then; `WriteFault` where
-/// a write fails or takes no byte.
+/// `ReadFault` comes where a read fails, `Memory` where there is none, and nothing is written then;
+/// `WriteFault` where a write fails or takes no byte.
 pub fn check_lines<R: Read, W: Write>(
     alloc: Global,
     settings: &Settings,
@@ -27,10 +29,11 @@ pub fn check_lines<R: Read, W: Write>(
 ) -> Result<(), Fault>
     ensures end { OnOk result (IsAtEnd (R.remaining reader.new)) }
     ensures told { OnOk result (IfSome (R.remaining reader.old) (λ bytes.
-        Appends (W.contents writer.old) (W.contents writer.new) (told_of settings.now bytes))) }
+        Appends (W.contents writer.old) (W.contents writer.new) (check_report settings.now bytes))) }
     ensures err { OnErr result (IfSome (R.remaining reader.old) (λ bytes.
         TellsPart settings.now bytes (W.contents writer.old) (W.contents writer.new))) }
-    ensures only { IfErr result (λ fault. (fault ≡ Fault.Memory) ⊎ ((fault ≡ Fault.ReadFault) ⊎ (fault ≡ Fault.WriteFault))) }
+    ensures only { IfErr result (λ fault. (fault ≡ Fault.Memory)
+        ⊎ ((fault ≡ Fault.ReadFault) ⊎ (fault ≡ Fault.WriteFault))) }
 {
     let mut input = Vec::new(alloc);
     read_all(reader, &mut input)?;
@@ -42,7 +45,8 @@ pub fn check_lines<R: Read, W: Write>(
 /// Reads all that a reader gives. `Memory` where there is no room for it, and else `ReadFault`.
 fn read_all<R: Read>(reader: &mut R, input: &mut Vec<u8>) -> Result<(), Fault>
     ensures end { OnOk result (IsAtEnd (R.remaining reader.new)) }
-    ensures bytes { OnOk result (IfSome (R.remaining reader.old) (λ bytes. input.new.items ≡ input.old.items ++ bytes)) }
+    ensures bytes { OnOk result (IfSome (R.remaining reader.old) (λ bytes.
+        input.new.items ≡ input.old.items ++ bytes)) }
     ensures only { IfErr result (λ fault. (fault ≡ Fault.Memory) ⊎ (fault ≡ Fault.ReadFault)) }
 {
     match reader.read_to_end(input) {
@@ -59,7 +63,7 @@ fn tell_lines(
     input: &[u8],
     out: &mut Vec<u8>,
 ) -> Result<(), AllocError>
-    ensures { OnOk result (out.new.items ≡ out.old.items ++ told_of settings.now input.now) }
+    ensures { OnOk result (out.new.items ≡ out.old.items ++ check_report settings.now input.now) }
 {
     let mut reader = LineReader::new(alloc);
     let mut number = 0;
@@ -83,7 +87,8 @@ fn tell_line(
     line: &[u8],
     out: &mut Vec<u8>,
 ) -> Result<(), AllocError>
-    ensures { OnOk result (out.new.items ≡ out.old.items ++ told_line settings.now number line.now) }
+    ensures { OnOk result (out.new.items
+        ≡ out.old.items ++ told_line settings.now number line.now) }
 {
     match refusal_of(reader, settings, line)? {
         Some(refusal) => push_refusal(number, refusal, out),

@@ -28,12 +28,13 @@ pub struct LineBuffer {
 
 impl LineBuffer {
     ghost use Rattle.inst_lines.specs.Answers.{MakesRoom};
-    ghost use Rattle.inst_lines.specs.LineBuffer.{held, Fills, FillFails};
+    ghost use Rattle.inst_lines.specs.LineBuffer.{unanswered_bytes, Fills, FillFails};
 
     /// An empty buffer.
     pub fn new(alloc: Global) -> Result<LineBuffer, AllocError>
-        ensures held { IfOk result (λ input. held input ≡ []) }
-        ensures start { IfOk result (λ input. (input.is_long ≡ false) × (input.taken ≡ 0) × (input.end ≡ 0)) }
+        ensures held { IfOk result (λ input. unanswered_bytes input ≡ []) }
+        ensures start { IfOk result (λ input. (input.is_long ≡ false) × (input.taken ≡ 0)
+            × (input.end ≡ 0)) }
     {
         let bytes = vec![in alloc; 0; BUFFER_BYTES]?;
         Ok(LineBuffer {
@@ -45,12 +46,14 @@ impl LineBuffer {
         })
     }
 
-    /// Reads further bytes, and says how many: 0 at the end of the input. `ReadFault` comes where the
-    /// read fails, and where the input goes on after `MOST_BYTES`.
+    /// Reads further bytes, and says how many: 0 at the end of the input. `ReadFault` comes where
+    /// the read fails, and where the input goes on after `MOST_BYTES`.
     pub fn fill<R: Read>(&mut self, reader: &mut R) -> Result<usize, Fault>
         requires { self.old.end < buffer_bytes }
-        ensures ok { IfOk result (λ n. Fills self.old self.new n (R.remaining reader.old) (R.remaining reader.new)) }
-        ensures err { OnErr result (FillFails self.old (R.remaining reader.old) (R.remaining reader.new)) }
+        ensures ok { IfOk result (λ n.
+            Fills self.old self.new n (R.remaining reader.old) (R.remaining reader.new)) }
+        ensures err { OnErr result
+            (FillFails self.old (R.remaining reader.old) (R.remaining reader.new)) }
         ensures fault { OnErr result (IsErrOf result Fault.ReadFault) }
     {
         let left = MOST_BYTES - self.taken;
@@ -67,21 +70,21 @@ impl LineBuffer {
 
     /// The bytes that are held.
     pub fn as_slice(&self) -> &[u8]
-        ensures { result.now ≡ held self.now }
+        ensures { result.now ≡ unanswered_bytes self.now }
     {
         &self.bytes[self.start..self.end]
     }
 
     /// How many bytes are held.
     pub fn len(&self) -> usize
-        ensures { result ≡ length (held self.now) }
+        ensures { result ≡ length (unanswered_bytes self.now) }
     {
         self.end - self.start
     }
 
     /// Whether part of a line is held, or was let go.
     pub fn is_in_line(&self) -> bool
-        ensures { result ≡ (self.now.is_long || nat_lt 0 (length (held self.now))) }
+        ensures { result ≡ (self.now.is_long || nat_lt 0 (length (unanswered_bytes self.now))) }
     {
         self.is_long || self.start < self.end
     }
@@ -95,8 +98,9 @@ impl LineBuffer {
 
     /// Lets go of a line of which this many bytes are held, and of its newline.
     pub fn drop_line(&mut self, len: usize)
-        requires { len ≤ length (held self.old) }
-        ensures held { held self.new ≡ drop (len + 1) (held self.old) }
+        requires { len ≤ length (unanswered_bytes self.old) }
+        ensures held { unanswered_bytes self.new
+            ≡ drop (len + 1) (unanswered_bytes self.old) }
         ensures is_long { self.new.is_long ≡ false }
         ensures taken { self.new.taken ≡ self.old.taken }
     {
@@ -104,11 +108,12 @@ impl LineBuffer {
         self.is_long = false;
     }
 
-    /// Makes room for a read, where no newline is held: what is held goes to the front, or is let go
-    /// if the line is too long already.
+    /// Makes room for a read, where no newline is held: what is held goes to the front, or is let
+    /// go if the line is too long already.
     pub fn make_room(&mut self)
-        requires { NoNewline (held self.old) }
-        ensures kept { MakesRoom self.old.is_long (held self.old) self.new.is_long (held self.new) }
+        requires { NoNewline (unanswered_bytes self.old) }
+        ensures kept { MakesRoom self.old.is_long (unanswered_bytes self.old) self.new.is_long
+            (unanswered_bytes self.new) }
         ensures room { self.new.end ≤ most_line_bytes }
         ensures taken { self.new.taken ≡ self.old.taken }
     {
@@ -124,7 +129,8 @@ impl LineBuffer {
     }
 }
 
-/// Whether a line is too long of which this many bytes are held, and a front was let go where it is long already.
+/// Whether a line is too long of which this many bytes are held, and a front was let go where it is
+/// long already.
 pub(crate) fn is_too_long(is_long: bool, len: usize) -> bool
     ensures { result ≡ (is_long || nat_lt most_line_bytes len) }
 {

@@ -3,7 +3,8 @@ ghost use Rattle.std.specs.Prelude.{◌≡◌, OnOk, IfOk, IfErr, IfSome, length
 ghost use Rattle.std.specs.Io.KnownBytes.{Appends, IsAtEnd};
 ghost use Rattle.inst_lines.specs.Lines.{lines_of, IsWithinLimits};
 ghost use Rattle.inst_lines.specs.Answers.{output, refusals, state_after};
-ghost use Rattle.inst_lines.specs.Answering.{Past, Keeps, opened, answering, running, playing};
+ghost use Rattle.inst_lines.specs.Answering.{HubPast, Keeps, opened, hub_answerer, run_answerer};
+ghost use Rattle.inst_lines.specs.Answering.{play_answerer};
 ghost use Rattle.inst_lines.specs.Session.{FailsAfter};
 ghost use Rattle.inst_lines.specs.Headline.{LinesKeepTheHeadline};
 
@@ -15,22 +16,23 @@ use inst_settings::Settings;
 use std::alloc::Global;
 use std::io::{Read, Write};
 
-/// Answers each line that the reader gives by one line to the writer, and says how many there were. A
-/// line is a command; after each that is read without refusal all transfers taken so far are followed up
-/// at its reading.
+/// Answers each line that the reader gives by one line to the writer, and says how many there were.
+/// A line is a command; after each that is read without refusal all transfers taken so far are
+/// followed up at its reading.
 ///
 /// ```text
 /// let counts = run_lines(alloc, &settings, &mut input.as_bytes(), &mut output)?;
 /// counts.lines // as many lines as `input` has
 /// ```
 ///
-/// A line ends by a newline, and the last one may lack it; a line of more than 4,096 bytes is answered
-/// `LineTooLong`. Whatever was answered is written and flushed before each read and at the end.
+/// A line ends by a newline, and the last one may lack it; a line of more than 4,096 bytes is
+/// answered `LineTooLong`. Whatever was answered is written and flushed before each read and at the
+/// end.
 ///
 /// `ReadFault` comes where a read fails in any way, and where the input goes on after `MOST_LINES`
-/// lines, each with its newline, or after `MOST_BYTES` bytes: what was read up to there is answered.
-/// `WriteFault` comes where a write or a flush fails, or a write takes no byte, and `Memory` where
-/// there is none: then a front of the replies is written.
+/// lines, each with its newline, or after `MOST_BYTES` bytes: what was read up to there is
+/// answered. `WriteFault` comes where a write or a flush fails, or a write takes no byte, and
+/// `Memory` where there is none: then a front of the replies is written.
 pub fn run_lines<R: Read, W: Write>(
     alloc: Global,
     settings: &Settings,
@@ -41,19 +43,19 @@ pub fn run_lines<R: Read, W: Write>(
     ensures end { OnOk result (IsAtEnd (R.remaining reader.new)) }
     ensures output { OnOk result (IfSome (R.remaining reader.old) (λ bytes.
         Appends (W.contents writer.old) (W.contents writer.new)
-        (output running (opened settings.now) (lines_of bytes)))) }
+        (output run_answerer (opened settings.now) (lines_of bytes)))) }
     // The run that these lines stand for keeps the headline.
     ensures headline { OnOk result (IfSome (R.remaining reader.old) (λ bytes.
-        LinesKeepTheHeadline running settings.now (lines_of bytes))) }
+        LinesKeepTheHeadline run_answerer settings.now (lines_of bytes))) }
     ensures lines { IfOk result (λ counts. IfSome (R.remaining reader.old) (λ bytes.
         counts.lines ≡ length (lines_of bytes))) }
     ensures refused { IfOk result (λ counts. IfSome (R.remaining reader.old) (λ bytes.
-        counts.refused ≡ refusals running (opened settings.now) (lines_of bytes))) }
+        counts.refused ≡ refusals run_answerer (opened settings.now) (lines_of bytes))) }
     ensures limits { OnOk result (IfSome (R.remaining reader.old) IsWithinLimits) }
 
     // Some bytes were read: at `ReadFault` each line whose newline stands within the limits is
     // answered, and at another fault a front of the replies is written.
-    ensures err { IfErr result (FailsAfter running (opened settings.now)
+    ensures err { IfErr result (FailsAfter run_answerer (opened settings.now)
         (W.contents writer.old) (W.contents writer.new)
         (R.remaining reader.old) (R.remaining reader.new)) }
 {
@@ -61,9 +63,9 @@ pub fn run_lines<R: Read, W: Write>(
     Ok(served.counts)
 }
 
-/// Answers each line that the reader gives by one line to the writer, as `run_lines` does. Here a line is
-/// one step, or a command, which is one step too, and nothing else happens: what a run does by itself is
-/// played by hand.
+/// Answers each line that the reader gives by one line to the writer, as `run_lines` does. Here a
+/// line is one step, or a command, which is one step too, and nothing else happens: what a run does
+/// by itself is played by hand.
 ///
 /// ```text
 /// let counts = play_lines(alloc, &settings, &mut script.as_bytes(), &mut output)?;
@@ -79,15 +81,15 @@ pub fn play_lines<R: Read, W: Write>(
     ensures end { OnOk result (IsAtEnd (R.remaining reader.new)) }
     ensures output { OnOk result (IfSome (R.remaining reader.old) (λ bytes.
         Appends (W.contents writer.old) (W.contents writer.new)
-        (output playing (opened settings.now) (lines_of bytes)))) }
+        (output play_answerer (opened settings.now) (lines_of bytes)))) }
     ensures headline { OnOk result (IfSome (R.remaining reader.old) (λ bytes.
-        LinesKeepTheHeadline playing settings.now (lines_of bytes))) }
+        LinesKeepTheHeadline play_answerer settings.now (lines_of bytes))) }
     ensures lines { IfOk result (λ counts. IfSome (R.remaining reader.old) (λ bytes.
         counts.lines ≡ length (lines_of bytes))) }
     ensures refused { IfOk result (λ counts. IfSome (R.remaining reader.old) (λ bytes.
-        counts.refused ≡ refusals playing (opened settings.now) (lines_of bytes))) }
+        counts.refused ≡ refusals play_answerer (opened settings.now) (lines_of bytes))) }
     ensures limits { OnOk result (IfSome (R.remaining reader.old) IsWithinLimits) }
-    ensures err { IfErr result (FailsAfter playing (opened settings.now)
+    ensures err { IfErr result (FailsAfter play_answerer (opened settings.now)
         (W.contents writer.old) (W.contents writer.new)
         (R.remaining reader.old) (R.remaining reader.new)) }
 {
@@ -102,8 +104,9 @@ pub struct Served {
     pub runner: Runner,
 }
 
-/// Answers each line that the reader gives by one line to the writer, as `run_lines` or `play_lines` does by the mode,
-/// and leaves the hub. `ReadFault`, `WriteFault` and `Memory` come as from `run_lines`.
+/// Answers each line that the reader gives by one line to the writer, as `run_lines` or
+/// `play_lines` does by the mode, and leaves the hub. `ReadFault`, `WriteFault` and `Memory` come
+/// as from `run_lines`.
 pub fn serve_lines<R: Read, W: Write>(
     alloc: Global,
     mode: Mode,
@@ -114,17 +117,19 @@ pub fn serve_lines<R: Read, W: Write>(
     ensures end { OnOk result (IsAtEnd (R.remaining reader.new)) }
     ensures output { OnOk result (IfSome (R.remaining reader.old) (λ bytes.
         Appends (W.contents writer.old) (W.contents writer.new)
-        (output (answering mode) (opened settings.now) (lines_of bytes)))) }
+        (output (hub_answerer mode) (opened settings.now) (lines_of bytes)))) }
     ensures headline { OnOk result (IfSome (R.remaining reader.old) (λ bytes.
-        LinesKeepTheHeadline (answering mode) settings.now (lines_of bytes))) }
+        LinesKeepTheHeadline (hub_answerer mode) settings.now (lines_of bytes))) }
     ensures runner { IfOk result (λ served. IfSome (R.remaining reader.old) (λ bytes.
-        Keeps mode (state_after (answering mode) (opened settings.now) (lines_of bytes)) served.runner)) }
+        Keeps mode (state_after (hub_answerer mode) (opened settings.now) (lines_of bytes))
+        served.runner)) }
     ensures lines { IfOk result (λ served. IfSome (R.remaining reader.old) (λ bytes.
         served.counts.lines ≡ length (lines_of bytes))) }
     ensures refused { IfOk result (λ served. IfSome (R.remaining reader.old) (λ bytes.
-        served.counts.refused ≡ refusals (answering mode) (opened settings.now) (lines_of bytes))) }
+        served.counts.refused
+        ≡ refusals (hub_answerer mode) (opened settings.now) (lines_of bytes))) }
     ensures limits { OnOk result (IfSome (R.remaining reader.old) IsWithinLimits) }
-    ensures err { IfErr result (FailsAfter (answering mode) (opened settings.now)
+    ensures err { IfErr result (FailsAfter (hub_answerer mode) (opened settings.now)
         (W.contents writer.old) (W.contents writer.new)
         (R.remaining reader.old) (R.remaining reader.new)) }
 {
@@ -142,17 +147,23 @@ fn answer_lines<R: Read, W: Write>(
     writer: &mut W,
 ) -> Result<Counts, Fault>
     ensures end { OnOk result (IsAtEnd (R.remaining reader.new)) }
-    ensures output { (past : Past) → Keeps mode past runner.old → OnOk result (IfSome (R.remaining reader.old) (λ bytes.
+    ensures output { (past : HubPast) → Keeps mode past runner.old →
+        OnOk result (IfSome (R.remaining reader.old) (λ bytes.
         Appends (W.contents writer.old) (W.contents writer.new)
-        (output (answering mode) past (lines_of bytes)))) }
-    ensures runner { (past : Past) → Keeps mode past runner.old → OnOk result (IfSome (R.remaining reader.old) (λ bytes.
-        Keeps mode (state_after (answering mode) past (lines_of bytes)) runner.new)) }
-    ensures lines { (past : Past) → Keeps mode past runner.old → IfOk result (λ counts. IfSome (R.remaining reader.old) (λ bytes.
+        (output (hub_answerer mode) past (lines_of bytes)))) }
+    ensures runner { (past : HubPast) → Keeps mode past runner.old →
+        OnOk result (IfSome (R.remaining reader.old) (λ bytes.
+        Keeps mode (state_after (hub_answerer mode) past (lines_of bytes)) runner.new)) }
+    ensures lines { (past : HubPast) → Keeps mode past runner.old →
+        IfOk result (λ counts. IfSome (R.remaining reader.old) (λ bytes.
         counts.lines ≡ length (lines_of bytes))) }
-    ensures refused { (past : Past) → Keeps mode past runner.old → IfOk result (λ counts. IfSome (R.remaining reader.old) (λ bytes.
-        counts.refused ≡ refusals (answering mode) past (lines_of bytes))) }
-    ensures limits { (past : Past) → Keeps mode past runner.old → OnOk result (IfSome (R.remaining reader.old) IsWithinLimits) }
-    ensures err { (past : Past) → Keeps mode past runner.old → IfErr result (FailsAfter (answering mode) past
+    ensures refused { (past : HubPast) → Keeps mode past runner.old →
+        IfOk result (λ counts. IfSome (R.remaining reader.old) (λ bytes.
+        counts.refused ≡ refusals (hub_answerer mode) past (lines_of bytes))) }
+    ensures limits { (past : HubPast) → Keeps mode past runner.old →
+        OnOk result (IfSome (R.remaining reader.old) IsWithinLimits) }
+    ensures err { (past : HubPast) → Keeps mode past runner.old →
+        IfErr result (FailsAfter (hub_answerer mode) past
         (W.contents writer.old) (W.contents writer.new)
         (R.remaining reader.old) (R.remaining reader.new)) }
 {

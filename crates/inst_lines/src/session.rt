@@ -1,6 +1,7 @@
 //! What a run holds between its reads, and one turn of it: a read, and the answers to what it gave.
 ghost use Rattle.inst_lines.specs.Limits.{most_lines};
-ghost use Rattle.std.specs.Prelude.{◌≡◌, ◌≤◌, ◌<◌, ◌⊎◌, [], OnOk, IfOk, OnErr, IfErr, MatchBool, false, length};
+ghost use Rattle.std.specs.Prelude.{◌≡◌, ◌≤◌, ◌<◌, ◌⊎◌, [], OnOk, IfOk, OnErr, IfErr, MatchBool};
+ghost use Rattle.std.specs.Prelude.{false, length};
 
 use crate::answer::answer_part;
 use crate::limits::MOST_LINES;
@@ -36,17 +37,17 @@ pub struct Session {
 impl Session {
     ghost use Rattle.inst_base.specs.Newline.{NoNewline};
     ghost use Rattle.inst_lines.specs.Limits.{most_lines};
-    ghost use Rattle.inst_lines.specs.Answering.{answering, Keeps};
-    ghost use Rattle.inst_lines.specs.LineBuffer.{held};
-    ghost use Rattle.inst_lines.specs.Session.{IsAnswered, IsReady, stage};
+    ghost use Rattle.inst_lines.specs.Answering.{hub_answerer, Keeps};
+    ghost use Rattle.inst_lines.specs.LineBuffer.{unanswered_bytes};
+    ghost use Rattle.inst_lines.specs.Session.{IsAnswered, IsReadyToRead, stage};
     ghost use Rattle.inst_lines.specs.Session.{HasTurned, HasEnded, HasFailed};
     ghost use Rattle.inst_lines.specs.inner.Session.{TakesLine, AnswersLast, IsNoReadFault};
     ghost use Rattle.inst_lines.specs.inner.Session.{MovesOn, HasStopped, HasFinished};
 
     /// A session that has read nothing.
     pub fn new(alloc: Global) -> Result<Session, AllocError>
-        ensures ready { IfOk result (λ session. IsReady session) }
-        ensures input { IfOk result (λ session. held session.input ≡ []) }
+        ensures ready { IfOk result (λ session. IsReadyToRead session) }
+        ensures input { IfOk result (λ session. unanswered_bytes session.input ≡ []) }
         ensures is_long { IfOk result (λ session. session.input.is_long ≡ false) }
         ensures taken { IfOk result (λ session. session.input.taken ≡ 0) }
         ensures lines { IfOk result (λ session. session.counts.lines ≡ 0) }
@@ -66,9 +67,10 @@ impl Session {
     /// Answers the rest of a line, of which this many bytes are held, and lets go of it and of its
     /// newline.
     fn answer_line(&mut self, mode: Mode, runner: &mut Runner, len: usize) -> Result<(), AllocError>
-        requires within { len ≤ length (held self.old.input) }
+        requires within { len ≤ length (unanswered_bytes self.old.input) }
         requires room { self.old.counts.lines < most_lines }
-        ensures ok { OnOk result (TakesLine (answering mode) (Keeps mode) len self.old self.new runner.old runner.new) }
+        ensures ok { OnOk result
+            (TakesLine (hub_answerer mode) (Keeps mode) len self.old self.new runner.old runner.new) }
     {
         let is_refused = answer_part(
             &mut self.reader,
@@ -92,11 +94,16 @@ impl Session {
         runner: &mut Runner,
         writer: &mut W,
     ) -> Result<(), Fault>
-        ensures ok { OnOk result (MovesOn (answering mode) (Keeps mode) (stage self.old runner.old (W.contents writer.old))
+        ensures ok { OnOk result
+            (MovesOn (hub_answerer mode) (Keeps mode)
+            (stage self.old runner.old (W.contents writer.old))
             (stage self.new runner.new (W.contents writer.new))) }
-        ensures done { OnOk result (NoNewline (held self.new.input) ⊎ (self.new.counts.lines ≡ most_lines)) }
+        ensures done { OnOk result (NoNewline (unanswered_bytes self.new.input)
+            ⊎ (self.new.counts.lines ≡ most_lines)) }
         ensures taken { OnOk result (self.new.input.taken ≡ self.old.input.taken) }
-        ensures err { OnErr result (HasStopped (answering mode) (Keeps mode) (stage self.old runner.old (W.contents writer.old))
+        ensures err { OnErr result
+            (HasStopped (hub_answerer mode) (Keeps mode)
+            (stage self.old runner.old (W.contents writer.old))
             (W.contents writer.new)) }
         ensures fault { IfErr result IsNoReadFault }
     {
@@ -113,7 +120,8 @@ impl Session {
     /// Answers a last line with no newline, if there is one.
     fn answer_last(&mut self, mode: Mode, runner: &mut Runner) -> Result<(), AllocError>
         requires { IsAnswered self.old }
-        ensures ok { OnOk result (AnswersLast (answering mode) (Keeps mode) self.old self.new runner.old runner.new) }
+        ensures ok { OnOk result
+            (AnswersLast (hub_answerer mode) (Keeps mode) self.old self.new runner.old runner.new) }
     {
         if !self.input.is_in_line() {
             return Ok(());
@@ -122,8 +130,8 @@ impl Session {
         self.answer_line(mode, runner, len)
     }
 
-    /// Answers a last line with no newline, and delivers what is left. `Memory` comes where there is
-    /// no room for the reply, and `WriteFault` as from `deliver`.
+    /// Answers a last line with no newline, and delivers what is left. `Memory` comes where there
+    /// is no room for the reply, and `WriteFault` as from `deliver`.
     fn finish<W: Write>(
         &mut self,
         mode: Mode,
@@ -131,9 +139,13 @@ impl Session {
         writer: &mut W,
     ) -> Result<(), Fault>
         requires { IsAnswered self.old }
-        ensures ok { OnOk result (HasFinished (answering mode) (Keeps mode) (stage self.old runner.old (W.contents writer.old))
+        ensures ok { OnOk result
+            (HasFinished (hub_answerer mode) (Keeps mode)
+            (stage self.old runner.old (W.contents writer.old))
             (stage self.new runner.new (W.contents writer.new))) }
-        ensures err { OnErr result (HasStopped (answering mode) (Keeps mode) (stage self.old runner.old (W.contents writer.old))
+        ensures err { OnErr result
+            (HasStopped (hub_answerer mode) (Keeps mode)
+            (stage self.old runner.old (W.contents writer.old))
             (W.contents writer.new)) }
         ensures fault { IfErr result IsNoReadFault }
     {
@@ -150,14 +162,16 @@ impl Session {
         reader: &mut R,
         writer: &mut W,
     ) -> Result<bool, Fault>
-        requires { IsReady self.old }
+        requires { IsReadyToRead self.old }
         ensures ok { let before = stage self.old runner.old (W.contents writer.old) in
             let after = stage self.new runner.new (W.contents writer.new) in
             IfOk result (λ more. MatchBool more
-            (HasTurned (answering mode) (Keeps mode) before after (R.remaining reader.old) (R.remaining reader.new))
-            (HasEnded (answering mode) (Keeps mode) before after (R.remaining reader.old) (R.remaining reader.new))) }
+            (HasTurned (hub_answerer mode) (Keeps mode) before after (R.remaining reader.old)
+            (R.remaining reader.new))
+            (HasEnded (hub_answerer mode) (Keeps mode) before after (R.remaining reader.old)
+            (R.remaining reader.new))) }
         ensures err { let before = stage self.old runner.old (W.contents writer.old) in
-            IfErr result (HasFailed (answering mode) (Keeps mode) before (W.contents writer.new)
+            IfErr result (HasFailed (hub_answerer mode) (Keeps mode) before (W.contents writer.new)
             (R.remaining reader.old) (R.remaining reader.new)) }
     {
         if self.input.fill(reader)? == 0 {

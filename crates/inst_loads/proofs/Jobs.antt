@@ -7,7 +7,7 @@ use Rattle.inst_base.proofs.Lists.{snoc_cases, set_cases}
 use Rattle.inst_row.specs.Seated.{view_of}
 use Rattle.inst_hub.specs.declared.hub.Hub.{Hub}
 use Rattle.inst_hub.specs.declared.teller.Teller.{Teller}
-use Rattle.inst_hub.specs.Calls.{IsOf, AreOf}
+use Rattle.inst_hub.specs.Calls.{IsTellerOf, AreOf}
 use Rattle.inst_hub.specs.Opening.{parts_of}
 use Rattle.inst_loads.specs.declared.hub.job.Job.{Job}
 use Rattle.inst_loads.specs.Jobs.{AreJobsOf, AreStill, HaveAll, IsStill, parts_of_jobs, parts_of_one}
@@ -25,13 +25,13 @@ next_at : {X : Type 0} (before rest after all : List X) (x : X) → before ++ re
 next_at {X} before rest after all x e is =
     ap (λ (l : List X). slice_get l (length before)) (sym (ap (λ (l : List X). before ++ l) (sym is) ∙ e)) ∙ at_seam before x after
 
-pub next_is_of : (h : Hub) (before rest after all : List Teller) (t : Teller) → AreOf h all → before ++ rest ≡ all → rest ≡ t ∷ after → IsOf h t
+pub next_is_of : (h : Hub) (before rest after all : List Teller) (t : Teller) → AreOf h all → before ++ rest ≡ all → rest ≡ t ∷ after → IsTellerOf h t
 next_is_of h before rest after all t are e is = are (length before) t (next_at before rest after all t e is)
 
-pub one_job : (h : Hub) (jobs : List Job) (job : Job) → AreJobsOf h jobs → IsOf h job.teller → AreJobsOf h (jobs ++ job ∷ [])
+pub one_job : (h : Hub) (jobs : List Job) (job : Job) → AreJobsOf h jobs → IsTellerOf h job.teller → AreJobsOf h (jobs ++ job ∷ [])
 one_job h jobs job are one i other at = ⊎_elim
     (λ old. are i other old)
-    (λ last. subst (λ (j : Job). IsOf h j.teller) last.1 one)
+    (λ last. subst (λ (j : Job). IsTellerOf h j.teller) last.1 one)
     (snoc_cases jobs job other i at)
 
 abbrev part : Teller → ℕ
@@ -54,9 +54,9 @@ more_parts jobs more job rest after all e items is =
 pub no_more_parts : (jobs : ℕ) (rest : List Teller) (all : ℕ) → jobs + parts_of rest ≡ all → rest ≡ [] → jobs ≡ all
 no_more_parts jobs rest all e none = let a = ap parts_of none in omega (arith, e, a)
 
-set_job : (h : Hub) (jobs : List Job) (k : ℕ) (job : Job) → AreJobsOf h jobs → k < length jobs → IsOf h job.teller → AreJobsOf h (set jobs k job)
+set_job : (h : Hub) (jobs : List Job) (k : ℕ) (job : Job) → AreJobsOf h jobs → k < length jobs → IsTellerOf h job.teller → AreJobsOf h (set jobs k job)
 set_job h jobs k job are below one i other at = elim (set_cases jobs k i job other below at) [
-  | inl here ↦ subst (λ (j : Job). IsOf h j.teller) (sym here.1) one
+  | inl here ↦ subst (λ (j : Job). IsTellerOf h j.teller) (sym here.1) one
   | inr old ↦ are i other old.1
 ]
 
@@ -76,7 +76,7 @@ one_still h first jobs k d t below are still =
     get_or_same (y ∷ xs) (suc i) x within = get_or_same xs i x (omega arith)
 
 pub one_sees : (first jobs : List Job) (k : ℕ) (d : Job) (t : Teller) → k < length jobs → ((h : Hub) → AreJobsOf h first → AreStill h first jobs)
-    → ((h : Hub) → IsOf h (get_or jobs k d).teller → IsStill h (get_or jobs k d).teller t)
+    → ((h : Hub) → IsTellerOf h (get_or jobs k d).teller → IsStill h (get_or jobs k d).teller t)
     → (h : Hub) → AreJobsOf h first → AreStill h first (set jobs k record { teller = t; thread = (get_or jobs k d).thread })
 one_sees first jobs k d t below so sees h are =
     one_still h first jobs k d t below (so h are) (sees h ((so h are).0 k (get_or jobs k d) (slice_get-get_or jobs k d below)))
@@ -113,11 +113,11 @@ map_parts (job ∷ jobs) =
     let a = sum_by-cons part job.teller (map (λ (j : Job). j.teller) jobs) in
     let b = sum_by-cons part_of_job job jobs in omega (arith, r, a, b)
 
-pub all_of_jobs : (h : Hub) (t : Teller) (jobs : List Job) (tellers : List Teller) → IsOf h t → AreJobsOf h jobs → HaveAll t jobs → tellers ≡ map (λ job. job.teller) jobs ++ t ∷ [] → AreAllOf h tellers
+pub all_of_jobs : (h : Hub) (t : Teller) (jobs : List Job) (tellers : List Teller) → IsTellerOf h t → AreJobsOf h jobs → HaveAll t jobs → tellers ≡ map (λ job. job.teller) jobs ++ t ∷ [] → AreAllOf h tellers
 all_of_jobs h t jobs tellers one are all is = (
   (λ i u at. ⊎_elim
-      (λ old. (let x = map_at jobs u i old in subst (IsOf h) x.2 (are i x.0 x.1)))
-      (λ last. subst (IsOf h) last.1 one)
+      (λ old. (let x = map_at jobs u i old in subst (IsTellerOf h) x.2 (are i x.0 x.1)))
+      (λ last. subst (IsTellerOf h) last.1 one)
       (snoc_cases (map (λ (job : Job). job.teller) jobs) t u i (subst (λ (l : List Teller). slice_get l i ≡ Some u) is at))),
   ap parts_of is ∙ sum_by_push part (map (λ (job : Job). job.teller) jobs) t ∙ ap (λ (n : ℕ). n + parts_of_one t) (map_parts jobs) ∙ all,
 )

@@ -1,4 +1,4 @@
-mod Done
+mod DoneJobs
 pub mod Jobs
-mod Starting
+mod BoardOfNewParticipant
 mod Tellers

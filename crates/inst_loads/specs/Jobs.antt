@@ -1,11 +1,11 @@
--- The jobs of a load: each has a teller of the hub, and keeps the parts of the hub's row that it has, so that the hub can be
--- closed once all is done. This hub's own choice.
+-- The jobs of a load: each has a teller of the hub, and keeps the parts of the hub's row that it
+-- has, so that the hub can be closed once all is done. This hub's own choice.
 use Rattle.std.specs.Prelude.{◌≡◌, ◌+◌, ℕ, List, slice_get, Some, sum_by}
-use Rattle.inst_row.specs.declared.row.TheConstants.{PARTS}
+use Rattle.inst_row.specs.declared.row.TheConstants.{MOST_SEATS}
 use Rattle.inst_row.specs.Seated.{view_of}
 use Rattle.inst_hub.specs.declared.hub.Hub.{Hub}
 use Rattle.inst_hub.specs.declared.teller.Teller.{Teller}
-use Rattle.inst_hub.specs.Calls.{IsOf}
+use Rattle.inst_hub.specs.Calls.{IsTellerOf}
 use Rattle.inst_loads.specs.declared.hub.job.Job.{Job}
 
 -- the parts of the hub's row that a teller has
@@ -18,10 +18,10 @@ parts_of_jobs jobs = sum_by (λ job. (view_of job.teller.seat).parts) jobs
 
 -- the teller is one of the hub's, and has the parts that it had
 abbrev pub IsStill : Hub → Teller → Teller → Type 0
-IsStill h t u = IsOf h u × (parts_of_one u ≡ parts_of_one t)
+IsStill h t u = IsTellerOf h u × (parts_of_one u ≡ parts_of_one t)
 
 abbrev pub AreJobsOf : Hub → List Job → Type 0
-AreJobsOf h jobs = (i : ℕ) (job : Job) → slice_get jobs i ≡ Some job → IsOf h job.teller
+AreJobsOf h jobs = (i : ℕ) (job : Job) → slice_get jobs i ≡ Some job → IsTellerOf h job.teller
 
 -- the tellers of the jobs are the hub's, and have together the parts that they had
 abbrev pub AreStill : Hub → List Job → List Job → Type 0
@@ -29,4 +29,4 @@ AreStill h before after = AreJobsOf h after × (parts_of_jobs after ≡ parts_of
 
 -- the teller and those of the jobs have all parts
 abbrev pub HaveAll : Teller → List Job → Type 0
-HaveAll t jobs = parts_of_jobs jobs + parts_of_one t ≡ PARTS
+HaveAll t jobs = parts_of_jobs jobs + parts_of_one t ≡ MOST_SEATS

@@ -1,4 +1,5 @@
--- The tellers of a hub that is to close: they are its, and have all parts of its row. This hub's own choice.
+-- The tellers of a hub that is to close: they are its, and have all parts of its row. This hub's
+-- own choice.
 use Rattle.std.specs.Prelude.{List}
 use Rattle.inst_hub.specs.declared.hub.Hub.{Hub}
 use Rattle.inst_hub.specs.declared.teller.Teller.{Teller}

@@ -16,7 +16,8 @@ pub(crate) enum Flaw {
     /// A reply tells of a transfer that was taken, and there is no ticket.
     #[error("NoTicket: a reply tells of a transfer and there is no ticket")]
     NoTicket,
-    /// Tickets of one place go with different identifiers, or a repeat was taken with other contents.
+    /// Tickets of one place go with different identifiers, or a repeat was taken with other
+    /// contents.
     #[error("OtherTransfer: one place has two identifiers or two contents")]
     OtherTransfer,
     /// A reply tells less of a transfer than its teller had seen, or another outcome.
@@ -101,7 +102,8 @@ impl<T: Drop> From<AllocFailed<T>> for Flaw {
     }
 }
 
-/// A flaw, with the round, from 0, and the thread whose teller met it: `None` for the teller that is in no thread.
+/// A flaw, with the round, from 0, and the thread whose teller met it: `None` for the teller that
+/// is in no thread.
 #[derive(Clone, Copy)]
 pub(crate) struct Failure {
     pub(crate) flaw: Flaw,

@@ -1,9 +1,10 @@
-//! All memory but a little, so that a call that wants more is refused. It holds of addresses what there is of them and
-//! next to no memory, so a program that does so is to run in a thread that has its stack before.
+//! All memory but a little, so that a call that wants more is refused. It holds of addresses what
+//! there is of them and next to no memory, so a program that does so is to run in a thread that has
+//! its stack before.
 use std::alloc::{AllocError, Global};
 
-/// How large the pieces of the room are, in bytes: so small that an allocator takes none from the system by itself and
-/// gives it back there, and so all of them lie side by side.
+/// How large the pieces of the room are, in bytes: so small that an allocator takes none from the
+/// system by itself and gives it back there, and so all of them lie side by side.
 const PIECE: usize = 1 << 16;
 
 /// How many pieces the room has.
@@ -12,8 +13,8 @@ const PIECES: usize = 64;
 /// The largest block that is tried, in bytes.
 const LARGEST: usize = 1 << 40;
 
-/// Below it every size that a request may be rounded to is tried, since an allocator may keep what was given back for
-/// the next request of the same size.
+/// Below it every size that a request may be rounded to is tried, since an allocator may keep what
+/// was given back for the next request of the same size.
 const SMALL: usize = 1_024;
 
 /// How many blocks a hoard keeps at most.
@@ -83,7 +84,8 @@ pub(crate) struct Hoard {
 }
 
 impl Hoard {
-    /// Takes all but the room; `None` where it can't be had whole, and then it took nothing. Some thousand requests.
+    /// Takes all but the room; `None` where it can't be had whole, and then it took nothing. Some
+    /// thousand requests.
     pub(crate) fn new(alloc: Global) -> Option<Hoard> {
         let mut far = Blocks::new(alloc, MOST_BLOCKS).ok()?;
         let near = Blocks::new(alloc, 8_192).ok()?;
@@ -96,8 +98,8 @@ impl Hoard {
         Some(Hoard { alloc, far, near })
     }
 
-    /// Takes the room but for so many bytes, in one piece: whether it did. It holds what it took till it gives the room
-    /// back.
+    /// Takes the room but for so many bytes, in one piece: whether it did. It holds what it took
+    /// till it gives the room back.
     pub(crate) fn leave(&mut self, bytes: usize) -> bool {
         let little: Vec<u8> = match Vec::with_capacity(self.alloc, CUT.saturating_add(bytes)) {
             Ok(little) => little,

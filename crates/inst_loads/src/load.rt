@@ -1,6 +1,6 @@
-//! A load of a hub by several threads, each with a teller of its own: transfers are submitted and confirmed, so many
-//! rounds, each at a hub of 64 participants that opens anew. All must be settled, and the positions still sum to the
-//! funding.
+//! A load of a hub by several threads, each with a teller of its own: transfers are submitted and
+//! confirmed, so many rounds, each at a hub of 64 participants that opens anew. All must be
+//! settled, and the positions still sum to the funding.
 pub(crate) mod rounds;
 
 use crate::words::MOST_WORDS;
@@ -76,8 +76,8 @@ fn split_open(words: &[String]) -> (&[String], bool) {
 }
 
 impl Load {
-    /// The load that these words choose, and the number of rounds. Without a word for it each thread makes as many
-    /// transfers as find places.
+    /// The load that these words choose, and the number of rounds. Without a word for it each
+    /// thread makes as many transfers as find places.
     pub(crate) fn of(words: &[String]) -> Option<(Load, u32)> {
         let (words, is_left_open) = split_open(words);
         if words.len() > MOST_WORDS {

@@ -1,6 +1,7 @@
-//! Loads and stresses of a hub of many threads, races of slots over shared boards, and worked rows in want of memory,
-//! as the words of the command line ask for (`--help` prints them). How it ended it tells on standard error, and ends
-//! with status 0; with 1 where something isn't as it must be, and with 2 where the words are others.
+//! Loads and stresses of a hub of many threads, races of slots over shared boards, and worked rows
+//! in want of memory, as the words of the command line ask for (`--help` prints them). How it ended
+//! it tells on standard error, and ends with status 0; with 1 where something isn't as it must be,
+//! and with 2 where the words are others.
 #![tactic(auto)]
 
 mod flaw;
@@ -108,7 +109,8 @@ fn tell_rows(rt: &HostRuntime, failed: Option<&str>) -> ExitCode {
     }
 }
 
-/// Tells how many calls were answered and how often one was refused memory, and what failed, if anything did.
+/// Tells how many calls were answered and how often one was refused memory, and what failed, if
+/// anything did.
 fn tell_scarce(rt: &HostRuntime, ended: &(Option<Flaw>, Tries)) -> ExitCode {
     let (flaw, tries) = ended;
     let _ = writeln!(

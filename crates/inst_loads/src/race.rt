@@ -10,8 +10,7 @@ use crate::race::explaining::are_explained;
 use crate::race::opening::open;
 use crate::race::participant::Participant;
 use inst_base::{Cents, Fault, Ident, Moment};
-use inst_board::Place;
-use inst_command::{Command, Outcome, Submission};
+use inst_command::{Command, Funding, Outcome, Place, Submission};
 use std::alloc::Global;
 use std::thread::{Threads, join_mut};
 
@@ -46,7 +45,8 @@ pub(crate) struct Finish {
 }
 
 impl Finish {
-    /// How the race of the first two of these participants ended, with so many expiries that booked an outcome.
+    /// How the race of the first two of these participants ended, with so many expiries that booked
+    /// an outcome.
     fn of(alloc: Global, hub: &[Participant], expired: u16) -> Result<Finish, Fault> {
         let [first, second, ..] = hub else {
             return Err(Fault::BadSettings);
@@ -61,8 +61,9 @@ impl Finish {
         })
     }
 
-    /// Whether it is a finish that a race may have: each expiry booked an outcome, both books have the same one of each
-    /// transfer, no cent came or went, and a run in one thread leaves the books.
+    /// Whether it is a finish that a race may have: each expiry booked an outcome, both books have
+    /// the same one of each transfer, no cent came or went, and a run in one thread leaves the
+    /// books.
     pub(crate) fn is_whole(&self) -> bool {
         self.expired == TRANSFERS
             && self.accepted.checked_add(self.timed_out) == Some(TRANSFERS)
@@ -84,10 +85,10 @@ fn submit_all(
     second: &mut Participant,
 ) -> Result<(), Fault> {
     let at = Moment::new(0, STAMP)?;
-    let fund = Command::Fund {
+    let fund = Command::Fund(Funding {
         reference: Ident::new("F1")?,
         cents: Cents::new(FUNDS)?,
-    };
+    });
     first.does(fund, at)?;
     for index in 0..TRANSFERS {
         let submission = Submission {
@@ -165,8 +166,9 @@ fn run<R: Threads + Sync>(
     expired
 }
 
-/// The beneficiary confirms all transfers at the last moment in time, while the originator lets them expire
-/// at the deadline. An acceptance must come before the deadline by more than `margin` milliseconds.
+/// The beneficiary confirms all transfers at the last moment in time, while the originator lets
+/// them expire at the deadline. An acceptance must come before the deadline by more than `margin`
+/// milliseconds.
 pub(crate) fn race<R: Threads + Sync>(rt: &R, alloc: Global, margin: u32) -> Result<Finish, Fault> {
     let mut hub = open(alloc, 256, margin)?;
     let [first, second, ..] = hub.as_mut_slice() else {

@@ -1,6 +1,6 @@
-//! Rows of calls in want of memory: all memory but a little is taken before a call and given back after it, and the
-//! little grows until the call is refused none. Each answer must be the row's or `Memory`, and what was answered
-//! `Memory` must have left all as it was.
+//! Rows of calls in want of memory: all memory but a little is taken before a call and given back
+//! after it, and the little grows until the call is refused none. Each answer must be the row's or
+//! `Memory`, and what was answered `Memory` must have left all as it was.
 mod asking;
 mod closing;
 mod hub_row;
@@ -37,8 +37,8 @@ fn ended<R: Wait>(rt: &R, alloc: Global) -> (Option<Flaw>, Tries) {
     (want.tries.flaw.or(ended.err()), want.tries)
 }
 
-/// All rows, in a thread of their own: its stack has all its addresses before the hoard takes the rest, where that of
-/// the first thread could not grow any more.
+/// All rows, in a thread of their own: its stack has all its addresses before the hoard takes the
+/// rest, where that of the first thread could not grow any more.
 pub(crate) fn run_apart<R: Threads + Wait + Sync>(rt: &R, alloc: Global) -> (Option<Flaw>, Tries) {
     let (answer, ()) = join(rt, || ended(rt, alloc), || ());
     answer

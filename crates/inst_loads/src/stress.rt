@@ -1,8 +1,9 @@
-//! A stress of a small hub: threads race for the outcomes of a few transfers between 4 participants, and after each
-//! round all that they were told is compared with the books. In a round of want each thread makes some calls in want of
-//! memory, while the others race, and goes on where one is refused.
+//! A stress of a small hub: threads race for the outcomes of a few transfers between 4
+//! participants, and after each round all that they were told is compared with the books. In a
+//! round of want each thread makes some calls in want of memory, while the others race, and goes on
+//! where one is refused.
 ghost use Rattle.std.specs.Prelude.{IfOk};
-ghost use Rattle.inst_hub.specs.Calls.{IsOf};
+ghost use Rattle.inst_hub.specs.Calls.{IsTellerOf};
 ghost use Rattle.inst_loads.specs.Jobs.{AreJobsOf, AreStill, IsStill};
 
 mod accounts;
@@ -47,7 +48,7 @@ fn settle_all<R: Wait>(
     round: StressRound,
     sights: &mut Sights,
 ) -> Result<(), Flaw>
-    requires { IsOf hub.now teller.old }
+    requires { IsTellerOf hub.now teller.old }
     ensures { IsStill hub.now teller.old teller.new }
 {
     bring_all(rt, hub, teller, round)?;
@@ -66,10 +67,11 @@ fn end<R: Wait>(
     jobs: &mut [Job],
     sights: &mut Sights,
 ) -> Result<(), Failure>
-    requires { IsOf hub.now teller.old × AreJobsOf hub.now jobs.old }
+    requires { IsTellerOf hub.now teller.old × AreJobsOf hub.now jobs.old }
     ensures { IsStill hub.now teller.old teller.new × AreStill hub.now jobs.old jobs.new }
 {
-    // The teller first learns what each of the others knows, and only then can it tell each of them all of it.
+    // The teller first learns what each of the others knows, and only then can it tell each of them
+    // all of it.
     meet_all(hub, teller, jobs);
     meet_all(hub, teller, jobs);
     peek_all(teller, sights)?;
@@ -80,7 +82,7 @@ fn end<R: Wait>(
 
 /// How the transfers ended, where all that was told agrees with the books.
 fn check<R: Wait>(rt: &R, hub: &Hub, teller: &mut Teller, sights: &Sights) -> Result<Tally, Failure>
-    requires { IsOf hub.now teller.old }
+    requires { IsTellerOf hub.now teller.old }
     ensures { IsStill hub.now teller.old teller.new }
 {
     let tally = Tally::of(sights)?;
@@ -97,8 +99,9 @@ fn race<R: Threads + Wait + Sync>(
     jobs: Vec<Job>,
     round: StressRound,
 ) -> Result<(Tally, Vec<Job>), Failure>
-    requires { IsOf hub.now teller.old × AreJobsOf hub.now jobs.items }
-    ensures { IfOk result (λ r. IsStill hub.now teller.old teller.new × AreStill hub.now jobs.items r.1.items) }
+    requires { IsTellerOf hub.now teller.old × AreJobsOf hub.now jobs.items }
+    ensures { IfOk result (λ r. IsStill hub.now teller.old teller.new
+        × AreStill hub.now jobs.items r.1.items) }
 {
     fund_all(rt, hub, teller, PARTICIPANTS, FUNDS)?;
     let (mut jobs, mut sights) = run(rt, alloc, hub, round, jobs)?;
@@ -166,7 +169,8 @@ fn play<R: Threads + Wait + Sync>(rt: &R, alloc: Global, stress: Stress) -> Resu
     Ok(tally)
 }
 
-/// Plays the rounds apart from the first thread, since its stack can't grow where threads have taken all memory.
+/// Plays the rounds apart from the first thread, since its stack can't grow where threads have
+/// taken all memory.
 pub(crate) fn play_apart<R: Threads + Wait + Sync>(
     rt: &R,
     alloc: Global,

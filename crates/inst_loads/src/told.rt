@@ -4,7 +4,7 @@ use inst_command::{Answer, Outcome, Reply, State};
 
 /// All that the answer says.
 #[derive(Clone, Copy)]
-pub(crate) enum Told {
+pub(crate) enum RaceReply {
     Done(&'static str),
     /// With the deadline in milliseconds.
     Taken(&'static str, u64),
@@ -15,12 +15,12 @@ pub(crate) enum Told {
     New(bool),
 }
 
-fn is_state(told: Told, from: u8, id: &Ident, state: State) -> bool {
+fn is_state(told: RaceReply, from: u8, id: &Ident, state: State) -> bool {
     match told {
-        Told::Accepted(owner, wanted) => {
+        RaceReply::Accepted(owner, wanted) => {
             from == owner && id.text() == wanted && state == State::Decided(Outcome::Accepted)
         }
-        Told::TimedOut(owner, wanted) => {
+        RaceReply::TimedOut(owner, wanted) => {
             from == owner && id.text() == wanted && state == State::Decided(Outcome::TimedOut)
         }
         _ => false,
@@ -28,14 +28,14 @@ fn is_state(told: Told, from: u8, id: &Ident, state: State) -> bool {
 }
 
 /// Whether the reply is what is told.
-pub(crate) fn is_reply(reply: &Reply, told: Told) -> bool {
+pub(crate) fn is_reply(reply: &Reply, told: RaceReply) -> bool {
     match reply {
         Reply::Done { reference } => match told {
-            Told::Done(wanted) => reference.text() == wanted,
+            RaceReply::Done(wanted) => reference.text() == wanted,
             _ => false,
         },
         Reply::Taken { id, deadline } => match told {
-            Told::Taken(wanted, end) => id.text() == wanted && deadline.past_base() == end,
+            RaceReply::Taken(wanted, end) => id.text() == wanted && deadline.past_base() == end,
             _ => false,
         },
         Reply::State { from, id, state } => is_state(told, *from, id, *state),
@@ -44,7 +44,7 @@ pub(crate) fn is_reply(reply: &Reply, told: Told) -> bool {
             reserved,
             available,
         } => match told {
-            Told::Position(all, held, free) => {
+            RaceReply::Position(all, held, free) => {
                 *position == all && *reserved == held && *available == free
             }
             _ => false,
@@ -54,11 +54,11 @@ pub(crate) fn is_reply(reply: &Reply, told: Told) -> bool {
 }
 
 /// Whether the answer is what is told.
-pub(crate) fn tells(answer: &Answer, told: Told) -> bool {
+pub(crate) fn tells(answer: &Answer, told: RaceReply) -> bool {
     match answer {
         Answer::Reply(reply) => is_reply(reply, told),
         Answer::New(is_new) => match told {
-            Told::New(wanted) => *is_new == wanted,
+            RaceReply::New(wanted) => *is_new == wanted,
             _ => false,
         },
     }

@@ -6,9 +6,9 @@ use Rattle.std.proofs.lemmas.Bool.{cases_eq, cases_lt}
 use Rattle.std.proofs.lemmas.Bool.Decides.{nat_tests}
 use Rattle.std.proofs.Math.Seq.{get_or-append_seam, take-append-add}
 use Rattle.sqlite_disk.specs.Disk.{Holds}
-use Rattle.inst_log.specs.Layout.{recovered, blocks, IsBatch, IsWhole, IsClosed, IsShut, IsFirstLine}
+use Rattle.inst_log.specs.Layout.{recovered_lines, blocks, IsBatch, AreWholeLines, HasClosedByte, IsShut, IsFirstLine}
 use Rattle.inst_log.specs.inner.Layout.{IsUnclosed}
-use Rattle.inst_log.specs.Opening.{kept, Begins, IsNew, Opens, IsSameOrBegun}
+use Rattle.inst_log.specs.Opening.{kept, Begins, IsNewFile, Opens, IsSameOrBegun}
 use Rattle.inst_log.specs.Pieces.{cannot_begin, is_shut, stops, has_more, HasCut, IsReading, IsExtent, IsFrontFor, Starts}
 use Rattle.inst_log.specs.declared.line_cutter.LineCutter.{LineCutter}
 use Rattle.inst_log.specs.declared.file_lines.FileLines.{FileLines}
@@ -16,27 +16,27 @@ use Rattle.inst_log.specs.declared.extent.Extent.{Extent}
 use Rattle.inst_log.specs.declared.start.Start.{Start}
 use Rattle.inst_log.specs.declared.start.Start.TheVariants as start
 use Rattle.inst_log.proofs.Lines.{AllLines, all_lines, AllLines-append, parts, recovered_blocks, blocks-append, closed}
-use Rattle.inst_log.proofs.Mending.{front_of_file, closed_there, unclosed_there}
-use Rattle.inst_log.proofs.Beginning.{begins_yes, begins_split, batch_length, front_of_settings, new_lines}
-use Rattle.inst_log.proofs.Crash.{long_batch}
+use Rattle.inst_log.proofs.CrashDuringRepair.{front_of_file, closed_there, unclosed_there}
+use Rattle.inst_log.proofs.FilesOpenWithSettings.{begins_yes, begins_split, batch_length, front_of_settings, new_lines}
+use Rattle.inst_log.proofs.CrashDuringAppend.{long_batch}
 
 -- lines, of which each is a list
 abbrev Lines : Type 0
 Lines = List (List ℕ)
 
 -- lines that come back are lines
-pub lines_are : (lines : Lines) → recovered (blocks lines) ≡ lines → AllLines lines
+pub lines_are : (lines : Lines) → recovered_lines (blocks lines) ≡ lines → AllLines lines
 lines_are lines are = subst AllLines are (all_lines (blocks lines))
 
-pub lines_back : (lines : Lines) → AllLines lines → recovered (blocks lines) ≡ lines
-lines_back lines all = ap recovered (sym (append-nil (blocks lines))) ∙ recovered_blocks lines [] all ∙ append-nil lines
+pub lines_back : (lines : Lines) → AllLines lines → recovered_lines (blocks lines) ≡ lines
+lines_back lines all = ap recovered_lines (sym (append-nil (blocks lines))) ∙ recovered_blocks lines [] all ∙ append-nil lines
 
 -- ---- the lines that end in a piece
 
-pub front_lines : (held lines : List ℕ) (n : ℕ) → n ≡ length (blocks (recovered held)) → lines ≡ take n held → recovered lines ≡ recovered held
-front_lines held lines n size is = ap recovered (is ∙ front_of_file held n size) ∙ lines_back (recovered held) (all_lines held)
+pub front_lines : (held lines : List ℕ) (n : ℕ) → n ≡ length (blocks (recovered_lines held)) → lines ≡ take n held → recovered_lines lines ≡ recovered_lines held
+front_lines held lines n size is = ap recovered_lines (is ∙ front_of_file held n size) ∙ lines_back (recovered_lines held) (all_lines held)
 
-pub front_whole : (held lines : List ℕ) (n : ℕ) → n ≡ length (blocks (recovered held)) → lines ≡ take n held → IsWhole lines
+pub front_whole : (held lines : List ℕ) (n : ℕ) → n ≡ length (blocks (recovered_lines held)) → lines ≡ take n held → AreWholeLines lines
 front_whole held lines n size is = is ∙ front_of_file held n size ∙ ap blocks (sym (front_lines held lines n size is))
 
 module _ (file : List ℕ) (cutter : LineCutter) (done : Lines) (h : HasCut file cutter done) where
@@ -52,8 +52,8 @@ module _ (file : List ℕ) (cutter : LineCutter) (done : Lines) (h : HasCut file
         dropped cutter.at file,
       )
 
-  pub file_lines : recovered file ≡ done ++ recovered (cutter.held.items ++ drop cutter.at file)
-  file_lines = ap recovered h.split ∙ recovered_blocks done (cutter.held.items ++ drop cutter.at file) (lines_are done h.are)
+  pub file_lines : recovered_lines file ≡ done ++ recovered_lines (cutter.held.items ++ drop cutter.at file)
+  file_lines = ap recovered_lines h.split ∙ recovered_blocks done (cutter.held.items ++ drop cutter.at file) (lines_are done h.are)
 
   module _ (piece : List ℕ) (next : piece ≡ take (length piece) (drop cutter.at file)) where
     abbrev held : List ℕ
@@ -67,37 +67,37 @@ module _ (file : List ℕ) (cutter : LineCutter) (done : Lines) (h : HasCut file
         ap (λ (l : List ℕ). cutter.held.items ++ l) (sym (take-append-drop (length piece) (drop cutter.at file)) ∙ ap (λ (l : List ℕ). l ++ behind) (sym next))
         ∙ sym (append_assoc cutter.held.items piece behind)
 
-    pub cut_more : (new : LineCutter) (n : ℕ) (lines : List ℕ) → n ≡ length (blocks (recovered held)) → new.held.items ≡ drop n held → new.at ≡ cutter.at + length piece
-        → cutter.at + length piece ≤ length file → recovered lines ≡ recovered held → HasCut file new (done ++ recovered lines)
+    pub cut_more : (new : LineCutter) (n : ℕ) (lines : List ℕ) → n ≡ length (blocks (recovered_lines held)) → new.held.items ≡ drop n held → new.at ≡ cutter.at + length piece
+        → cutter.at + length piece ≤ length file → recovered_lines lines ≡ recovered_lines held → HasCut file new (done ++ recovered_lines lines)
     cut_more new n lines size rest at within same =
-        let all = AllLines-append done (recovered held) (lines_are done h.are) (all_lines held) in
-        let left : new.held.items ≡ (parts held).end = rest ∙ ap (drop n) (parts held).split ∙ drop_at (blocks (recovered held)) (parts held).end n (sym size) in
+        let all = AllLines-append done (recovered_lines held) (lines_are done h.are) (all_lines held) in
+        let left : new.held.items ≡ (parts held).end = rest ∙ ap (drop n) (parts held).split ∙ drop_at (blocks (recovered_lines held)) (parts held).end n (sym size) in
         let later : drop new.at file ≡ behind = ap (λ (k : ℕ). drop k file) at ∙ sym (drop-drop (length piece) cutter.at file) in
-        let cut : HasCut file new (done ++ recovered held) = record {
-          are = lines_back (done ++ recovered held) all;
+        let cut : HasCut file new (done ++ recovered_lines held) = record {
+          are = lines_back (done ++ recovered_lines held) all;
           split =
               h.split ∙ ap (λ (l : List ℕ). blocks done ++ l) joined
               ∙ ap (λ (l : List ℕ). blocks done ++ (l ++ behind)) (parts held).split
-              ∙ ap (λ (l : List ℕ). blocks done ++ l) (append_assoc (blocks (recovered held)) (parts held).end behind)
-              ∙ sym (append_assoc (blocks done) (blocks (recovered held)) ((parts held).end ++ behind))
-              ∙ ap (λ (l : List ℕ). l ++ ((parts held).end ++ behind)) (sym (blocks-append done (recovered held)))
-              ∙ (λ i. blocks (done ++ recovered held) ++ (sym left i ++ sym later i));
+              ∙ ap (λ (l : List ℕ). blocks done ++ l) (append_assoc (blocks (recovered_lines held)) (parts held).end behind)
+              ∙ sym (append_assoc (blocks done) (blocks (recovered_lines held)) ((parts held).end ++ behind))
+              ∙ ap (λ (l : List ℕ). l ++ ((parts held).end ++ behind)) (sym (blocks-append done (recovered_lines held)))
+              ∙ (λ i. blocks (done ++ recovered_lines held) ++ (sym left i ++ sym later i));
           within = subst (λ (k : ℕ). k ≤ length file) (sym at) within;
-          held = ap recovered left ∙ (parts held).nothing;
+          held = ap recovered_lines left ∙ (parts held).nothing;
         } in
         subst (λ (ls : Lines). HasCut file new (done ++ ls)) (sym same) cut
 
   -- ---- the end of the file
 
-  nothing_left : (held rest : List ℕ) → recovered held ≡ [] → (rest ≡ []) ⊎ (cannot_begin held ≡ true) → recovered (held ++ rest) ≡ []
-  nothing_left held rest none (inl all) = ap (λ (l : List ℕ). recovered (held ++ l)) all ∙ ap recovered (append-nil held) ∙ none
+  nothing_left : (held rest : List ℕ) → recovered_lines held ≡ [] → (rest ≡ []) ⊎ (cannot_begin held ≡ true) → recovered_lines (held ++ rest) ≡ []
+  nothing_left held rest none (inl all) = ap (λ (l : List ℕ). recovered_lines (held ++ l)) all ∙ ap recovered_lines (append-nil held) ∙ none
   nothing_left [] rest none (inr stop) = absurd (cc stop)
   nothing_left (b ∷ held) rest none (inr stop) = elim (cases_eq b 123) [
     | inl gate ↦ absurd (grind (arith, nat_tests, gate, stop))
     | inr shut ↦ closed b (held ++ rest) shut
   ]
 
-  pub all_cut : (drop cutter.at file ≡ []) ⊎ (cannot_begin cutter.held.items ≡ true) → recovered file ≡ done
+  pub all_cut : (drop cutter.at file ≡ []) ⊎ (cannot_begin cutter.held.items ≡ true) → recovered_lines file ≡ done
   all_cut through =
       file_lines ∙ ap (λ (ls : Lines). done ++ ls) (nothing_left cutter.held.items (drop cutter.at file) h.held through) ∙ append-nil done
 
@@ -118,7 +118,7 @@ module _ (file : List ℕ) (cutter : LineCutter) (done : Lines) (h : HasCut file
     | inr shut ↦ absurd (grind (arith, nat_tests, shut, stop))
   ]
 
-  module _ (end : ℕ) (ends : end ≡ length (blocks (recovered file))) (all : recovered file ≡ done) where
+  module _ (end : ℕ) (ends : end ≡ length (blocks (recovered_lines file))) (all : recovered_lines file ≡ done) where
     here : end ≡ length (blocks done)
     here = ends ∙ ap (λ (ls : Lines). length (blocks ls)) all
 
@@ -162,13 +162,13 @@ one_more lines k line more next =
       sym (ap (drop (k + 1)) split ∙ drop_at (take k lines ++ line ∷ []) more (k + 1) (sym size)),
     )
 
-pub next_line : (bytes rest : List ℕ) (k n : ℕ) → recovered rest ≡ drop k (recovered bytes)
-    → length (blocks (take k (recovered bytes))) + length rest ≡ length bytes → IsFirstLine rest n
-    → (k + 1 ≤ length (recovered bytes)) × (recovered (drop n rest) ≡ drop (k + 1) (recovered bytes))
-    × (length (blocks (take (k + 1) (recovered bytes))) + length (drop n rest) ≡ length bytes)
+pub next_line : (bytes rest : List ℕ) (k n : ℕ) → recovered_lines rest ≡ drop k (recovered_lines bytes)
+    → length (blocks (take k (recovered_lines bytes))) + length rest ≡ length bytes → IsFirstLine rest n
+    → (k + 1 ≤ length (recovered_lines bytes)) × (recovered_lines (drop n rest) ≡ drop (k + 1) (recovered_lines bytes))
+    × (length (blocks (take (k + 1) (recovered_lines bytes))) + length (drop n rest) ≡ length bytes)
 next_line bytes rest k n left size first =
     let line = take (n - 1) rest in
-    let one = one_more (recovered bytes) k line (recovered (drop n rest)) (sym left ∙ first.lines) in (
+    let one = one_more (recovered_lines bytes) k line (recovered_lines (drop n rest)) (sym left ∙ first.lines) in (
       one.0,
       one.2,
       omega (
@@ -179,42 +179,42 @@ next_line bytes rest k n left size first =
         dropped n rest,
         taken (n - 1) rest,
         ap (λ (ls : Lines). length (blocks ls)) one.1,
-        ap length (blocks-append (take k (recovered bytes)) (line ∷ [])),
-        length-append (blocks (take k (recovered bytes))) (blocks (line ∷ [])),
+        ap length (blocks-append (take k (recovered_lines bytes)) (line ∷ [])),
+        length-append (blocks (take k (recovered_lines bytes))) (blocks (line ∷ [])),
         length-append line (10 ∷ []),
       ),
     )
 
-pub no_more_lines : (bytes rest : List ℕ) (k count : ℕ) → k ≤ count → recovered rest ≡ drop k (recovered bytes) → recovered rest ≡ []
-    → take count (recovered bytes) ≡ take k (recovered bytes)
+pub no_more_lines : (bytes rest : List ℕ) (k count : ℕ) → k ≤ count → recovered_lines rest ≡ drop k (recovered_lines bytes) → recovered_lines rest ≡ []
+    → take count (recovered_lines bytes) ≡ take k (recovered_lines bytes)
 no_more_lines bytes rest k count within left none =
-    let short : length (recovered bytes) ≤ k = omega (arith, ap length (sym left ∙ none), dropped k (recovered bytes)) in
-    take_all count (recovered bytes) (omega (arith, short, within)) ∙ sym (take_all k (recovered bytes) short)
+    let short : length (recovered_lines bytes) ≤ k = omega (arith, ap length (sym left ∙ none), dropped k (recovered_lines bytes)) in
+    take_all count (recovered_lines bytes) (omega (arith, short, within)) ∙ sym (take_all k (recovered_lines bytes) short)
 
 -- the lines of a file begin with those that were read
-pub enough_lines : (file : List ℕ) (cutter : LineCutter) (done : Lines) (count : ℕ) → HasCut file cutter done → count ≤ length done → take count (recovered file) ≡ take count done
+pub enough_lines : (file : List ℕ) (cutter : LineCutter) (done : Lines) (count : ℕ) → HasCut file cutter done → count ≤ length done → take count (recovered_lines file) ≡ take count done
 enough_lines file cutter done count h enough =
-    ap (take count) (file_lines file cutter done h) ∙ take-append-le count done (recovered (cutter.held.items ++ drop cutter.at file)) enough
+    ap (take count) (file_lines file cutter done h) ∙ take-append-le count done (recovered_lines (cutter.held.items ++ drop cutter.at file)) enough
 
 pub blocks_long : (lines : Lines) → length lines ≤ length (blocks lines)
 blocks_long [] = omega arith
 blocks_long (line ∷ lines) = omega (arith, blocks_long lines, length-append line (10 ∷ blocks lines))
 
-pub lines_short : (bytes : List ℕ) → length (recovered bytes) ≤ length bytes
-lines_short bytes = omega (arith, blocks_long (recovered bytes), ap length (parts bytes).split, length-append (blocks (recovered bytes)) (parts bytes).end)
+pub lines_short : (bytes : List ℕ) → length (recovered_lines bytes) ≤ length bytes
+lines_short bytes = omega (arith, blocks_long (recovered_lines bytes), ap length (parts bytes).split, length-append (blocks (recovered_lines bytes)) (parts bytes).end)
 
 -- whole lines, and then others
-pub lines_more : (a b : List ℕ) → IsWhole a → recovered (a ++ b) ≡ recovered a ++ recovered b
-lines_more a b whole = ap (λ (l : List ℕ). recovered (l ++ b)) whole ∙ recovered_blocks (recovered a) b (all_lines a)
+pub lines_more : (a b : List ℕ) → AreWholeLines a → recovered_lines (a ++ b) ≡ recovered_lines a ++ recovered_lines b
+lines_more a b whole = ap (λ (l : List ℕ). recovered_lines (l ++ b)) whole ∙ recovered_blocks (recovered_lines a) b (all_lines a)
 
-pub whole_more : (a b : List ℕ) → IsWhole a → IsWhole b → IsWhole (a ++ b)
+pub whole_more : (a b : List ℕ) → AreWholeLines a → AreWholeLines b → AreWholeLines (a ++ b)
 whole_more a b one other =
-    (λ i. one i ++ other i) ∙ sym (blocks-append (recovered a) (recovered b)) ∙ ap blocks (sym (lines_more a b one))
+    (λ i. one i ++ other i) ∙ sym (blocks-append (recovered_lines a) (recovered_lines b)) ∙ ap blocks (sym (lines_more a b one))
 
 -- the first of whole lines
-pub first_of : (text : List ℕ) (count n : ℕ) → IsWhole text → n ≡ length (blocks (take count (recovered text))) → take n text ≡ blocks (take count (recovered text))
+pub first_of : (text : List ℕ) (count n : ℕ) → AreWholeLines text → n ≡ length (blocks (take count (recovered_lines text))) → take n text ≡ blocks (take count (recovered_lines text))
 first_of text count n whole size =
-    let lines = recovered text in
+    let lines = recovered_lines text in
     let split : text ≡ blocks (take count lines) ++ blocks (drop count lines) =
     whole ∙ ap blocks (sym (take-append-drop count lines)) ∙ blocks-append (take count lines) (drop count lines) in
     ap (take n) split ∙ take_at (blocks (take count lines)) (blocks (drop count lines)) n (sym size)
@@ -231,11 +231,11 @@ through file lines done r no_more = elim (cases_lt lines.cutter.at lines.len) [
 
 pub read_extent : (file : List ℕ) (lines : FileLines) (done : Lines) (extent : Extent) → IsReading file lines done → has_more lines ≡ false
     → extent.len ≡ lines.len → extent.end ≡ lines.cutter.at - length lines.cutter.held.items → extent.is_closed ≡ stops lines.cutter
-    → (recovered file ≡ done) × IsExtent file extent
+    → (recovered_lines file ≡ done) × IsExtent file extent
 read_extent file lines done extent r no_more len end closed =
     let at_end = through file lines done r no_more in
     let all = all_cut file lines.cutter done r.cut at_end in
-    let ends : extent.end ≡ length (blocks (recovered file)) = omega (arith, end, cut_end file lines.cutter done r.cut, ap (λ (ls : Lines). length (blocks ls)) all) in (
+    let ends : extent.end ≡ length (blocks (recovered_lines file)) = omega (arith, end, cut_end file lines.cutter done r.cut, ap (λ (ls : Lines). length (blocks ls)) all) in (
       all,
       record {
         len = len ∙ r.len;
@@ -245,7 +245,7 @@ read_extent file lines done extent r no_more len end closed =
     )
 
 -- the closed byte 0 follows the lines, or it doesn't
-shut_by : (file : List ℕ) (done : Lines) (held rest : List ℕ) → file ≡ blocks done ++ (held ++ rest) → recovered file ≡ done → is_shut held ≡ true → IsShut file
+shut_by : (file : List ℕ) (done : Lines) (held rest : List ℕ) → file ≡ blocks done ++ (held ++ rest) → recovered_lines file ≡ done → is_shut held ≡ true → IsShut file
 shut_by file done [] rest split all first = absurd (cc first)
 shut_by file done (b ∷ held) rest split all first = elim (cases_eq b 0) [
   | inl zero ↦ record {
@@ -255,7 +255,7 @@ shut_by file done (b ∷ held) rest split all first = elim (cases_eq b 0) [
   | inr other ↦ absurd (grind (arith, nat_tests, other, first))
 ]
 
-not_shut_by : (file : List ℕ) (done : Lines) (held rest : List ℕ) → file ≡ blocks done ++ (held ++ rest) → recovered file ≡ done → (rest ≡ []) ⊎ (cannot_begin held ≡ true)
+not_shut_by : (file : List ℕ) (done : Lines) (held rest : List ℕ) → file ≡ blocks done ++ (held ++ rest) → recovered_lines file ≡ done → (rest ≡ []) ⊎ (cannot_begin held ≡ true)
     → is_shut held ≡ false → IsShut file → ⊥
 not_shut_by file done held rest split all at_end first s = behind held at_end first
     (append_cancel_left (blocks done) (held ++ rest) (0 ∷ s.rest) (sym split ∙ s.split ∙ ap (λ (ls : Lines). blocks ls ++ 0 ∷ s.rest) all))
@@ -283,7 +283,7 @@ shut_or_not file lines done b r no_more is = shut_cases file lines done b r no_m
 abbrev Ends : List ℕ → ℕ → Bool → Type 0
 Ends file end b = MatchBool b ((end < length file) × (slice_index file end ≢ 123)) ((length file ≤ end) ⊎ (slice_index file end ≡ 123))
 
-pub closed_at_extent : (file : List ℕ) (extent : Extent) → IsExtent file extent → extent.is_closed ≡ true → IsClosed file extent.end
+pub closed_at_extent : (file : List ℕ) (extent : Extent) → IsExtent file extent → extent.is_closed ≡ true → HasClosedByte file extent.end
 closed_at_extent file extent e is =
     let first : Ends file extent.end true = subst (Ends file extent.end) is e.closed in
     closed_there file extent.end e.end first.0 first.1
@@ -296,7 +296,7 @@ unclosed_at_extent file extent e is =
 -- lines that end by the closed byte 0 are closed
 pub shut_is_closed : (file : List ℕ) (extent : Extent) → IsExtent file extent → extent.is_closed ≡ false → IsShut file → ⊥
 shut_is_closed file extent e is s =
-    let lines = blocks (recovered file) in
+    let lines = blocks (recovered_lines file) in
     let first : Ends file extent.end false = subst (Ends file extent.end) is e.closed in
     let byte : slice_index file extent.end ≡ 0 = (λ i. slice_index (s.split i) (e.end i)) ∙ get_or-append_seam lines 0 s.rest 0 in
     elim first [
@@ -321,7 +321,7 @@ take_min n k file is = elim (cases_lt k (length file)) [
 ]
 
 -- what is left of a new file while it gets its settings
-pub none_or_begun : (settings file c : List ℕ) → recovered file ≡ [] → (recovered c ≡ []) ⊎ (recovered c ≡ recovered settings) → IsSameOrBegun settings file c
+pub none_or_begun : (settings file c : List ℕ) → recovered_lines file ≡ [] → (recovered_lines c ≡ []) ⊎ (recovered_lines c ≡ recovered_lines settings) → IsSameOrBegun settings file c
 none_or_begun settings file c none (inl same) = inl (same ∙ sym none)
 none_or_begun settings file c none (inr begun) = inr (none, begun)
 
@@ -339,27 +339,27 @@ module _ (settings front file : List ℕ) (is : IsBatch settings) (f : IsFrontFo
       first_of n [] = let one : n + 1 ≡ suc n = omega arith in ap (λ (k : ℕ). take 1 (take k [])) one
       first_of n (b ∷ l) = let one : n + 1 ≡ suc n = omega arith in ap (λ (k : ℕ). take 1 (take k (b ∷ l))) one
 
-  not_new : (c : List ℕ) → length settings < length c → IsNew settings c → ⊥
+  not_new : (c : List ℕ) → length settings < length c → IsNewFile settings c → ⊥
   not_new c long (inl short) = omega (arith, long, short, long_batch settings is)
   not_new c long (inr (inl blank)) = omega (arith, long, blank.1)
   not_new c long (inr (inr same)) = omega (arith, long, long_batch settings is, ap length same, dropped 1 c, dropped 1 settings)
 
-  pub front_new : IsNew settings front → IsNew settings file
+  pub front_new : IsNewFile settings front → IsNewFile settings file
   front_new new = elim (cases_lt (length settings) (length file)) [
     | inl long ↦ absurd (not_new front (omega (arith, front_long (omega (arith, long)))) new)
-    | inr short ↦ subst (IsNew settings) (same_short (omega (arith, short))) new
+    | inr short ↦ subst (IsNewFile settings) (same_short (omega (arith, short))) new
   ]
 
-  pub file_new : IsNew settings file → IsNew settings front
+  pub file_new : IsNewFile settings file → IsNewFile settings front
   file_new new = elim (cases_lt (length settings) (length file)) [
     | inl long ↦ absurd (not_new file long new)
-    | inr short ↦ subst (IsNew settings) (sym (same_short (omega (arith, short)))) new
+    | inr short ↦ subst (IsNewFile settings) (sym (same_short (omega (arith, short)))) new
   ]
 
   pub front_begins : Begins settings front → Begins settings file
   front_begins begins =
       let s = begins_split settings front begins in
-      let lines = blocks (recovered settings) in
+      let lines = blocks (recovered_lines settings) in
       let whole : file ≡ lines ++ (s.0 ++ drop (length settings + 1) file) =
       sym (take-append-drop (length settings + 1) file) ∙ ap (λ (l : List ℕ). l ++ drop (length settings + 1) file) (sym f ∙ s.1)
       ∙ append_assoc lines s.0 (drop (length settings + 1) file) in
@@ -368,7 +368,7 @@ module _ (settings front file : List ℕ) (is : IsBatch settings) (f : IsFrontFo
   pub file_begins : Begins settings file → Begins settings front
   file_begins begins =
       let s = begins_split settings file begins in
-      let lines = blocks (recovered settings) in
+      let lines = blocks (recovered_lines settings) in
       let n : length settings + 1 ≡ length lines + 2 = omega (arith, batch_length settings is) in
       let whole : front ≡ lines ++ take 2 s.0 = f ∙ (λ i. take (n i) (s.1 i)) ∙ take-append-add lines s.0 2 in
       begins_yes settings front is (whole ∙ ap (λ (l : List ℕ). lines ++ l) (sym (ap (drop (length lines)) whole ∙ drop_at lines (take 2 s.0) (length lines) refl)))
@@ -378,30 +378,30 @@ starts_opens settings file start.Log begins = inl begins
 starts_opens settings file (start.New is_blank) new = inr new.0
 
 -- a log that is gone on from has its own lines, and a new one the settings
-pub log_text : (settings file text : List ℕ) (end : ℕ) → end ≡ length (blocks (recovered file)) → text ≡ take end file → Begins settings file
-    → text ≡ blocks (recovered settings ++ kept settings file)
+pub log_text : (settings file text : List ℕ) (end : ℕ) → end ≡ length (blocks (recovered_lines file)) → text ≡ take end file → Begins settings file
+    → text ≡ blocks (recovered_lines settings ++ kept settings file)
 log_text settings file text end ends is begins = is ∙ front_of_file file end ends ∙ ap blocks begins
 
-pub new_text : (settings file text : List ℕ) → IsBatch settings → text ≡ take (length settings - 1) settings → IsNew settings file
-    → text ≡ blocks (recovered settings ++ kept settings file)
+pub new_text : (settings file text : List ℕ) → IsBatch settings → text ≡ take (length settings - 1) settings → IsNewFile settings file
+    → text ≡ blocks (recovered_lines settings ++ kept settings file)
 new_text settings file text is cut new = cut ∙ front_of_settings settings is ∙ ap blocks (new_lines settings file is new)
 
-pub text_length : (settings file text : List ℕ) → IsBatch settings → text ≡ blocks (recovered settings ++ kept settings file) → length settings ≤ length text + 1
+pub text_length : (settings file text : List ℕ) → IsBatch settings → text ≡ blocks (recovered_lines settings ++ kept settings file) → length settings ≤ length text + 1
 text_length settings file text is same =
     omega (
       arith,
       batch_length settings is,
-      ap length (same ∙ blocks-append (recovered settings) (kept settings file)),
-      length-append (blocks (recovered settings)) (blocks (kept settings file)),
+      ap length (same ∙ blocks-append (recovered_lines settings) (kept settings file)),
+      length-append (blocks (recovered_lines settings)) (blocks (kept settings file)),
     )
 
 -- ---- what a log has behind its settings
 
-pub header_split : (settings file : List ℕ) → Begins settings file → (rest : List ℕ) × (file ≡ blocks (recovered settings) ++ rest)
+pub header_split : (settings file : List ℕ) → Begins settings file → (rest : List ℕ) × (file ≡ blocks (recovered_lines settings) ++ rest)
 header_split settings file begins = begins_split settings file begins
 
-pub header_lines : (settings : List ℕ) → recovered (blocks (recovered settings)) ≡ recovered settings
-header_lines settings = lines_back (recovered settings) (all_lines settings)
+pub header_lines : (settings : List ℕ) → recovered_lines (blocks (recovered_lines settings)) ≡ recovered_lines settings
+header_lines settings = lines_back (recovered_lines settings) (all_lines settings)
 
-pub header_end : (settings : List ℕ) → IsBatch settings → length settings - 1 ≡ length (blocks (recovered settings))
+pub header_end : (settings : List ℕ) → IsBatch settings → length settings - 1 ≡ length (blocks (recovered_lines settings))
 header_end settings is = omega (arith, batch_length settings is)

@@ -1,41 +1,49 @@
--- With which settings a file opens, and what is left of it. Settings are a batch: the first lines of each log that
--- opens with them.
+-- With which settings a file opens, and what is left of it. Settings are a batch: the first lines
+-- of each log that opens with them.
 use Rattle.std.specs.Prelude.{◌≡◌, ◌⊎◌, ◌≤◌, ◌<◌, ℕ, List, [], ◌∷◌, ◌++◌, length, take, drop}
-use Rattle.inst_log.specs.Layout.{recovered}
+use Rattle.inst_log.specs.Layout.{recovered_lines}
 use Rattle.inst_log.specs.declared.error.LogError.{LogError}
-use Rattle.inst_log.specs.declared.error.LogError.TheVariants.{Disk, Memory, Full, Write, Told, OtherSettings, NoLog}
+use Rattle.inst_log.specs.declared.error.LogError.TheVariants.{Disk, Memory, Full, Write, Told}
+use Rattle.inst_log.specs.declared.error.LogError.TheVariants.{OtherSettings, NoLog}
 
 -- the lines of a log behind its settings
 abbrev pub kept : List ℕ → List ℕ → List (List ℕ)
-kept settings file = drop (length (recovered settings)) (recovered file)
+kept settings file = drop (length (recovered_lines settings)) (recovered_lines file)
 
 -- the file's first lines are the settings
 abbrev pub Begins : List ℕ → List ℕ → Type 0
-Begins settings file = recovered file ≡ recovered settings ++ kept settings file
+Begins settings file = recovered_lines file ≡ recovered_lines settings ++ kept settings file
 
--- Nothing stands in the file but what the making of a log with these settings leaves, whatever moment it crashes at:
--- at most one byte, or the closed byte and no more than has its place there, or all but the first byte.
-abbrev pub IsNew : List ℕ → List ℕ → Type 0
-IsNew settings file = (length file ≤ 1) ⊎ (((take 1 file ≡ 0 ∷ []) × (length file ≤ length settings)) ⊎ (drop 1 file ≡ drop 1 settings))
+-- Nothing stands in the file but what the making of a log with these settings leaves, whatever
+-- moment it crashes at: at most one byte, or the closed byte and no more than has its place there,
+-- or all but the first byte.
+abbrev pub IsNewFile : List ℕ → List ℕ → Type 0
+IsNewFile settings file =
+    (length file ≤ 1)
+    ⊎ (((take 1 file ≡ 0 ∷ []) × (length file ≤ length settings)) ⊎ (drop 1 file ≡ drop 1 settings))
 
 -- a log of these settings, or a new file
 abbrev pub Opens : List ℕ → List ℕ → Type 0
-Opens settings file = Begins settings file ⊎ IsNew settings file
+Opens settings file = Begins settings file ⊎ IsNewFile settings file
 
 -- the same lines, or a file that had none has the settings
 abbrev pub IsSameOrBegun : List ℕ → List ℕ → List ℕ → Type 0
-IsSameOrBegun settings old new = (recovered new ≡ recovered old) ⊎ ((recovered old ≡ []) × (recovered new ≡ recovered settings))
+IsSameOrBegun settings old new =
+    (recovered_lines new ≡ recovered_lines old)
+    ⊎ ((recovered_lines old ≡ []) × (recovered_lines new ≡ recovered_lines settings))
 
 -- the same lines behind the settings, in a file that opens with them if the other does
 pub record OpensAlike (settings old new : List ℕ) : Type 0 where
   pub lines : kept settings new ≡ kept settings old
   pub opens : Opens settings old → Opens settings new
 
--- Why a log was not opened: the disk failed, there was no memory, or the file does not open with these settings, and
--- then it is as it was.
+-- Why a log was not opened: the disk failed, there was no memory, or the file does not open with
+-- these settings, and then it is as it was.
 abbrev pub Unopened : List ℕ → List ℕ → Type 0 → Type 0 → Type 0 → LogError → Type 0
-Unopened settings file clean untouched failed OtherSettings = untouched × (clean → (0 < length (recovered file)) × (Begins settings file → ⊥))
-Unopened settings file clean untouched failed NoLog = untouched × (clean → (recovered file ≡ []) × (IsNew settings file → ⊥))
+Unopened settings file clean untouched failed OtherSettings =
+    untouched × (clean → (0 < length (recovered_lines file)) × (Begins settings file → ⊥))
+Unopened settings file clean untouched failed NoLog =
+    untouched × (clean → (recovered_lines file ≡ []) × (IsNewFile settings file → ⊥))
 Unopened settings file clean untouched failed (Disk error) = failed
 Unopened settings file clean untouched failed Memory = Unit {0}
 Unopened settings file clean untouched failed Full = ⊥
@@ -52,7 +60,7 @@ pub record BeginsBy (first : List ℕ) (behind : ℕ) (lines : List (List ℕ)) 
 abbrev pub Unread : List ℕ → Type 0 → Type 0 → LogError → Type 0
 Unread file clean failed (Disk error) = clean → failed
 Unread file clean failed Memory = Unit {0}
-Unread file clean failed NoLog = clean → recovered file ≡ []
+Unread file clean failed NoLog = clean → recovered_lines file ≡ []
 Unread file clean failed OtherSettings = ⊥
 Unread file clean failed Full = ⊥
 Unread file clean failed Write = ⊥

@@ -1,7 +1,8 @@
 -- A file that is read in pieces, and how far its lines go.
-use Rattle.std.specs.Prelude.{◌≡◌, ◌≢◌, ◌⊎◌, ◌<◌, ◌≤◌, ◌+◌, ◌&&◌, ◌==◌, not, nat_lt, ℕ, Bool, false, List, [], ◌∷◌, ◌++◌, length, take, drop, slice_index, MatchBool}
-use Rattle.inst_log.specs.Layout.{gate, recovered, blocks}
-use Rattle.inst_log.specs.Opening.{Begins, IsNew}
+use Rattle.std.specs.Prelude.{◌≡◌, ◌≢◌, ◌⊎◌, ◌<◌, ◌≤◌, ◌+◌, ◌&&◌, ◌==◌, not, nat_lt, ℕ, Bool, false}
+use Rattle.std.specs.Prelude.{List, [], ◌∷◌, ◌++◌, length, take, drop, slice_index, MatchBool}
+use Rattle.inst_log.specs.Layout.{gate, recovered_lines, blocks}
+use Rattle.inst_log.specs.Opening.{Begins, IsNewFile}
 use Rattle.inst_log.specs.declared.line_cutter.LineCutter.{LineCutter}
 use Rattle.inst_log.specs.declared.file_lines.FileLines.{FileLines}
 use Rattle.inst_log.specs.declared.extent.Extent.{Extent}
@@ -22,12 +23,13 @@ is_shut (b ∷ rest) = b == 0
 abbrev pub stops : LineCutter → Bool
 stops cutter = cannot_begin cutter.held.items
 
--- The file is the lines that were cut, the bytes that are held, in which no line ends, and what didn't come yet.
+-- The file is the lines that were cut, the bytes that are held, in which no line ends, and what
+-- didn't come yet.
 pub record HasCut (file : List ℕ) (cutter : LineCutter) (done : List (List ℕ)) : Type 0 where
-  pub are : recovered (blocks done) ≡ done
+  pub are : recovered_lines (blocks done) ≡ done
   pub split : file ≡ blocks done ++ (cutter.held.items ++ drop cutter.at file)
   pub within : cutter.at ≤ length file
-  pub held : recovered cutter.held.items ≡ []
+  pub held : recovered_lines cutter.held.items ≡ []
 
 -- so far the file was read
 pub record IsReading (file : List ℕ) (lines : FileLines) (done : List (List ℕ)) : Type 0 where
@@ -38,19 +40,23 @@ pub record IsReading (file : List ℕ) (lines : FileLines) (done : List (List �
 abbrev pub has_more : FileLines → Bool
 has_more lines = nat_lt lines.cutter.at lines.len && not (stops lines.cutter)
 
--- So many bytes the file has, and there its lines end. The closed byte is there, or another line may begin.
+-- So many bytes the file has, and there its lines end. The closed byte is there, or another line
+-- may begin.
 pub record IsExtent (file : List ℕ) (extent : Extent) : Type 0 where
   pub len : extent.len ≡ length file
-  pub end : extent.end ≡ length (blocks (recovered file))
-  pub closed : MatchBool extent.is_closed ((extent.end < length file) × (slice_index file extent.end ≢ gate))
+  pub end : extent.end ≡ length (blocks (recovered_lines file))
+  pub closed : MatchBool extent.is_closed ((extent.end < length file)
+      × (slice_index file extent.end ≢ gate))
       ((length file ≤ extent.end) ⊎ (slice_index file extent.end ≡ gate))
 
 -- the file's beginning, of one byte more than the settings have
 abbrev pub IsFrontFor : List ℕ → List ℕ → List ℕ → Type 0
 IsFrontFor settings front file = front ≡ take (length settings + 1) file
 
--- a log of these settings, or a new file without a line, whose first byte is the closed byte 0 or isn't
+-- a log of these settings, or a new file without a line, whose first byte is the closed byte 0 or
+-- isn't
 abbrev pub Starts : List ℕ → List ℕ → Start → Type 0
 Starts settings file start.Log = Begins settings file
 Starts settings file (start.New is_blank) =
-    IsNew settings file × (recovered file ≡ []) × MatchBool is_blank (take 1 file ≡ 0 ∷ []) (take 1 file ≢ 0 ∷ [])
+    IsNewFile settings file × (recovered_lines file ≡ [])
+    × MatchBool is_blank (take 1 file ≡ 0 ∷ []) (take 1 file ≢ 0 ∷ [])

@@ -9,7 +9,8 @@ use std::io::Write;
 
 /// Writes these bytes, and flushes. At `Err` a front of them was written.
 pub fn deliver<W: Write>(writer: &mut W, bytes: &[u8]) -> Result<(), LogError>
-    ensures ok { OnOk result (Appends (W.Write.contents writer.old) (W.Write.contents writer.new) bytes.now) }
+    ensures ok { OnOk result
+        (Appends (W.Write.contents writer.old) (W.Write.contents writer.new) bytes.now) }
     ensures part { WritesPart (W.Write.contents writer.old) (W.Write.contents writer.new) bytes.now }
     ensures only { IsOkUnless result LogError.Write }
 {

@@ -1,7 +1,8 @@
 //! A file is read piece by piece, and nothing of it is changed.
-ghost use Rattle.std.specs.Prelude.{◌≡◌, ◌≤◌, ◌<◌, ◌+◌, ◌^◌, ◌++◌, [], List, ℕ, length, take, drop, true, false, IsTrue, MatchBool, IfOk, IfErr, OnOk, ⊤};
+ghost use Rattle.std.specs.Prelude.{◌≡◌, ◌≤◌, ◌<◌, ◌+◌, ◌^◌, ◌++◌, [], List, ℕ, length, take, drop};
+ghost use Rattle.std.specs.Prelude.{true, false, IsTrue, MatchBool, IfOk, IfErr, OnOk, ⊤};
 ghost use Rattle.sqlite_disk.specs.Disk.{Holds, MoreFaults};
-ghost use Rattle.inst_log.specs.Layout.{recovered, blocks, IsWhole, IsShut};
+ghost use Rattle.inst_log.specs.Layout.{recovered_lines, blocks, AreWholeLines, IsShut};
 ghost use Rattle.inst_log.specs.Log.{HasCause};
 ghost use Rattle.inst_log.specs.Pieces.{IsReading, IsExtent, has_more};
 
@@ -14,7 +15,8 @@ use std::alloc::Global;
 /// How many bytes are read at a time.
 const PIECE: usize = 65_536;
 
-/// Reads the lines of a file, some at a time. It takes the memory of a piece of 64 KiB and of the longest line.
+/// Reads the lines of a file, some at a time. It takes the memory of a piece of 64 KiB and of the
+/// longest line.
 #[derive(Drop)]
 pub struct FileLines {
     alloc: Global,
@@ -27,13 +29,16 @@ impl FileLines {
     /// Begins at this byte of the disk's file, at which a line begins.
     pub fn new<D: Disk>(alloc: Global, disk: &mut D, at: usize) -> Result<FileLines, LogError>
         requires usable { IsTrue (D.Disk.is_usable disk.old) }
-        ensures reading { IfOk result (λ lines. IsTrue (D.Disk.is_clean disk.new) → (done : List (List ℕ)) (rest : List ℕ)
-            → D.Disk.seen disk.old ≡ blocks done ++ rest → recovered (blocks done) ≡ done → at ≡ length (blocks done)
+        ensures reading { IfOk result (λ lines. IsTrue (D.Disk.is_clean disk.new) →
+            (done : List (List ℕ)) (rest : List ℕ)
+            → D.Disk.seen disk.old ≡ blocks done ++ rest → recovered_lines (blocks done) ≡ done →
+            at ≡ length (blocks done)
             → IsReading (D.Disk.seen disk.old) lines done) }
         ensures fits { IfOk result (λ lines. lines.len < 2 ^ 64) }
         ensures seen { D.Disk.seen disk.new ≡ D.Disk.seen disk.old }
         ensures crash { (c : List ℕ) → D.Disk.may_leave disk.new c → D.Disk.may_leave disk.old c }
-        ensures cause { IfErr result (HasCause (MoreFaults (D.Disk.faults disk.old) (D.Disk.faults disk.new)) ⊤ ⊥) }
+        ensures cause { IfErr result
+            (HasCause (MoreFaults (D.Disk.faults disk.old) (D.Disk.faults disk.new)) ⊤ ⊥) }
         ensures calm { OnOk result (D.Disk.faults disk.new ≡ D.Disk.faults disk.old) }
         ensures usable { IsTrue (D.Disk.is_usable disk.new) }
         ensures clean { IsTrue (D.Disk.is_clean disk.new) → IsTrue (D.Disk.is_clean disk.old) }
@@ -57,10 +62,11 @@ impl FileLines {
     pub fn next<D: Disk>(&mut self, disk: &mut D) -> Result<Vec<u8>, LogError>
         requires more { has_more self.old ≡ true }
         requires usable { IsTrue (D.Disk.is_usable disk.old) }
-        ensures whole { IfOk result (λ lines. IsWhole lines.items) }
-        ensures reading { IfOk result (λ lines. IsTrue (D.Disk.is_clean disk.new) → (done : List (List ℕ))
+        ensures whole { IfOk result (λ lines. AreWholeLines lines.items) }
+        ensures reading { IfOk result (λ lines. IsTrue (D.Disk.is_clean disk.new) →
+            (done : List (List ℕ))
             → IsReading (D.Disk.seen disk.old) self.old done
-            → IsReading (D.Disk.seen disk.old) self.new (done ++ recovered lines.items)) }
+            → IsReading (D.Disk.seen disk.old) self.new (done ++ recovered_lines lines.items)) }
         ensures on { OnOk result (self.old.cutter.at < self.new.cutter.at) }
         ensures within { OnOk result (self.new.cutter.at ≤ self.new.len) }
         ensures len { OnOk result (self.new.len ≡ self.old.len) }
@@ -80,7 +86,8 @@ impl FileLines {
 
     /// Returns `true` if the lines of a file that has no more end by the closed byte 0.
     pub fn is_shut(&self) -> bool
-        ensures { (file : List ℕ) (done : List (List ℕ)) → IsReading file self.now done → has_more self.now ≡ false
+        ensures { (file : List ℕ) (done : List (List ℕ)) → IsReading file self.now done →
+            has_more self.now ≡ false
             → MatchBool result (IsShut file) (IsShut file → ⊥) }
     {
         self.cutter.is_shut()
@@ -88,8 +95,9 @@ impl FileLines {
 
     /// Returns how far the lines go of a file that has no more.
     pub fn extent(&self) -> Extent
-        ensures { (file : List ℕ) (done : List (List ℕ)) → IsReading file self.now done → has_more self.now ≡ false
-            → (recovered file ≡ done) × IsExtent file result }
+        ensures { (file : List ℕ) (done : List (List ℕ)) → IsReading file self.now done →
+            has_more self.now ≡ false
+            → (recovered_lines file ≡ done) × IsExtent file result }
     {
         Extent {
             len: self.len,
@@ -109,10 +117,12 @@ fn read_piece<D: Disk>(
     requires usable { IsTrue (D.Disk.is_usable disk.old) }
     requires some { 0 < len }
     ensures len { IfOk result (λ piece. length piece.items ≡ len) }
-    ensures piece { IfOk result (λ piece. IsTrue (D.Disk.is_clean disk.new) → Holds (D.Disk.seen disk.old) at piece.items) }
+    ensures piece { IfOk result (λ piece. IsTrue (D.Disk.is_clean disk.new) →
+        Holds (D.Disk.seen disk.old) at piece.items) }
     ensures seen { D.Disk.seen disk.new ≡ D.Disk.seen disk.old }
     ensures crash { (c : List ℕ) → D.Disk.may_leave disk.new c → D.Disk.may_leave disk.old c }
-    ensures cause { IfErr result (HasCause (IsTrue (D.Disk.is_clean disk.new) → at + len ≤ length (D.Disk.seen disk.old)
+    ensures cause { IfErr result (HasCause (IsTrue (D.Disk.is_clean disk.new) →
+        at + len ≤ length (D.Disk.seen disk.old)
         → MoreFaults (D.Disk.faults disk.old) (D.Disk.faults disk.new)) ⊤ ⊥) }
     ensures calm { OnOk result (D.Disk.faults disk.new ≡ D.Disk.faults disk.old) }
     ensures usable { IsTrue (D.Disk.is_usable disk.new) }

@@ -1,8 +1,8 @@
-//! The file of the lines that a hub has read, ahead of their replies: what is acknowledged is on the disk,
-//! whatever moment a crash comes at. And a run that a crash cuts off, with another one that resumes its log.
+//! The file of the lines that a hub has read, ahead of their replies: what is acknowledged is on
+//! the disk, whatever moment a crash comes at. And a run that a crash cuts off, with another one
+//! that resumes its log.
 #![tactic(auto)]
 
-mod answers;
 mod batch;
 mod delivery;
 mod error;
@@ -15,12 +15,12 @@ mod opening;
 mod reading;
 mod recorder;
 mod repair;
+mod responder;
 mod restart;
 mod start;
 mod surveying;
 mod synced;
 
-pub use answers::Answers;
 pub use batch::{close_batch, line_comes_back, line_of, push_line};
 pub use delivery::deliver;
 pub use error::LogError;
@@ -32,6 +32,7 @@ pub use log::Log;
 pub use opening::read_file;
 pub use reading::{count_lines, lines_len, read_lines};
 pub use recorder::Recorder;
+pub use responder::Responder;
 pub use restart::{Twice, run_twice};
 pub use start::Start;
 pub use surveying::survey;

@@ -1,6 +1,7 @@
 //! Bytes that come in pieces are cut into whole lines.
-ghost use Rattle.std.specs.Prelude.{◌≡◌, ◌≤◌, ◌<◌, ◌+◌, ◌-◌, ◌^◌, ◌++◌, [], List, ℕ, length, take, drop, IfOk, OnOk};
-ghost use Rattle.inst_log.specs.Layout.{recovered, IsWhole};
+ghost use Rattle.std.specs.Prelude.{◌≡◌, ◌≤◌, ◌<◌, ◌+◌, ◌-◌, ◌^◌, ◌++◌, [], List, ℕ, length, take};
+ghost use Rattle.std.specs.Prelude.{drop, IfOk, OnOk};
+ghost use Rattle.inst_log.specs.Layout.{recovered_lines, AreWholeLines};
 ghost use Rattle.inst_log.specs.Pieces.{HasCut, is_shut, stops};
 
 use crate::front::kept_len;
@@ -60,10 +61,12 @@ impl LineCutter {
     pub fn take(&mut self, piece: &[u8]) -> Result<Vec<u8>, AllocError>
         requires { self.old.at + length piece.now < 2 ^ 64 }
         ensures at { OnOk result (self.new.at ≡ self.old.at + length piece.now) }
-        ensures whole { IfOk result (λ lines. IsWhole lines.items) }
-        ensures cut { IfOk result (λ lines. (file : List ℕ) (done : List (List ℕ)) → HasCut file self.old done
+        ensures whole { IfOk result (λ lines. AreWholeLines lines.items) }
+        ensures cut { IfOk result (λ lines. (file : List ℕ) (done : List (List ℕ)) →
+            HasCut file self.old done
             → piece.now ≡ take (length piece.now) (drop self.old.at file)
-            → self.old.at + length piece.now ≤ length file → HasCut file self.new (done ++ recovered lines.items)) }
+            → self.old.at + length piece.now ≤ length file →
+            HasCut file self.new (done ++ recovered_lines lines.items)) }
     {
         self.held.extend_from_slice(piece)?;
         let rest = self.held.split_off(kept_len(&self.held))?;

@@ -1,9 +1,12 @@
-//! A log is opened with the settings that it begins with, or made with them. Any other file is left as it is.
-ghost use Rattle.std.specs.Prelude.{◌≡◌, ◌≢◌, ◌⊎◌, ◌≤◌, ◌+◌, ◌++◌, [], ◌∷◌, List, ℕ, length, take, IsTrue, IfOk, IfErr, OnOk, MatchBool, ⊤};
+//! A log is opened with the settings that it begins with, or made with them. Any other file is left
+//! as it is.
+ghost use Rattle.std.specs.Prelude.{◌≡◌, ◌≢◌, ◌⊎◌, ◌≤◌, ◌+◌, ◌++◌, [], ◌∷◌, List, ℕ, length, take};
+ghost use Rattle.std.specs.Prelude.{IsTrue, IfOk, IfErr, OnOk, MatchBool, ⊤};
 ghost use Rattle.sqlite_disk.specs.Disk.{Only, MoreFaults, CountsFault};
-ghost use Rattle.inst_log.specs.Layout.{recovered, blocks, IsBatch, IsShut, EndsWell};
+ghost use Rattle.inst_log.specs.Layout.{recovered_lines, blocks, IsBatch, IsShut, EndsWell};
 ghost use Rattle.inst_log.specs.Log.{IsSettled, HasCause};
-ghost use Rattle.inst_log.specs.Opening.{kept, Begins, IsNew, Opens, OpensAlike, IsSameOrBegun, Unopened};
+ghost use Rattle.inst_log.specs.Opening.{kept, Begins, IsNewFile, Opens, OpensAlike, IsSameOrBegun};
+ghost use Rattle.inst_log.specs.Opening.{Unopened};
 ghost use Rattle.inst_log.specs.Pieces.{IsExtent, IsFrontFor, Starts};
 ghost use Rattle.inst_log.specs.declared.start.Start.TheVariants as start;
 ghost use Rattle.inst_log.specs.declared.error.LogError.TheVariants.{OtherSettings, NoLog};
@@ -19,41 +22,57 @@ use std::alloc::{AllocError, Global};
 use std::io;
 
 impl<D: Disk> Log<D> {
-    /// Opens the file that the disk has, whatever a crash left of it, and repairs its end. The settings are a batch:
-    /// each log begins with those that it was made with, and a new file gets them. What comes back are the file's
-    /// lines, each with its newline, the settings first. It may crash too. `OtherSettings` and `NoLog` leave the file
-    /// as it is; after any other error, open it again. Reads the whole file into memory.
+    /// Opens the file that the disk has, whatever a crash left of it, and repairs its end. The
+    /// settings are a batch: each log begins with those that it was made with, and a new file gets
+    /// them. What comes back are the file's lines, each with its newline, the settings first. It
+    /// may crash too. `OtherSettings` and `NoLog` leave the file as it is; after any other error,
+    /// open it again. Reads the whole file into memory.
     pub fn open(&mut self, alloc: Global, settings: &[u8]) -> Result<Vec<u8>, LogError>
         requires usable { IsTrue (D.Disk.is_usable self.old.disk) }
         // After a restart, what is read is what is on the disk.
-        requires known { IsTrue (D.Disk.is_clean self.old.disk) → Only (D.Disk.seen self.old.disk) (D.Disk.may_leave self.old.disk) }
+        requires known { IsTrue (D.Disk.is_clean self.old.disk) →
+            Only (D.Disk.seen self.old.disk) (D.Disk.may_leave self.old.disk) }
         requires settings { IsBatch settings.now }
 
-        ensures settled { OnOk result (IsTrue (D.Disk.is_clean self.new.disk) → IsSettled D.Disk.seen D.Disk.may_leave self.new
-            × (recovered (D.Disk.seen self.new.disk) ≡ recovered settings.now ++ kept settings.now (D.Disk.seen self.old.disk))) }
+        ensures settled { OnOk result (IsTrue (D.Disk.is_clean self.new.disk) →
+            IsSettled D.Disk.seen D.Disk.may_leave self.new
+            × (recovered_lines (D.Disk.seen self.new.disk)
+            ≡ recovered_lines settings.now ++ kept settings.now (D.Disk.seen self.old.disk))) }
         ensures text { IfOk result (λ text. IsTrue (D.Disk.is_clean self.new.disk)
-            → text.items ≡ blocks (recovered settings.now ++ kept settings.now (D.Disk.seen self.old.disk))) }
+            → text.items
+            ≡ blocks (recovered_lines settings.now
+            ++ kept settings.now (D.Disk.seen self.old.disk))) }
         ensures front { IfOk result (λ text. length settings.now ≤ length text.items + 1) }
-        ensures opens { OnOk result (IsTrue (D.Disk.is_clean self.new.disk) → Opens settings.now (D.Disk.seen self.old.disk)) }
+        ensures opens { OnOk result (IsTrue (D.Disk.is_clean self.new.disk) →
+            Opens settings.now (D.Disk.seen self.old.disk)) }
 
         // A crash at any moment of the call leaves the same lines, in a file that opens again.
-        ensures any_moment { IsTrue (D.Disk.is_clean self.new.disk) → (c : List ℕ) → D.Disk.may_leave self.new.disk c
+        ensures any_moment { IsTrue (D.Disk.is_clean self.new.disk) → (c : List ℕ) →
+            D.Disk.may_leave self.new.disk c
             → OpensAlike settings.now (D.Disk.seen self.old.disk) c }
-        ensures stands { IsTrue (D.Disk.is_clean self.new.disk) → (c : List ℕ) → D.Disk.may_leave self.new.disk c
+        ensures stands { IsTrue (D.Disk.is_clean self.new.disk) → (c : List ℕ) →
+            D.Disk.may_leave self.new.disk c
             → IsSameOrBegun settings.now (D.Disk.seen self.old.disk) c }
 
         ensures shut_now { OnOk result (IsTrue (D.Disk.is_clean self.new.disk)
             → EndsWell (D.Disk.seen self.old.disk) → IsShut (D.Disk.seen self.new.disk)) }
-        // Where the disk leaves each byte of a write old or new, lines end by the closed byte 0 if they did.
-        ensures shut { ((d : D) → IsTrue (D.Disk.is_mixing d)) → IsTrue (D.Disk.is_clean self.new.disk)
-            → EndsWell (D.Disk.seen self.old.disk) → (c : List ℕ) → D.Disk.may_leave self.new.disk c → EndsWell c }
+        // Where the disk leaves each byte of a write old or new, lines end by the closed byte 0 if
+        // they did.
+        ensures shut { ((d : D) → IsTrue (D.Disk.is_mixing d)) →
+            IsTrue (D.Disk.is_clean self.new.disk)
+            → EndsWell (D.Disk.seen self.old.disk) → (c : List ℕ) →
+            D.Disk.may_leave self.new.disk c → EndsWell c }
 
-        ensures cause { IfErr result (λ error. Unopened settings.now (D.Disk.seen self.old.disk) (IsTrue (D.Disk.is_clean self.new.disk))
+        ensures cause { IfErr result (λ error.
+            Unopened settings.now (D.Disk.seen self.old.disk)
+            (IsTrue (D.Disk.is_clean self.new.disk))
             (D.Disk.seen self.new.disk ≡ D.Disk.seen self.old.disk)
-            (IsTrue (D.Disk.is_clean self.new.disk) → MoreFaults (D.Disk.faults self.old.disk) (D.Disk.faults self.new.disk)) error) }
+            (IsTrue (D.Disk.is_clean self.new.disk) →
+            MoreFaults (D.Disk.faults self.old.disk) (D.Disk.faults self.new.disk)) error) }
         ensures calm { OnOk result (D.Disk.faults self.new.disk ≡ D.Disk.faults self.old.disk) }
         ensures usable { OnOk result (IsTrue (D.Disk.is_usable self.new.disk)) }
-        ensures clean { IsTrue (D.Disk.is_clean self.new.disk) → IsTrue (D.Disk.is_clean self.old.disk) }
+        ensures clean { IsTrue (D.Disk.is_clean self.new.disk) →
+            IsTrue (D.Disk.is_clean self.old.disk) }
     {
         let text = read_file(alloc, &mut self.disk)?;
         let extent = Extent::of(&text);
@@ -63,7 +82,8 @@ impl<D: Disk> Log<D> {
         Ok(lines_of(text, settings, &extent, start)?)
     }
 
-    /// Tells whether the file, whose lines go so far, is a log of these settings or a new file. Changes nothing.
+    /// Tells whether the file, whose lines go so far, is a log of these settings or a new file.
+    /// Changes nothing.
     ///
     /// # Errors
     ///
@@ -76,24 +96,31 @@ impl<D: Disk> Log<D> {
     ) -> Result<Start, LogError>
         requires usable { IsTrue (D.Disk.is_usable self.old.disk) }
         requires settings { IsBatch settings.now }
-        requires extent { IsTrue (D.Disk.is_clean self.old.disk) → IsExtent (D.Disk.seen self.old.disk) extent.now }
+        requires extent { IsTrue (D.Disk.is_clean self.old.disk) →
+            IsExtent (D.Disk.seen self.old.disk) extent.now }
         ensures start { IfOk result (λ start. IsTrue (D.Disk.is_clean self.new.disk)
             → Starts settings.now (D.Disk.seen self.old.disk) start) }
-        ensures same { (D.Disk.seen self.new.disk ≡ D.Disk.seen self.old.disk) × (self.new.end ≡ self.old.end) }
-        ensures crash { (c : List ℕ) → D.Disk.may_leave self.new.disk c → D.Disk.may_leave self.old.disk c }
-        ensures cause { IfErr result (λ error. Unopened settings.now (D.Disk.seen self.old.disk) (IsTrue (D.Disk.is_clean self.new.disk))
+        ensures same { (D.Disk.seen self.new.disk ≡ D.Disk.seen self.old.disk)
+            × (self.new.end ≡ self.old.end) }
+        ensures crash { (c : List ℕ) → D.Disk.may_leave self.new.disk c →
+            D.Disk.may_leave self.old.disk c }
+        ensures cause { IfErr result (λ error.
+            Unopened settings.now (D.Disk.seen self.old.disk)
+            (IsTrue (D.Disk.is_clean self.new.disk))
             (D.Disk.seen self.new.disk ≡ D.Disk.seen self.old.disk)
-            (IsTrue (D.Disk.is_clean self.new.disk) → MoreFaults (D.Disk.faults self.old.disk) (D.Disk.faults self.new.disk)) error) }
+            (IsTrue (D.Disk.is_clean self.new.disk) →
+            MoreFaults (D.Disk.faults self.old.disk) (D.Disk.faults self.new.disk)) error) }
         ensures calm { OnOk result (D.Disk.faults self.new.disk ≡ D.Disk.faults self.old.disk) }
         ensures usable { IsTrue (D.Disk.is_usable self.new.disk) }
-        ensures clean { IsTrue (D.Disk.is_clean self.new.disk) → IsTrue (D.Disk.is_clean self.old.disk) }
+        ensures clean { IsTrue (D.Disk.is_clean self.new.disk) →
+            IsTrue (D.Disk.is_clean self.old.disk) }
     {
         let front = read_front(alloc, &mut self.disk, extent.len.min(settings.len() + 1))?;
         start_of(&front, settings, extent)
     }
 
-    /// Opens the file, whose lines go so far, as what it was found to be: repairs the end of a log, or writes the
-    /// settings to a new file. At `Err`, open it again.
+    /// Opens the file, whose lines go so far, as what it was found to be: repairs the end of a log,
+    /// or writes the settings to a new file. At `Err`, open it again.
     pub fn open_at(
         &mut self,
         settings: &[u8],
@@ -101,26 +128,38 @@ impl<D: Disk> Log<D> {
         start: Start,
     ) -> Result<(), LogError>
         requires usable { IsTrue (D.Disk.is_usable self.old.disk) }
-        requires known { IsTrue (D.Disk.is_clean self.old.disk) → Only (D.Disk.seen self.old.disk) (D.Disk.may_leave self.old.disk) }
+        requires known { IsTrue (D.Disk.is_clean self.old.disk) →
+            Only (D.Disk.seen self.old.disk) (D.Disk.may_leave self.old.disk) }
         requires settings { IsBatch settings.now }
-        requires extent { IsTrue (D.Disk.is_clean self.old.disk) → IsExtent (D.Disk.seen self.old.disk) extent.now }
-        requires start { IsTrue (D.Disk.is_clean self.old.disk) → Starts settings.now (D.Disk.seen self.old.disk) start }
-        ensures settled { OnOk result (IsTrue (D.Disk.is_clean self.new.disk) → IsSettled D.Disk.seen D.Disk.may_leave self.new
-            × (recovered (D.Disk.seen self.new.disk) ≡ recovered settings.now ++ kept settings.now (D.Disk.seen self.old.disk))) }
+        requires extent { IsTrue (D.Disk.is_clean self.old.disk) →
+            IsExtent (D.Disk.seen self.old.disk) extent.now }
+        requires start { IsTrue (D.Disk.is_clean self.old.disk) →
+            Starts settings.now (D.Disk.seen self.old.disk) start }
+        ensures settled { OnOk result (IsTrue (D.Disk.is_clean self.new.disk) →
+            IsSettled D.Disk.seen D.Disk.may_leave self.new
+            × (recovered_lines (D.Disk.seen self.new.disk)
+            ≡ recovered_lines settings.now ++ kept settings.now (D.Disk.seen self.old.disk))) }
         // A crash at any moment of the call leaves the same lines, in a file that opens again.
-        ensures any_moment { IsTrue (D.Disk.is_clean self.new.disk) → (c : List ℕ) → D.Disk.may_leave self.new.disk c
+        ensures any_moment { IsTrue (D.Disk.is_clean self.new.disk) → (c : List ℕ) →
+            D.Disk.may_leave self.new.disk c
             → OpensAlike settings.now (D.Disk.seen self.old.disk) c }
-        ensures stands { IsTrue (D.Disk.is_clean self.new.disk) → (c : List ℕ) → D.Disk.may_leave self.new.disk c
+        ensures stands { IsTrue (D.Disk.is_clean self.new.disk) → (c : List ℕ) →
+            D.Disk.may_leave self.new.disk c
             → IsSameOrBegun settings.now (D.Disk.seen self.old.disk) c }
         ensures shut_now { OnOk result (IsTrue (D.Disk.is_clean self.new.disk)
             → EndsWell (D.Disk.seen self.old.disk) → IsShut (D.Disk.seen self.new.disk)) }
-        // Where the disk leaves each byte of a write old or new, lines end by the closed byte 0 if they did.
-        ensures shut { ((d : D) → IsTrue (D.Disk.is_mixing d)) → IsTrue (D.Disk.is_clean self.new.disk)
-            → EndsWell (D.Disk.seen self.old.disk) → (c : List ℕ) → D.Disk.may_leave self.new.disk c → EndsWell c }
-        ensures cause { IfErr result (HasCause (MoreFaults (D.Disk.faults self.old.disk) (D.Disk.faults self.new.disk)) ⊥ ⊥) }
+        // Where the disk leaves each byte of a write old or new, lines end by the closed byte 0 if
+        // they did.
+        ensures shut { ((d : D) → IsTrue (D.Disk.is_mixing d)) →
+            IsTrue (D.Disk.is_clean self.new.disk)
+            → EndsWell (D.Disk.seen self.old.disk) → (c : List ℕ) →
+            D.Disk.may_leave self.new.disk c → EndsWell c }
+        ensures cause { IfErr result
+            (HasCause (MoreFaults (D.Disk.faults self.old.disk) (D.Disk.faults self.new.disk)) ⊥ ⊥) }
         ensures calm { OnOk result (D.Disk.faults self.new.disk ≡ D.Disk.faults self.old.disk) }
         ensures usable { OnOk result (IsTrue (D.Disk.is_usable self.new.disk)) }
-        ensures clean { IsTrue (D.Disk.is_clean self.new.disk) → IsTrue (D.Disk.is_clean self.old.disk) }
+        ensures clean { IsTrue (D.Disk.is_clean self.new.disk) →
+            IsTrue (D.Disk.is_clean self.old.disk) }
     {
         match start {
             Start::Log => self.go_on(extent),
@@ -131,20 +170,27 @@ impl<D: Disk> Log<D> {
     /// Opens a log whose lines go so far.
     fn go_on(&mut self, extent: &Extent) -> Result<(), LogError>
         requires usable { IsTrue (D.Disk.is_usable self.old.disk) }
-        requires extent { IsTrue (D.Disk.is_clean self.old.disk) → IsExtent (D.Disk.seen self.old.disk) extent.now }
-        requires known { IsTrue (D.Disk.is_clean self.old.disk) → Only (D.Disk.seen self.old.disk) (D.Disk.may_leave self.old.disk) }
-        ensures settled { OnOk result (IsTrue (D.Disk.is_clean self.new.disk) → IsSettled D.Disk.seen D.Disk.may_leave self.new
-            × (recovered (D.Disk.seen self.new.disk) ≡ recovered (D.Disk.seen self.old.disk))) }
-        ensures any_moment { IsTrue (D.Disk.is_clean self.new.disk) → (c : List ℕ) → D.Disk.may_leave self.new.disk c
-            → recovered c ≡ recovered (D.Disk.seen self.old.disk) }
+        requires extent { IsTrue (D.Disk.is_clean self.old.disk) →
+            IsExtent (D.Disk.seen self.old.disk) extent.now }
+        requires known { IsTrue (D.Disk.is_clean self.old.disk) →
+            Only (D.Disk.seen self.old.disk) (D.Disk.may_leave self.old.disk) }
+        ensures settled { OnOk result (IsTrue (D.Disk.is_clean self.new.disk) →
+            IsSettled D.Disk.seen D.Disk.may_leave self.new
+            × (recovered_lines (D.Disk.seen self.new.disk)
+            ≡ recovered_lines (D.Disk.seen self.old.disk))) }
+        ensures any_moment { IsTrue (D.Disk.is_clean self.new.disk) → (c : List ℕ) →
+            D.Disk.may_leave self.new.disk c
+            → recovered_lines c ≡ recovered_lines (D.Disk.seen self.old.disk) }
         ensures shut_now { OnOk result (IsTrue (D.Disk.is_clean self.new.disk)
             → IsShut (D.Disk.seen self.old.disk) → IsShut (D.Disk.seen self.new.disk)) }
         ensures shut { IsTrue (D.Disk.is_clean self.new.disk) → IsShut (D.Disk.seen self.old.disk)
             → (c : List ℕ) → D.Disk.may_leave self.new.disk c → IsShut c }
-        ensures cause { IfErr result (HasCause (MoreFaults (D.Disk.faults self.old.disk) (D.Disk.faults self.new.disk)) ⊥ ⊥) }
+        ensures cause { IfErr result
+            (HasCause (MoreFaults (D.Disk.faults self.old.disk) (D.Disk.faults self.new.disk)) ⊥ ⊥) }
         ensures calm { OnOk result (D.Disk.faults self.new.disk ≡ D.Disk.faults self.old.disk) }
         ensures usable { OnOk result (IsTrue (D.Disk.is_usable self.new.disk)) }
-        ensures clean { IsTrue (D.Disk.is_clean self.new.disk) → IsTrue (D.Disk.is_clean self.old.disk) }
+        ensures clean { IsTrue (D.Disk.is_clean self.new.disk) →
+            IsTrue (D.Disk.is_clean self.old.disk) }
     {
         repair(&mut self.disk, extent)?;
         self.end = extent.end;
@@ -154,19 +200,27 @@ impl<D: Disk> Log<D> {
     /// Makes a log of a new file.
     fn begin(&mut self, is_blank: bool, settings: &[u8]) -> Result<(), LogError>
         requires usable { IsTrue (D.Disk.is_usable self.old.disk) }
-        requires known { IsTrue (D.Disk.is_clean self.old.disk) → Only (D.Disk.seen self.old.disk) (D.Disk.may_leave self.old.disk) }
+        requires known { IsTrue (D.Disk.is_clean self.old.disk) →
+            Only (D.Disk.seen self.old.disk) (D.Disk.may_leave self.old.disk) }
         requires settings { IsBatch settings.now }
-        requires new { IsTrue (D.Disk.is_clean self.old.disk) → Starts settings.now (D.Disk.seen self.old.disk) (start.New is_blank) }
-        ensures settled { OnOk result (IsTrue (D.Disk.is_clean self.new.disk) → IsSettled D.Disk.seen D.Disk.may_leave self.new
-            × (recovered (D.Disk.seen self.new.disk) ≡ recovered settings.now)) }
-        ensures any_moment { IsTrue (D.Disk.is_clean self.new.disk) → (c : List ℕ) → D.Disk.may_leave self.new.disk c
+        requires new { IsTrue (D.Disk.is_clean self.old.disk) →
+            Starts settings.now (D.Disk.seen self.old.disk) (start.New is_blank) }
+        ensures settled { OnOk result (IsTrue (D.Disk.is_clean self.new.disk) →
+            IsSettled D.Disk.seen D.Disk.may_leave self.new
+            × (recovered_lines (D.Disk.seen self.new.disk) ≡ recovered_lines settings.now)) }
+        ensures any_moment { IsTrue (D.Disk.is_clean self.new.disk) → (c : List ℕ) →
+            D.Disk.may_leave self.new.disk c
             → Opens settings.now c × (kept settings.now c ≡ []) }
-        ensures stands { IsTrue (D.Disk.is_clean self.new.disk) → (c : List ℕ) → D.Disk.may_leave self.new.disk c
-            → (recovered c ≡ []) ⊎ (recovered c ≡ recovered settings.now) }
-        ensures shut_now { OnOk result (IsTrue (D.Disk.is_clean self.new.disk) → IsShut (D.Disk.seen self.new.disk)) }
-        ensures shut { ((d : D) → IsTrue (D.Disk.is_mixing d)) → IsTrue (D.Disk.is_clean self.new.disk)
+        ensures stands { IsTrue (D.Disk.is_clean self.new.disk) → (c : List ℕ) →
+            D.Disk.may_leave self.new.disk c
+            → (recovered_lines c ≡ []) ⊎ (recovered_lines c ≡ recovered_lines settings.now) }
+        ensures shut_now { OnOk result (IsTrue (D.Disk.is_clean self.new.disk) →
+            IsShut (D.Disk.seen self.new.disk)) }
+        ensures shut { ((d : D) → IsTrue (D.Disk.is_mixing d)) →
+            IsTrue (D.Disk.is_clean self.new.disk)
             → (c : List ℕ) → D.Disk.may_leave self.new.disk c → EndsWell c }
-        ensures cause { IfErr result (HasCause (MoreFaults (D.Disk.faults self.old.disk) (D.Disk.faults self.new.disk)) ⊥ ⊥) }
+        ensures cause { IfErr result
+            (HasCause (MoreFaults (D.Disk.faults self.old.disk) (D.Disk.faults self.new.disk)) ⊥ ⊥) }
         ensures calm { OnOk result (D.Disk.faults self.new.disk ≡ D.Disk.faults self.old.disk) }
         ensures usable { OnOk result (IsTrue (D.Disk.is_usable self.new.disk)) }
         ensures clean { D.Disk.is_clean self.new.disk ≡ D.Disk.is_clean self.old.disk }
@@ -181,11 +235,16 @@ impl<D: Disk> Log<D> {
 fn blank<D: Disk>(disk: &mut D, is_blank: bool) -> io::Result<()>
     requires usable { IsTrue (D.Disk.is_usable disk.old) }
     requires is_blank { IsTrue (D.Disk.is_clean disk.old)
-        → MatchBool is_blank (take 1 (D.Disk.seen disk.old) ≡ 0 ∷ []) (take 1 (D.Disk.seen disk.old) ≢ 0 ∷ []) }
-    requires known { IsTrue (D.Disk.is_clean disk.old) → Only (D.Disk.seen disk.old) (D.Disk.may_leave disk.old) }
-    ensures written { OnOk result (IsTrue (D.Disk.is_clean disk.new) → IsBlanked (D.Disk.seen disk.old) (D.Disk.seen disk.new)) }
-    ensures durable { OnOk result (IsTrue (D.Disk.is_clean disk.new) → Only (D.Disk.seen disk.new) (D.Disk.may_leave disk.new)) }
-    ensures any_moment { IsTrue (D.Disk.is_clean disk.new) → (c : List ℕ) → D.Disk.may_leave disk.new c
+        → MatchBool is_blank (take 1 (D.Disk.seen disk.old) ≡ 0 ∷ []) (take 1 (D.Disk.seen disk.old)
+        ≢ 0 ∷ []) }
+    requires known { IsTrue (D.Disk.is_clean disk.old) →
+        Only (D.Disk.seen disk.old) (D.Disk.may_leave disk.old) }
+    ensures written { OnOk result (IsTrue (D.Disk.is_clean disk.new) →
+        IsBlanked (D.Disk.seen disk.old) (D.Disk.seen disk.new)) }
+    ensures durable { OnOk result (IsTrue (D.Disk.is_clean disk.new) →
+        Only (D.Disk.seen disk.new) (D.Disk.may_leave disk.new)) }
+    ensures any_moment { IsTrue (D.Disk.is_clean disk.new) → (c : List ℕ) →
+        D.Disk.may_leave disk.new c
         → IsBlanking (D.Disk.seen disk.old) c }
     ensures usable { OnOk result (IsTrue (D.Disk.is_usable disk.new)) }
     ensures clean { D.Disk.is_clean disk.new ≡ D.Disk.is_clean disk.old }
@@ -200,7 +259,8 @@ fn blank<D: Disk>(disk: &mut D, is_blank: bool) -> io::Result<()>
 /// All the bytes of a file. `Disk` where the disk fails, `Memory` where there is no room for them.
 pub fn read_file<D: Disk>(alloc: Global, disk: &mut D) -> Result<Vec<u8>, LogError>
     requires usable { IsTrue (D.Disk.is_usable disk.old) }
-    ensures bytes { IfOk result (λ bytes. IsTrue (D.Disk.is_clean disk.new) → bytes.items ≡ D.Disk.seen disk.old) }
+    ensures bytes { IfOk result (λ bytes. IsTrue (D.Disk.is_clean disk.new) →
+        bytes.items ≡ D.Disk.seen disk.old) }
     ensures seen { D.Disk.seen disk.new ≡ D.Disk.seen disk.old }
     ensures crash { (c : List ℕ) → D.Disk.may_leave disk.new c → D.Disk.may_leave disk.old c }
     ensures cause { IfErr result (HasCause (IsTrue (D.Disk.is_clean disk.new)
@@ -225,7 +285,8 @@ fn lines_of(
     requires settings { IsBatch settings.now }
     requires extent { IsExtent bytes.items extent.now }
     requires start { Starts settings.now bytes.items start }
-    ensures { IfOk result (λ text. text.items ≡ blocks (recovered settings.now ++ kept settings.now bytes.items)) }
+    ensures { IfOk result (λ text.
+        text.items ≡ blocks (recovered_lines settings.now ++ kept settings.now bytes.items)) }
 {
     match start {
         Start::Log => bytes.truncate(extent.end),
@@ -241,7 +302,8 @@ fn lines_of(
 fn read_front<D: Disk>(alloc: Global, disk: &mut D, len: usize) -> Result<Vec<u8>, LogError>
     requires usable { IsTrue (D.Disk.is_usable disk.old) }
     requires within { IsTrue (D.Disk.is_clean disk.old) → len ≤ length (D.Disk.seen disk.old) }
-    ensures front { IfOk result (λ front. IsTrue (D.Disk.is_clean disk.new) → front.items ≡ take len (D.Disk.seen disk.old)) }
+    ensures front { IfOk result (λ front. IsTrue (D.Disk.is_clean disk.new) →
+        front.items ≡ take len (D.Disk.seen disk.old)) }
     ensures seen { D.Disk.seen disk.new ≡ D.Disk.seen disk.old }
     ensures crash { (c : List ℕ) → D.Disk.may_leave disk.new c → D.Disk.may_leave disk.old c }
     ensures cause { IfErr result (HasCause (IsTrue (D.Disk.is_clean disk.new)
@@ -258,9 +320,11 @@ fn read_front<D: Disk>(alloc: Global, disk: &mut D, len: usize) -> Result<Vec<u8
 /// What a file with this beginning is by these settings, where its lines go so far.
 fn start_of(front: &[u8], settings: &[u8], extent: &Extent) -> Result<Start, LogError>
     requires settings { IsBatch settings.now }
-    ensures start { IfOk result (λ start. (file : List ℕ) → IsExtent file extent.now → IsFrontFor settings.now front.now file
+    ensures start { IfOk result (λ start. (file : List ℕ) → IsExtent file extent.now →
+        IsFrontFor settings.now front.now file
         → Starts settings.now file start) }
-    ensures cause { IfErr result (λ error. (file : List ℕ) → IsExtent file extent.now → IsFrontFor settings.now front.now file
+    ensures cause { IfErr result (λ error. (file : List ℕ) → IsExtent file extent.now →
+        IsFrontFor settings.now front.now file
         → Unopened settings.now file ⊤ ⊤ ⊥ error) }
     ensures only { IfErr result (λ error. (error ≡ OtherSettings) ⊎ (error ≡ NoLog)) }
 {
@@ -287,7 +351,8 @@ fn begins(bytes: &[u8], settings: &[u8]) -> bool
 /// The file is one that is to be made a log, or the making of one was cut off there.
 fn is_new(bytes: &[u8], settings: &[u8]) -> bool
     requires settings { IsBatch settings.now }
-    ensures { MatchBool result (IsNew settings.now bytes.now) (IsNew settings.now bytes.now → ⊥) }
+    ensures { MatchBool result (IsNewFile settings.now bytes.now)
+        (IsNewFile settings.now bytes.now → ⊥) }
 {
     if bytes.len() <= 1 {
         return true;

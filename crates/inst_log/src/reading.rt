@@ -1,6 +1,6 @@
 //! The first lines of a file are read, and nothing of it is changed.
 ghost use Rattle.std.specs.Prelude.{◌≡◌, ◌≤◌, List, ℕ, length, take, IsTrue, IfOk, MatchResult, ⊤};
-ghost use Rattle.inst_log.specs.Layout.{recovered, blocks};
+ghost use Rattle.inst_log.specs.Layout.{recovered_lines, blocks};
 ghost use Rattle.sqlite_disk.specs.Disk.{MoreFaults};
 ghost use Rattle.inst_log.specs.Log.{HasCause};
 
@@ -10,15 +10,17 @@ use crate::front::first_line;
 use sqlite_disk::Disk;
 use std::alloc::Global;
 
-/// Returns the first lines of the disk's file, each with its newline: so many, or all if the file has fewer. Reads no
-/// further than the piece of 64 KiB in which they end.
+/// Returns the first lines of the disk's file, each with its newline: so many, or all if the file
+/// has fewer. Reads no further than the piece of 64 KiB in which they end.
 pub fn read_lines<D: Disk>(alloc: Global, disk: &mut D, count: u64) -> Result<Vec<u8>, LogError>
     requires usable { IsTrue (D.Disk.is_usable disk.old) }
     ensures lines { IfOk result (λ text. IsTrue (D.Disk.is_clean disk.new)
-        → text.items ≡ blocks (take count (recovered (D.Disk.seen disk.old)))) }
+        → text.items ≡ blocks (take count (recovered_lines (D.Disk.seen disk.old)))) }
     ensures seen { D.Disk.seen disk.new ≡ D.Disk.seen disk.old }
     ensures crash { (c : List ℕ) → D.Disk.may_leave disk.new c → D.Disk.may_leave disk.old c }
-    ensures cause { MatchResult result (λ _. D.Disk.faults disk.new ≡ D.Disk.faults disk.old) (HasCause (IsTrue (D.Disk.is_clean disk.new)
+    ensures cause { MatchResult result (λ _.
+        D.Disk.faults disk.new
+        ≡ D.Disk.faults disk.old) (HasCause (IsTrue (D.Disk.is_clean disk.new)
         → MoreFaults (D.Disk.faults disk.old) (D.Disk.faults disk.new)) ⊤ ⊥) }
     ensures usable { IsTrue (D.Disk.is_usable disk.new) }
     ensures clean { IsTrue (D.Disk.is_clean disk.new) → IsTrue (D.Disk.is_clean disk.old) }
@@ -37,7 +39,7 @@ pub fn read_lines<D: Disk>(alloc: Global, disk: &mut D, count: u64) -> Result<Ve
 
 /// Returns how many bytes the first lines have, so many, or all if there are fewer.
 pub fn lines_len(bytes: &[u8], count: u64) -> usize
-    ensures len { result ≡ length (blocks (take count (recovered bytes.now))) }
+    ensures len { result ≡ length (blocks (take count (recovered_lines bytes.now))) }
     ensures within { result ≤ length bytes.now }
 {
     let mut rest = bytes;
@@ -52,7 +54,7 @@ pub fn lines_len(bytes: &[u8], count: u64) -> usize
 
 /// Returns how many lines the bytes begin with.
 pub fn count_lines(bytes: &[u8]) -> usize
-    ensures count { result ≡ length (recovered bytes.now) }
+    ensures count { result ≡ length (recovered_lines bytes.now) }
     ensures within { result ≤ length bytes.now }
 {
     let mut rest = bytes;

@@ -1,7 +1,8 @@
-//! The end of a file is repaired: closed, and nothing behind it. What the file stands for stays the same.
+//! The end of a file is repaired: closed, and nothing behind it. What the file stands for stays the
+//! same.
 ghost use Rattle.std.specs.Prelude.{◌≡◌, List, ℕ, ◌<◌, ◌≤◌, ◌+◌, ◌^◌, length, IsTrue, IfOk, OnOk};
 ghost use Rattle.sqlite_disk.specs.Disk.{Only, CountsFault};
-ghost use Rattle.inst_log.specs.Layout.{IsClosed, IsShut};
+ghost use Rattle.inst_log.specs.Layout.{HasClosedByte, IsShut};
 ghost use Rattle.inst_log.specs.inner.Layout.{IsUnclosed};
 ghost use Rattle.inst_log.specs.Pieces.{IsExtent};
 ghost use Rattle.inst_log.specs.inner.Repair.{Repairs};
@@ -14,8 +15,10 @@ use std::io;
 /// Repairs the end of a file whose lines go so far.
 pub(crate) fn repair<D: Disk>(disk: &mut D, extent: &Extent) -> io::Result<()>
     requires usable { IsTrue (D.Disk.is_usable disk.old) }
-    requires extent { IsTrue (D.Disk.is_clean disk.old) → IsExtent (D.Disk.seen disk.old) extent.now }
-    requires known { IsTrue (D.Disk.is_clean disk.old) → Only (D.Disk.seen disk.old) (D.Disk.may_leave disk.old) }
+    requires extent { IsTrue (D.Disk.is_clean disk.old) →
+        IsExtent (D.Disk.seen disk.old) extent.now }
+    requires known { IsTrue (D.Disk.is_clean disk.old) →
+        Only (D.Disk.seen disk.old) (D.Disk.may_leave disk.old) }
     ensures repaired { Repairs D.Disk.seen D.Disk.may_leave D.Disk.is_clean D.Disk.is_usable
         disk.old extent.now.end result disk.new }
     ensures shut { IsTrue (D.Disk.is_clean disk.new) → IsShut (D.Disk.seen disk.old)
@@ -29,9 +32,12 @@ pub(crate) fn repair<D: Disk>(disk: &mut D, extent: &Extent) -> io::Result<()>
 /// Writes the closed byte, if it isn't there.
 fn close<D: Disk>(disk: &mut D, extent: &Extent) -> io::Result<()>
     requires usable { IsTrue (D.Disk.is_usable disk.old) }
-    requires extent { IsTrue (D.Disk.is_clean disk.old) → IsExtent (D.Disk.seen disk.old) extent.now }
-    requires known { IsTrue (D.Disk.is_clean disk.old) → Only (D.Disk.seen disk.old) (D.Disk.may_leave disk.old) }
-    ensures repaired { Repairs D.Disk.seen D.Disk.may_leave D.Disk.is_clean D.Disk.is_usable disk.old extent.now.end result disk.new }
+    requires extent { IsTrue (D.Disk.is_clean disk.old) →
+        IsExtent (D.Disk.seen disk.old) extent.now }
+    requires known { IsTrue (D.Disk.is_clean disk.old) →
+        Only (D.Disk.seen disk.old) (D.Disk.may_leave disk.old) }
+    ensures repaired { Repairs D.Disk.seen D.Disk.may_leave D.Disk.is_clean D.Disk.is_usable
+        disk.old extent.now.end result disk.new }
     ensures shut { IsTrue (D.Disk.is_clean disk.new) → IsShut (D.Disk.seen disk.old)
         → (c : List ℕ) → D.Disk.may_leave disk.new c → IsShut c }
     ensures cause { CountsFault result (D.Disk.faults disk.old) (D.Disk.faults disk.new) }
@@ -45,9 +51,12 @@ fn close<D: Disk>(disk: &mut D, extent: &Extent) -> io::Result<()>
 /// Cuts what follows the closed byte, if anything does.
 fn cut<D: Disk>(disk: &mut D, extent: &Extent) -> io::Result<()>
     requires usable { IsTrue (D.Disk.is_usable disk.old) }
-    requires closed { IsTrue (D.Disk.is_clean disk.old) → IsClosed (D.Disk.seen disk.old) extent.now.end }
-    requires known { IsTrue (D.Disk.is_clean disk.old) → Only (D.Disk.seen disk.old) (D.Disk.may_leave disk.old) }
-    ensures repaired { Repairs D.Disk.seen D.Disk.may_leave D.Disk.is_clean D.Disk.is_usable disk.old extent.now.end result disk.new }
+    requires closed { IsTrue (D.Disk.is_clean disk.old) →
+        HasClosedByte (D.Disk.seen disk.old) extent.now.end }
+    requires known { IsTrue (D.Disk.is_clean disk.old) →
+        Only (D.Disk.seen disk.old) (D.Disk.may_leave disk.old) }
+    ensures repaired { Repairs D.Disk.seen D.Disk.may_leave D.Disk.is_clean D.Disk.is_usable
+        disk.old extent.now.end result disk.new }
     ensures shut { IsTrue (D.Disk.is_clean disk.new) → IsShut (D.Disk.seen disk.old)
         → (c : List ℕ) → D.Disk.may_leave disk.new c → IsShut c }
     ensures cause { CountsFault result (D.Disk.faults disk.old) (D.Disk.faults disk.new) }
@@ -62,9 +71,11 @@ fn cut<D: Disk>(disk: &mut D, extent: &Extent) -> io::Result<()>
 fn close_at<D: Disk>(disk: &mut D, end: usize) -> io::Result<()>
     requires usable { IsTrue (D.Disk.is_usable disk.old) }
     requires unclosed { IsTrue (D.Disk.is_clean disk.old) → IsUnclosed (D.Disk.seen disk.old) end }
-    requires known { IsTrue (D.Disk.is_clean disk.old) → Only (D.Disk.seen disk.old) (D.Disk.may_leave disk.old) }
+    requires known { IsTrue (D.Disk.is_clean disk.old) →
+        Only (D.Disk.seen disk.old) (D.Disk.may_leave disk.old) }
     ensures durable { OnOk result (Only (D.Disk.seen disk.new) (D.Disk.may_leave disk.new)) }
-    ensures repaired { Repairs D.Disk.seen D.Disk.may_leave D.Disk.is_clean D.Disk.is_usable disk.old end result disk.new }
+    ensures repaired { Repairs D.Disk.seen D.Disk.may_leave D.Disk.is_clean D.Disk.is_usable
+        disk.old end result disk.new }
     ensures cause { CountsFault result (D.Disk.faults disk.old) (D.Disk.faults disk.new) }
 {
     write_synced(disk, end, &[0])
@@ -74,10 +85,12 @@ fn close_at<D: Disk>(disk: &mut D, end: usize) -> io::Result<()>
 fn cut_behind<D: Disk>(disk: &mut D, end: usize) -> io::Result<()>
     requires usable { IsTrue (D.Disk.is_usable disk.old) }
     requires fits { end + 1 < 2 ^ 64 }
-    requires closed { IsTrue (D.Disk.is_clean disk.old) → IsClosed (D.Disk.seen disk.old) end }
-    requires known { IsTrue (D.Disk.is_clean disk.old) → Only (D.Disk.seen disk.old) (D.Disk.may_leave disk.old) }
+    requires closed { IsTrue (D.Disk.is_clean disk.old) → HasClosedByte (D.Disk.seen disk.old) end }
+    requires known { IsTrue (D.Disk.is_clean disk.old) →
+        Only (D.Disk.seen disk.old) (D.Disk.may_leave disk.old) }
     ensures durable { OnOk result (Only (D.Disk.seen disk.new) (D.Disk.may_leave disk.new)) }
-    ensures repaired { Repairs D.Disk.seen D.Disk.may_leave D.Disk.is_clean D.Disk.is_usable disk.old end result disk.new }
+    ensures repaired { Repairs D.Disk.seen D.Disk.may_leave D.Disk.is_clean D.Disk.is_usable
+        disk.old end result disk.new }
     ensures shut { IsTrue (D.Disk.is_clean disk.new) → IsShut (D.Disk.seen disk.old)
         → (c : List ℕ) → D.Disk.may_leave disk.new c → IsShut c }
     ensures cause { CountsFault result (D.Disk.faults disk.old) (D.Disk.faults disk.new) }

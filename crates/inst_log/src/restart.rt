@@ -4,13 +4,13 @@ ghost use Rattle.sqlite_disk.specs.Disk.{Only};
 ghost use Rattle.sqlite_disk.specs.Fuse.{inner_of};
 ghost use Rattle.inst_log.specs.Layout.{IsBatch};
 ghost use Rattle.inst_log.specs.Opening.{kept};
-ghost use Rattle.inst_log.specs.Serving.{Replies, AllBatches, lines_of};
+ghost use Rattle.inst_log.specs.Serving.{Replies, AllBatches, batch_lines};
 ghost use Rattle.inst_log.specs.Restart.{SaysOnce, Begins};
 
-use crate::answers::Answers;
 use crate::error::LogError;
 use crate::log::Log;
 use crate::recorder::Recorder;
+use crate::responder::Responder;
 use sqlite_disk::{Crash, Disk, Fuse};
 use std::alloc::Global;
 
@@ -21,10 +21,11 @@ pub struct Twice<D: Disk> {
     pub disk: D,
 }
 
-/// Runs a log over a machine that stops after `calls` calls of the disk, and comes back with any of the files that a
-/// crash then may leave. The log is run again, and told how many bytes of replies the reader has. The settings are a
-/// batch. An error is one of the second run or of the sync before it.
-pub fn run_twice<D: Crash + Drop, A: Answers + Drop>(
+/// Runs a log over a machine that stops after `calls` calls of the disk, and comes back with any of
+/// the files that a crash then may leave. The log is run again, and told how many bytes of replies
+/// the reader has. The settings are a batch. An error is one of the second run or of the sync
+/// before it.
+pub fn run_twice<D: Crash + Drop, A: Responder + Drop>(
     alloc: Global,
     disk: D,
     calls: u64,
@@ -35,14 +36,18 @@ pub fn run_twice<D: Crash + Drop, A: Answers + Drop>(
     more: &[Vec<u8>],
 ) -> Result<Twice<Fuse<D>>, LogError>
     requires usable { IsTrue (D.Disk.is_usable disk) }
-    requires known { IsTrue (D.Disk.is_clean disk) → Only (D.Disk.seen disk) (D.Disk.may_leave disk) }
-    requires same { (replies : Replies) → A.Answers.says first replies → A.Answers.says again replies }
-    requires begins { (replies : Replies) → A.Answers.says first replies → Begins replies }
+    requires known { IsTrue (D.Disk.is_clean disk) →
+        Only (D.Disk.seen disk) (D.Disk.may_leave disk) }
+    requires same { (replies : Replies) → A.Responder.says first replies →
+        A.Responder.says again replies }
+    requires begins { (replies : Replies) → A.Responder.says first replies → Begins replies }
     requires settings { IsBatch settings.now }
     requires batches { AllBatches batches.now }
     requires more { AllBatches more.now }
-    ensures { IfOk result (λ twice. IsTrue (D.Disk.is_clean (inner_of twice.disk)) → SaysOnce (A.Answers.says first)
-        (kept settings.now (D.Disk.seen disk)) (lines_of batches.now) (lines_of more.now) twice.told.items
+    ensures { IfOk result (λ twice. IsTrue (D.Disk.is_clean (inner_of twice.disk)) →
+        SaysOnce (A.Responder.says first)
+        (kept settings.now (D.Disk.seen disk)) (batch_lines batches.now) (batch_lines more.now)
+        twice.told.items
         (kept settings.now (D.Disk.seen (inner_of twice.disk)))) }
 {
     let mut told = Vec::new(alloc);

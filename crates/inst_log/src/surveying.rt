@@ -10,14 +10,17 @@ use crate::file_lines::FileLines;
 use sqlite_disk::Disk;
 use std::alloc::Global;
 
-/// Reads the disk's file, whatever a crash left of it, and returns how far its lines go. It takes the memory of a piece of
-/// 64 KiB and of the longest line.
+/// Reads the disk's file, whatever a crash left of it, and returns how far its lines go. It takes
+/// the memory of a piece of 64 KiB and of the longest line.
 pub fn survey<D: Disk>(alloc: Global, disk: &mut D) -> Result<Extent, LogError>
     requires usable { IsTrue (D.Disk.is_usable disk.old) }
-    ensures extent { IfOk result (λ extent. IsTrue (D.Disk.is_clean disk.new) → IsExtent (D.Disk.seen disk.old) extent) }
+    ensures extent { IfOk result (λ extent. IsTrue (D.Disk.is_clean disk.new) →
+        IsExtent (D.Disk.seen disk.old) extent) }
     ensures seen { D.Disk.seen disk.new ≡ D.Disk.seen disk.old }
     ensures crash { (c : List ℕ) → D.Disk.may_leave disk.new c → D.Disk.may_leave disk.old c }
-    ensures cause { MatchResult result (λ _. D.Disk.faults disk.new ≡ D.Disk.faults disk.old) (HasCause (IsTrue (D.Disk.is_clean disk.new)
+    ensures cause { MatchResult result (λ _.
+        D.Disk.faults disk.new
+        ≡ D.Disk.faults disk.old) (HasCause (IsTrue (D.Disk.is_clean disk.new)
         → MoreFaults (D.Disk.faults disk.old) (D.Disk.faults disk.new)) ⊤ ⊥) }
     ensures usable { IsTrue (D.Disk.is_usable disk.new) }
     ensures clean { IsTrue (D.Disk.is_clean disk.new) → IsTrue (D.Disk.is_clean disk.old) }

@@ -12,7 +12,8 @@ pub(crate) fn write_synced<D: Disk>(disk: &mut D, at: usize, bytes: &[u8]) -> io
     ensures written { OnOk result (Holds (D.Disk.seen disk.new) at bytes.now) }
     ensures others { Torn at (length bytes.now) (D.Disk.seen disk.old) (D.Disk.seen disk.new) }
     ensures durable { OnOk result (Only (D.Disk.seen disk.new) (D.Disk.may_leave disk.new)) }
-    ensures crash { Follows (Torn at (length bytes.now)) (D.Disk.may_leave disk.old) (D.Disk.may_leave disk.new) }
+    ensures crash { Follows (Torn at (length bytes.now)) (D.Disk.may_leave disk.old)
+        (D.Disk.may_leave disk.new) }
     // Where the disk leaves each byte old or new.
     ensures mixed { ((d : D) → IsTrue (D.Disk.is_mixing d)) → at + length bytes.now < 2 ^ 64
         → Follows (Mixed at bytes.now) (D.Disk.may_leave disk.old) (D.Disk.may_leave disk.new) }

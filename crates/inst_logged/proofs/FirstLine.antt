@@ -23,25 +23,25 @@ use Rattle.serde_json.proofs.OnLiterals.{serde_json_on_literals}
 use Rattle.inst_base.specs.declared.fault.Fault.{Fault}
 use Rattle.inst_base.specs.declared.fault.Fault.TheVariants.{NotJson}
 use Rattle.inst_base.specs.Text.{is_code, is_code_character}
-use Rattle.inst_base.proofs.Ascii.{IsAscii-from_each}
+use Rattle.inst_base.proofs.TextsAreAscii.{IsAscii-from_each}
 use Rattle.inst_settings.specs.Settings.{HubSettings}
 use Rattle.inst_settings.specs.Lawful.{AreOfAHub}
 use Rattle.inst_json.specs.Lines.{json_of}
 use Rattle.inst_json.specs.Replies.{items, members, whole}
-use Rattle.inst_json.proofs.Json.{json_of-value}
-use Rattle.inst_json.proofs.Plain.{escape-code}
-use Rattle.inst_json.proofs.Reading.{ReadsBack, from_parts}
+use Rattle.inst_json.proofs.LineAsJson.{json_of-value}
+use Rattle.inst_json.proofs.TextsWithoutEscapes.{escape-code}
+use Rattle.inst_json.proofs.ReplyReadsBack.{ReadsBack, from_parts}
 use Rattle.inst_base.specs.Newline.{newline, NoNewline}
 use Rattle.inst_books.specs.Laws.{is_printable}
-use Rattle.inst_books.proofs.Printable.{Printable, joined}
-use Rattle.inst_books.proofs.Back.{quiet}
+use Rattle.inst_books.proofs.EventLineIsPrintable.{Printable, joined}
+use Rattle.inst_books.proofs.WrittenEventReadsBack.{quiet}
 use Rattle.inst_lines.specs.declared.mode.Mode.{Mode}
 use Rattle.inst_lines.specs.declared.mode.Mode.TheVariants.{Run, Play}
 use Rattle.inst_logged.specs.declared.version.Version.{Version}
 use Rattle.inst_logged.specs.declared.version.Version.TheVariants.{One, Two}
-use Rattle.inst_logged.specs.Beginning.{IsHeaderLine}
-use Rattle.inst_logged.specs.Header.{header_line, version_word, field, books_field, mode_field, participants_field, mode_word, listed, comma_if, quoted}
-use Rattle.inst_logged.specs.inner.Beginning.{Says, number_of}
+use Rattle.inst_logged.specs.LogHeader.{IsHeaderLine}
+use Rattle.inst_logged.specs.Header.{header_line, version_word, field, books_field, mode_field, participants_field, mode_word, quoted_codes, comma_if, quoted}
+use Rattle.inst_logged.specs.inner.LogHeader.{Says, number_of}
 
 -- ---- the line as an object
 
@@ -82,12 +82,12 @@ header_says version mode s (Some count) = record {
 
 -- ---- its text
 
-listed_text : (later : Bool) (cs : List (List ℕ)) (tail : List ℕ) → list_all is_code cs ≡ true → listed later cs ++ 93 ∷ tail ≡ items_text later (items (map string cs)) ++ tail
+listed_text : (later : Bool) (cs : List (List ℕ)) (tail : List ℕ) → list_all is_code cs ≡ true → quoted_codes later cs ++ 93 ∷ tail ≡ items_text later (items (map string cs)) ++ tail
 listed_text later [] tail formed = refl
 listed_text later (c ∷ cs) tail formed =
     let parts = and_parts (is_code c) (list_all is_code cs) formed in
     let rest : List ℕ = items_text true (items (map string cs)) in
-    append_assoc (comma_if later ++ quoted c) (listed true cs) (93 ∷ tail)
+    append_assoc (comma_if later ++ quoted c) (quoted_codes true cs) (93 ∷ tail)
     ∙ ap (λ (l : List ℕ). (comma_if later ++ quoted c) ++ l) (listed_text true cs tail parts.1)
     ∙ ap (λ (l : List ℕ). (comma_if later ++ quoted l) ++ (rest ++ tail)) (sym (escape-code c parts.0))
     ∙ sym (append_assoc (comma_if later ++ quoted (escape c)) rest tail)
@@ -111,8 +111,8 @@ module _ (version : Version) (mode : Mode) (s : HubSettings) (formed : list_all 
   abbrev after_codes : List ℕ
   after_codes = codes ",\"places\":" ++ (decimal s.places ++ 44 ∷ version_word version)
 
-  codes_text : (listed false s.codes ++ 93 ∷ []) ++ after_codes ≡ items_text false (items (map string s.codes)) ++ after_codes
-  codes_text = append_assoc (listed false s.codes) (93 ∷ []) after_codes ∙ listed_text false s.codes after_codes formed
+  codes_text : (quoted_codes false s.codes ++ 93 ∷ []) ++ after_codes ≡ items_text false (items (map string s.codes)) ++ after_codes
+  codes_text = append_assoc (quoted_codes false s.codes) (93 ∷ []) after_codes ∙ listed_text false s.codes after_codes formed
 
   line_is : (books : Option ℕ) → header_line version mode s books ≡ compact_text (header_data version mode s books)
   unfolding serde_json_on_literals
@@ -283,16 +283,16 @@ printed_comma : (later : Bool) → Printable (comma_if later)
 printed_comma true = refl
 printed_comma false = refl
 
-printed_codes : (later : Bool) (cs : List (List ℕ)) → list_all is_code cs ≡ true → Printable (listed later cs)
+printed_codes : (later : Bool) (cs : List (List ℕ)) → list_all is_code cs ≡ true → Printable (quoted_codes later cs)
 printed_codes later [] formed = refl
 printed_codes later (c ∷ cs) formed =
     let parts = and_parts (is_code c) (list_all is_code cs) formed in
     let code : Printable c = each c (and_parts (length c == 8 || length c == 11) (list_all is_code_character c) parts.0).1 in
-    joined (comma_if later ++ quoted c) (listed true cs) (joined (comma_if later) (quoted c) (printed_comma later) (joined c (34 ∷ []) code refl)) (printed_codes true cs parts.1)
+    joined (comma_if later ++ quoted c) (quoted_codes true cs) (joined (comma_if later) (quoted c) (printed_comma later) (joined c (34 ∷ []) code refl)) (printed_codes true cs parts.1)
 
 printed_participants : (cs : List (List ℕ)) → list_all is_code cs ≡ true → Printable (participants_field cs)
 printed_participants cs formed =
-    joined (codes ",\"participants\":[" ++ listed false cs) (codes "]") (joined (codes ",\"participants\":[") (listed false cs) refl (printed_codes false cs formed)) refl
+    joined (codes ",\"participants\":[" ++ quoted_codes false cs) (codes "]") (joined (codes ",\"participants\":[") (quoted_codes false cs) refl (printed_codes false cs formed)) refl
 
 pub line_printed : (version : Version) (mode : Mode) (s : HubSettings) (books : Option ℕ) → list_all is_code s.codes ≡ true → Printable (header_line version mode s books)
 line_printed version mode s books formed =

@@ -1,20 +1,20 @@
-mod Alike
-mod Answering
-pub mod Behind
-pub mod Causes
-mod Coming
-mod Cutting
+mod LoggedLinesAnswerAlike
+mod AnswersToLogLines
+pub mod BooksBehindFirstLine
+pub mod CausesOfRefusal
+mod ProgressOfLoggedHub
+mod LinesFromPieces
 mod Debt
-mod Enough
-mod Examined
-mod Failing
+mod EnoughLinesForToldReplies
+mod CausesOfRefusalByCall
+mod FailuresOfLoggedHub
 mod FirstLine
-mod Intact
+mod MarksStayRight
 mod Headings
-mod Opened
-mod Intaking
-mod Measuring
-mod Running
-mod Telling
-mod Turning
-mod Written
+mod HubOpenedFromJournals
+mod BatchAfterRead
+mod DiskThatWasOnlyRead
+mod WholeRunOfLoggedHub
+mod HeadersTellSettings
+mod ReadBehindPartOfLine
+mod OpenableBooksCanBeWritten

@@ -13,8 +13,9 @@ use Rattle.inst_logged.specs.Refused.{IsRefused}
 abbrev pub Unrefused : {V : Type 0} → (V → Type 0) → Result V LoggedError → Type 0
 Unrefused P result = MatchResult result P (λ error. ¬ IsRefused error)
 
--- if the file begins as a log of such a hub does, the hub of this version and with these first lines is found, and the
--- log isn't refused
+-- if the file begins as a log of such a hub does, the hub of this version and with these first
+-- lines is found, and the log isn't refused
 abbrev pub FindsLog : Mode → HubSettings → List ℕ → Result NewHub LoggedError → Type 0
-FindsLog mode s file result = (version : Version) (first : List ℕ) → AreFirstLines version mode s first → Begins first file
+FindsLog mode s file result =
+    (version : Version) (first : List ℕ) → AreFirstLines version mode s first → Begins first file
     → Unrefused (λ hub. (hub.version ≡ version) × (hub.heading.batch.items ≡ first)) result

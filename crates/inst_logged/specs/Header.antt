@@ -1,5 +1,7 @@
--- With which line a log begins: the settings of its hub, and what its lines stand for. This hub's own choice.
-use Rattle.std.specs.Prelude.{◌≡◌, ◌⊎◌, ◌<◌, ◌^◌, ℕ, Bool, true, false, List, [], ◌∷◌, ◌++◌, length, Option, None, Some, codes, decimal, if◌then◌else◌}
+-- With which line a log begins: the settings of its hub, and what its lines stand for. This hub's
+-- own choice.
+use Rattle.std.specs.Prelude.{◌≡◌, ◌⊎◌, ◌<◌, ◌^◌, ℕ, Bool, true, false, List, [], ◌∷◌, ◌++◌, length}
+use Rattle.std.specs.Prelude.{Option, None, Some, codes, decimal, if◌then◌else◌}
 use Rattle.inst_settings.specs.Settings.{HubSettings}
 use Rattle.inst_settings.specs.Lawful.{AreOfAHub}
 use Rattle.inst_lines.specs.declared.mode.Mode.{Mode}
@@ -8,7 +10,7 @@ use Rattle.inst_journal.specs.History.{History}
 use Rattle.inst_world.specs.NextOpening.{CanOpenFrom}
 use Rattle.inst_books.specs.Books.{all_events, books_text}
 use Rattle.inst_books.specs.Laws.{AreBooksOf}
-use Rattle.inst_log.specs.Layout.{recovered, blocks, at_rest}
+use Rattle.inst_log.specs.Layout.{recovered_lines, blocks, at_rest}
 use Rattle.inst_log.specs.Escape.{raw_of}
 use Rattle.inst_chain.specs.Chain.{mark_of}
 use Rattle.inst_logged.specs.declared.version.Version.{Version}
@@ -27,10 +29,11 @@ quoted code = 34 ∷ (code ++ 34 ∷ [])
 abbrev pub comma_if : Bool → List ℕ
 comma_if later = if later then 44 ∷ [] else []
 
--- the codes, each between quotes, with commas between them, and one before the first if others stand before it
-abbrev pub listed : Bool → List (List ℕ) → List ℕ
-listed later [] = []
-listed later (code ∷ codes) = comma_if later ++ quoted code ++ listed true codes
+-- the codes, each between quotes, with commas between them, and one before the first if others
+-- stand before it
+abbrev pub quoted_codes : Bool → List (List ℕ) → List ℕ
+quoted_codes later [] = []
+quoted_codes later (code ∷ codes) = comma_if later ++ quoted code ++ quoted_codes true codes
 
 -- a name, with what stands before it, and a number
 abbrev pub field : List ℕ → ℕ → List ℕ
@@ -42,7 +45,8 @@ mode_field mode = codes ",\"log\":\"" ++ mode_word mode ++ codes "\""
 
 -- the participants, with their name
 abbrev pub participants_field : List (List ℕ) → List ℕ
-participants_field participants = codes ",\"participants\":[" ++ listed false participants ++ codes "]"
+participants_field participants =
+    codes ",\"participants\":[" ++ quoted_codes false participants ++ codes "]"
 
 -- how many lines of books stand behind the settings, with its name, where the hub opened from books
 abbrev pub books_field : Option ℕ → List ℕ
@@ -54,47 +58,58 @@ abbrev pub version_word : Version → List ℕ
 version_word One = codes "\"version\":1}"
 version_word Two = codes "\"version\":2}"
 
--- the settings and what the lines stand for, as a line of compact JSON, its keys in the order of their bytes
+-- the settings and what the lines stand for, as a line of compact JSON, its keys in the order of
+-- their bytes
 abbrev pub header_line : Version → Mode → HubSettings → Option ℕ → List ℕ
 header_line version mode s books =
-    field (codes "{\"ahead\":") s.ahead ++ field (codes ",\"base\":") s.base ++ books_field books ++ field (codes ",\"ceiling\":") s.ceiling
-    ++ field (codes ",\"fundings\":") s.fundings ++ field (codes ",\"limit\":") s.limit ++ mode_field mode
-    ++ field (codes ",\"margin\":") s.margin ++ participants_field s.codes ++ field (codes ",\"places\":") s.places
+    field (codes "{\"ahead\":") s.ahead ++ field (codes ",\"base\":") s.base ++ books_field books
+    ++ field (codes ",\"ceiling\":") s.ceiling
+    ++ field (codes ",\"fundings\":") s.fundings ++ field (codes ",\"limit\":") s.limit
+    ++ mode_field mode
+    ++ field (codes ",\"margin\":") s.margin ++ participants_field s.codes
+    ++ field (codes ",\"places\":") s.places
     ++ 44 ∷ version_word version
 
 -- lines, with their mark behind them where the log has marks
-abbrev pub marked : Version → List (List ℕ) → List (List ℕ)
-marked One lines = lines
-marked Two lines = lines ++ mark_of (blocks lines) ∷ []
+abbrev pub lines_and_mark : Version → List (List ℕ) → List (List ℕ)
+lines_and_mark One lines = lines
+lines_and_mark Two lines = lines ++ mark_of (blocks lines) ∷ []
 
 -- the first batch of a log
 unfoldable pub header : Version → Mode → HubSettings → List ℕ
-header version mode s = at_rest (marked version (raw_of (header_line version mode s None) ∷ []))
+header version mode s =
+    at_rest (lines_and_mark version (raw_of (header_line version mode s None) ∷ []))
 
 -- the lines of the books of these journals
 abbrev pub lines_of_books : HubSettings → List History → List (List ℕ)
-lines_of_books s journals = recovered (books_text s (all_events journals))
+lines_of_books s journals = recovered_lines (books_text s (all_events journals))
 
--- the first batch of a log of a hub that opened again from these journals: its settings, and a line for each event of its
--- books
+-- the first batch of a log of a hub that opened again from these journals: its settings, and a line
+-- for each event of its books
 unfoldable pub header_from : Version → Mode → HubSettings → List History → List ℕ
 header_from version mode s journals =
-    let books = lines_of_books s journals in at_rest (marked version (raw_of (header_line version mode s (Some (length books))) ∷ books))
+    let books =
+    lines_of_books s journals in
+    at_rest (lines_and_mark version (raw_of (header_line version mode s (Some (length books)))
+    ∷ books))
 
--- A hub of these settings can open from the journals, and a log can have their books: each event has its form, and the
--- lines fit in memory.
+-- A hub of these settings can open from the journals, and a log can have their books: each event
+-- has its form, and the lines fit in memory.
 pub record CanBeginFrom (s : HubSettings) (journals : List History) : Type 0 where
   pub can : CanOpenFrom s journals
   pub books : AreBooksOf s (all_events journals)
   pub few : length (lines_of_books s journals) < 2 ^ 63
 
--- The first lines of a log of a hub that can have these settings: it opened for the first time, or from journals.
+-- The first lines of a log of a hub that can have these settings: it opened for the first time, or
+-- from journals.
 abbrev pub AreFirstLines : Version → Mode → HubSettings → List ℕ → Type 0
 AreFirstLines version mode s first =
     (AreOfAHub s × (first ≡ header version mode s))
-    ⊎ ((journals : List History) × CanBeginFrom s journals × (first ≡ header_from version mode s journals))
+    ⊎ ((journals : List History) × CanBeginFrom s journals
+    × (first ≡ header_from version mode s journals))
 
 -- logs that begin alike are of hubs with the same settings, and their lines stand for the same
 abbrev pub HeadersTellTheirSettings : Type 0
-HeadersTellTheirSettings = (version : Version) (mode other : Mode) (s t : HubSettings) → AreOfAHub s → AreOfAHub t →
+HeadersTellTheirSettings =
+    (version : Version) (mode other : Mode) (s t : HubSettings) → AreOfAHub s → AreOfAHub t →
     header version mode s ≡ header version other t → (mode ≡ other) × (s ≡ t)

@@ -2,7 +2,7 @@
 pub mod Answering
 pub mod LineAnswers
 pub mod Header
-pub mod Beginning
+pub mod LogHeader
 pub mod Finding
 pub mod Input
 pub mod Intake

@@ -1,5 +1,5 @@
--- What a hub with a log leaves on the disk and hands to the writer, whatever moment a crash comes at. This hub's own
--- choice.
+-- What a hub with a log leaves on the disk and hands to the writer, whatever moment a crash comes
+-- at. This hub's own choice.
 use Rattle.std.specs.Prelude.{◌≡◌, ◌⊎◌, ℕ, List, [], ◌++◌, map, length, take, drop, Option}
 use Rattle.std.specs.Io.KnownBytes.{Appends, Consumes, IsAtEnd}
 use Rattle.inst_lines.specs.declared.mode.Mode.{Mode}
@@ -8,7 +8,7 @@ use Rattle.inst_settings.specs.Settings.{HubSettings}
 use Rattle.inst_journal.specs.History.{History}
 use Rattle.inst_world.specs.NextOpening.{CanOpenFrom}
 use Rattle.inst_world.specs.Headline.{KeepsTheHeadline}
-use Rattle.inst_lines.specs.Answering.{Past, opened}
+use Rattle.inst_lines.specs.Answering.{HubPast, opened}
 use Rattle.inst_lines.specs.Headline.{run_through}
 use Rattle.inst_log.specs.Layout.{IsBatch}
 use Rattle.inst_log.specs.Opening.{kept, Begins}
@@ -18,61 +18,73 @@ use Rattle.inst_chain.specs.declared.marker.Marker.{Marker}
 use Rattle.inst_logged.specs.declared.version.Version.{Version}
 use Rattle.inst_logged.specs.Marking.{BeginsBy}
 use Rattle.inst_logged.specs.Header.{header, header_from}
-use Rattle.inst_logged.specs.Answering.{replies_at, past_after, opened_from, told_of}
+use Rattle.inst_logged.specs.Answering.{replies_at, past_after, opened_from, told_count}
 use Rattle.inst_logged.specs.LineAnswers.{HasOpened}
-use Rattle.inst_logged.specs.Input.{logged}
+use Rattle.inst_logged.specs.Input.{logged_line}
 use Rattle.inst_logged.specs.Intake.{held}
 use Rattle.inst_logged.specs.declared.line_answers.LineAnswers.{LineAnswers}
 use Rattle.inst_logged.specs.declared.intake.Intake.{Intake}
 
--- what is owed for lines behind the first ones of a log, at a hub that had gone through this before the first: all
--- replies but those to the lines that have been told
-abbrev pub owed : Mode → Past → List (List ℕ) → ℕ → Replies
-owed mode past first told lines =
+-- what is owed for lines behind the first ones of a log, at a hub that had gone through this before
+-- the first: all replies but those to the lines that have been told
+abbrev pub unsent_replies_at : Mode → HubPast → List (List ℕ) → ℕ → Replies
+unsent_replies_at mode past first told lines =
     drop (length (replies_at mode past (take told first))) (replies_at mode past (first ++ lines))
 
 -- these replies and no others
-abbrev pub Are : Replies → Replies → Type 0
-Are these replies = (lines : List (List ℕ)) → replies lines ≡ these lines
+abbrev pub AreReplies : Replies → Replies → Type 0
+AreReplies these replies = (lines : List (List ℕ)) → replies lines ≡ these lines
 
--- these may be the first lines of a log of this version, this makes its next mark, and no other line was read
-pub record IsUnbegun (version : Version) (header : List ℕ) (marker : Marker) (intake : Intake) : Type 0 where
+-- these may be the first lines of a log of this version, this makes its next mark, and no other
+-- line was read
+pub record IsUnbegun (version : Version) (header : List ℕ) (marker : Marker) (intake : Intake) :
+    Type 0 where
   pub batch : IsBatch header
   pub begins : BeginsBy version header marker
   pub nothing : held intake ≡ []
 
--- A hub of these settings began for the first time, or from journals that it can open from, and a log of its lines begins
--- so.
+-- A hub of these settings began for the first time, or from journals that it can open from, and a
+-- log of its lines begins so.
 abbrev pub HasBegun : Version → Mode → HubSettings → List ℕ → LineAnswers → Type 0
 HasBegun version mode s first answers =
     (HasOpened mode (opened s) answers × (first ≡ header version mode s))
-    ⊎ ((journals : List History) × CanOpenFrom s journals × HasOpened mode (opened_from s journals) answers
+    ⊎ ((journals : List History) × CanOpenFrom s journals
+    × HasOpened mode (opened_from s journals) answers
     × (first ≡ header_from version mode s journals))
 
 -- The lines of these bytes: those that end there, or all of them, where the input is at its end.
 abbrev pub AreLinesOf : List ℕ → Option (List ℕ) → List (List ℕ) → Type 0
-AreLinesOf bytes left lines = (lines ≡ whole_lines_of bytes) ⊎ (IsAtEnd left × (lines ≡ lines_of bytes))
+AreLinesOf bytes left lines =
+    (lines ≡ whole_lines_of bytes) ⊎ (IsAtEnd left × (lines ≡ lines_of bytes))
 
--- All that the reader had left is in the log, behind the lines that were there, and what was owed was handed out. Lines are
--- those without marks.
--- headline: the run that all lines of the log stand for keeps it
-pub record HasLogged (mode : Mode) (past : Past) (header : List ℕ) (told : Option ℕ) (old new : List ℕ) (left left' before after : Option (List ℕ)) : Type 0 where
+-- All that the reader had left is in the log, behind the lines that were there, and what was owed
+-- was handed out. Lines are those without marks. headline: the run that all lines of the log stand
+-- for keeps it
+pub record HasLogged (mode : Mode) (past : HubPast) (header : List ℕ) (told : Option ℕ)
+    (old new : List ℕ) (left left' before after : Option (List ℕ)) : Type 0 where
   pub bytes : List ℕ
   pub consumes : Consumes left left' bytes
   pub at_end : IsAtEnd left'
   pub begins : Begins header new
-  pub lines : kept_said header new ≡ kept_said header old ++ map logged (lines_of bytes)
-  pub replies : Appends before after (owed mode past (kept_said header old) (told_of told (kept_said header old)) (map logged (lines_of bytes)))
-  pub headline : KeepsTheHeadline past.settings (run_through (past_after mode past (kept header new)))
+  pub lines : kept_said header new ≡ kept_said header old ++ map logged_line (lines_of bytes)
+  pub replies : Appends before after
+      (unsent_replies_at mode past (kept_said header old) (told_count told (kept_said header old))
+      (map logged_line (lines_of bytes)))
+  pub headline : KeepsTheHeadline past.settings
+      (run_through (past_after mode past (kept header new)))
 
--- Some bytes were read. Each file that a crash may leave has the lines that were in the log and then a front of those
--- read, none skipped and none in part, and all that was handed to the writer is a front of what is owed for these.
-pub record SurvivesACrash (mode : Mode) (past : Past) (header : List ℕ) (told : Option ℕ) (old : List ℕ) (may_leave : List ℕ → Type 0)
+-- Some bytes were read. Each file that a crash may leave has the lines that were in the log and
+-- then a front of those read, none skipped and none in part, and all that was handed to the writer
+-- is a front of what is owed for these.
+pub record SurvivesACrash (mode : Mode) (past : HubPast) (header : List ℕ) (told : Option ℕ)
+    (old : List ℕ) (may_leave : List ℕ → Type 0)
     (left left' before after : Option (List ℕ)) : Type 0 where
   pub bytes : List ℕ
   pub consumes : Consumes left left' bytes
   pub lines : List (List ℕ)
   pub lines_are : AreLinesOf bytes left' lines
   pub kept : TellsKept (kept_said header) may_leave
-      (Are (owed mode past (kept_said header old) (told_of told (kept_said header old))))
-      (kept_said header old) (map logged lines) before after
+      (AreReplies
+      (unsent_replies_at mode past (kept_said header old)
+      (told_count told (kept_said header old))))
+      (kept_said header old) (map logged_line lines) before after

@@ -1,6 +1,6 @@
 -- What a log's marks are right by. A log of version 1 has none, so nothing is said of it.
 use Rattle.std.specs.Prelude.{◌≡◌, List, ℕ}
-use Rattle.inst_log.specs.Layout.{recovered, IsShut}
+use Rattle.inst_log.specs.Layout.{recovered_lines, IsShut}
 use Rattle.inst_chain.specs.Chain.{IsChain, IsTaken}
 use Rattle.inst_chain.specs.Verifying.{SealedBy}
 use Rattle.inst_chain.specs.declared.marker.Marker.{Marker}
@@ -19,8 +19,10 @@ IsIntactBy Two file marker = SealedBy file marker
 
 -- a log that has just these lines has right marks, and this makes the next one
 pub record IsFirst (header : List ℕ) (marker : Marker) : Type 0 where
-  pub chain : (file : List ℕ) → recovered file ≡ recovered header → IsChain (recovered file)
-  pub sealed : (file : List ℕ) → recovered file ≡ recovered header → IsShut file → SealedBy file marker
+  pub chain : (file : List ℕ) → recovered_lines file ≡ recovered_lines header →
+      IsChain (recovered_lines file)
+  pub sealed : (file : List ℕ) → recovered_lines file ≡ recovered_lines header → IsShut file →
+      SealedBy file marker
 
 abbrev pub BeginsBy : Version → List ℕ → Marker → Type 0
 BeginsBy One header marker = Unit {0}

@@ -1,14 +1,17 @@
 -- A hub before it has the disk of its log.
 use Rattle.std.specs.Prelude.{◌≡◌, ℕ, List}
 use Rattle.inst_lines.specs.declared.mode.Mode.{Mode}
-use Rattle.inst_lines.specs.Answering.{Past}
+use Rattle.inst_lines.specs.Answering.{HubPast}
 use Rattle.inst_logged.specs.LineAnswers.{HasOpened}
 use Rattle.inst_logged.specs.Logged.{IsUnbegun}
 use Rattle.inst_logged.specs.declared.version.Version.{Version}
 use Rattle.inst_logged.specs.declared.hub.new_hub.NewHub.{NewHub}
 
--- a hub has gone through this, its lines stand for this, it has answered nothing, and its log of this version begins so
-pub record IsNewHub (version : Version) (mode : Mode) (past : Past) (first : List ℕ) (hub : NewHub) : Type 0 where
+-- a hub has gone through this, its lines stand for this, it has answered nothing, and its log of
+-- this version begins so
+pub record IsNewHub (version : Version) (mode : Mode) (past : HubPast) (first : List ℕ)
+    (hub : NewHub)
+    : Type 0 where
   pub version_is : hub.version ≡ version
   pub opened : HasOpened mode past hub.answers
   pub first_is : hub.heading.batch.items ≡ first

@@ -1,11 +1,11 @@
--- What the opening, a run and the closing of a hub with a log leave. What is said of a log is said where its disk has kept
--- faith: no wrong answer of it was taken as true. This hub's own choice.
+-- What the opening, a run and the closing of a hub with a log leave. What is said of a log is said
+-- where its disk has kept faith: no wrong answer of it was taken as true. This hub's own choice.
 use Rattle.std.specs.Prelude.{◌≡◌, ◌⊎◌, ◌≤◌, ◌-◌, ◌^◌, ◌++◌, ℕ, List, length, Option, None, IsTrue}
 use Rattle.std.specs.Io.KnownBytes.{Consumes}
 use Rattle.sqlite_disk.specs.Disk.{Only, MoreFaults}
 use Rattle.sqlite_disk.specs.declared.Disk.{Ghosts}
-use Rattle.inst_lines.specs.Answering.{Past, Keeps}
-use Rattle.inst_log.specs.Layout.{recovered, blocks}
+use Rattle.inst_lines.specs.Answering.{HubPast, Keeps}
+use Rattle.inst_log.specs.Layout.{recovered_lines, blocks}
 use Rattle.inst_log.specs.Log.{IsSettled}
 use Rattle.inst_log.specs.Opening.{kept, Begins, Opens, OpensAlike, IsSameOrBegun}
 use Rattle.inst_chain.specs.declared.digest.Digest.{Digest}
@@ -22,17 +22,19 @@ abbrev pub HasKeptFaith : {D : Type 0} → Ghosts D → D → Type 0
 HasKeptFaith disks disk = IsTrue (disks.is_clean disk)
 
 -- a disk's file is as it was, and a crash leaves nothing of it that it couldn't leave before
-pub record IsLeft {D : Type 0} (disks : Ghosts D) (old new : D) : Type 0 where
+pub record HasSameFile {D : Type 0} (disks : Ghosts D) (old new : D) : Type 0 where
   pub same : disks.seen new ≡ disks.seen old
   pub crash : (c : List ℕ) → disks.may_leave new c → disks.may_leave old c
 
--- A disk was only read: its file is as it was, it can be used on, and if it has kept faith it had before.
+-- A disk was only read: its file is as it was, it can be used on, and if it has kept faith it had
+-- before.
 pub record IsOnlyRead {D : Type 0} (disks : Ghosts D) (old new : D) : Type 0 where
-  pub left : IsLeft disks old new
+  pub left : HasSameFile disks old new
   pub usable : IsTrue (disks.is_usable new)
   pub clean : HasKeptFaith disks new → HasKeptFaith disks old
 
--- a disk as a log is opened on it: it can be used, and what is read of it is what is on it, as after a restart
+-- a disk as a log is opened on it: it can be used, and what is read of it is what is on it, as
+-- after a restart
 pub record IsJustOpened {D : Type 0} (disks : Ghosts D) (disk : D) : Type 0 where
   pub usable : IsTrue (disks.is_usable disk)
   pub known : HasKeptFaith disks disk → Only (disks.seen disk) (disks.may_leave disk)
@@ -45,65 +47,90 @@ abbrev pub file_of : {D : Type 0} → Ghosts D → LoggedHub D → List ℕ
 file_of disks hub = disks.seen (disk_of hub)
 
 -- a hub has gone through this
-abbrev pub HasGone : {D : Type 0} → LoggedHub D → Past → Type 0
+abbrev pub HasGone : {D : Type 0} → LoggedHub D → HubPast → Type 0
 HasGone hub past = Keeps hub.recorder.answers.mode past hub.recorder.answers.runner
 
 -- it has answered nothing, and what is read of its disk is what is on it, as after a restart
-pub record IsReady {D : Type 0} (disks : Ghosts D) (hub : LoggedHub D) : Type 0 where
+pub record IsReadyHub {D : Type 0} (disks : Ghosts D) (hub : LoggedHub D) : Type 0 where
   pub unbegun : IsUnbegun hub.version hub.header.items hub.marker hub.intake
   pub usable : IsTrue (disks.is_usable (disk_of hub))
-  pub known : HasKeptFaith disks (disk_of hub) → Only (file_of disks hub) (disks.may_leave (disk_of hub))
+  pub known : HasKeptFaith disks (disk_of hub) →
+      Only (file_of disks hub) (disks.may_leave (disk_of hub))
 
 -- its log is one that it takes
 abbrev pub Takes : {D : Type 0} → Ghosts D → LoggedHub D → Option ℕ → Option Digest → Type 0
 Takes disks hub told wanted = IsTaken hub.version hub.header.items told wanted (file_of disks hub)
 
--- It took the log, and answered all that the reader had left. All is synced, and the log's marks are right.
-pub record RunsThrough {D : Type 0} (disks : Ghosts D) (told : Option ℕ) (wanted : Option Digest) (old new : LoggedHub D) (t : Streams) : Type 0 where
+-- It took the log, and answered all that the reader had left. All is synced, and the log's marks
+-- are right.
+pub record RunsThrough {D : Type 0} (disks : Ghosts D) (told : Option ℕ) (wanted : Option Digest)
+    (old new : LoggedHub D) (t : Streams) : Type 0 where
   pub taken : Takes disks old told wanted
-  pub logged : (past : Past) → HasGone old past
-      → HasLogged old.recorder.answers.mode past old.header.items told (file_of disks old) (file_of disks new) t.left t.left' t.held t.held'
+  pub logged : (past : HubPast) → HasGone old past
+      → HasLogged old.recorder.answers.mode past old.header.items told (file_of disks old)
+      (file_of disks new) t.left t.left' t.held t.held'
   pub settled : IsSettled disks.seen disks.may_leave new.recorder.log
   pub intact : IsIntact old.version (file_of disks new)
 
--- What a crash may leave, at any moment: the lines that were there and a front of those read, in a log that begins so if it
--- did, and opens again. Where the disk leaves each byte of a write old or new, it is never called damaged.
-pub record IsKept {D : Type 0} (disks : Ghosts D) (told : Option ℕ) (old new : LoggedHub D) (t : Streams) : Type 0 where
-  pub survives : (past : Past) → HasGone old past
-      → SurvivesACrash old.recorder.answers.mode past old.header.items told (file_of disks old) (disks.may_leave (disk_of new)) t.left t.left' t.held t.held'
-  pub begins : Begins old.header.items (file_of disks old) → (c : List ℕ) → disks.may_leave (disk_of new) c → Begins old.header.items c
-  pub opens : Opens old.header.items (file_of disks old) → (c : List ℕ) → disks.may_leave (disk_of new) c → Opens old.header.items c
+-- What a crash may leave, at any moment: the lines that were there and a front of those read, in a
+-- log that begins so if it did, and opens again. Where the disk leaves each byte of a write old or
+-- new, it is never called damaged.
+pub record SurvivesEachCrash {D : Type 0} (disks : Ghosts D) (told : Option ℕ)
+    (old new : LoggedHub D)
+    (t : Streams) : Type 0 where
+  pub survives : (past : HubPast) → HasGone old past
+      → SurvivesACrash old.recorder.answers.mode past old.header.items told (file_of disks old)
+      (disks.may_leave (disk_of new)) t.left t.left' t.held t.held'
+  pub begins : Begins old.header.items (file_of disks old) → (c : List ℕ) →
+      disks.may_leave (disk_of new) c → Begins old.header.items c
+  pub opens : Opens old.header.items (file_of disks old) → (c : List ℕ) →
+      disks.may_leave (disk_of new) c → Opens old.header.items c
   pub intact : ((d : D) → IsTrue (disks.is_mixing d)) → IsIntact old.version (file_of disks old)
       → (c : List ℕ) → disks.may_leave (disk_of new) c → IsIntact old.version c
 
--- What a crash may leave while a log is opened: the very lines that were there, or where there were none, the first ones.
+-- What a crash may leave while a log is opened: the very lines that were there, or where there were
+-- none, the first ones.
 pub record StaysAlike {D : Type 0} (disks : Ghosts D) (old new : LoggedHub D) : Type 0 where
-  pub alike : (c : List ℕ) → disks.may_leave (disk_of new) c → OpensAlike old.header.items (file_of disks old) c
-  pub stands : (c : List ℕ) → disks.may_leave (disk_of new) c → IsSameOrBegun old.header.items (file_of disks old) c
+  pub alike : (c : List ℕ) → disks.may_leave (disk_of new) c →
+      OpensAlike old.header.items (file_of disks old) c
+  pub stands : (c : List ℕ) → disks.may_leave (disk_of new) c →
+      IsSameOrBegun old.header.items (file_of disks old) c
   pub intact : ((d : D) → IsTrue (disks.is_mixing d)) → IsIntact old.version (file_of disks old)
       → (c : List ℕ) → disks.may_leave (disk_of new) c → IsIntact old.version c
 
--- a run has no room: the lines of its log have 2^62 bytes or more, or as many bytes were read as a run has turns
-abbrev pub HasNoRoom : {D : Type 0} → Ghosts D → LoggedHub D → Option (List ℕ) → Option (List ℕ) → Type 0
-HasNoRoom disks hub left left' = (2 ^ 62 ≤ length (blocks (recovered (file_of disks hub))))
+-- a run has no room: the lines of its log have 2^62 bytes or more, or as many bytes were read as a
+-- run has turns
+abbrev pub HasNoRoom : {D : Type 0} → Ghosts D → LoggedHub D → Option (List ℕ) → Option (List ℕ) →
+    Type 0
+HasNoRoom disks hub left left' = (2 ^ 62 ≤ length (blocks (recovered_lines (file_of disks hub))))
     ⊎ ((bytes : List ℕ) × Consumes left left' bytes × (2 ^ 64 - 1 ≤ length bytes))
 
--- It ended by this error. Nothing was done, or the log was one that it takes; nothing was done if the log is refused. The
--- log failed only where the disk did or there was no room; where the replies could not be written it is as it was or synced.
--- still: nothing was read, and nothing handed out
-pub record StopsBy {D : Type 0} (disks : Ghosts D) (told : Option ℕ) (wanted : Option Digest) (old new : LoggedHub D) (still no_room : Type 0)
+-- It ended by this error. Nothing was done, or the log was one that it takes; nothing was done if
+-- the log is refused. The log failed only where the disk did or there was no room; where the
+-- replies could not be written it is as it was or synced. still: nothing was read, and nothing
+-- handed out
+pub record StopsBy {D : Type 0} (disks : Ghosts D) (told : Option ℕ) (wanted : Option Digest)
+    (old new : LoggedHub D) (still no_room : Type 0)
     (error : LoggedError) : Type 0 where
-  pub refused : IsRefused error → still × IsLeft disks (disk_of old) (disk_of new)
-  pub begun : HasKeptFaith disks (disk_of new) → (still × IsLeft disks (disk_of old) (disk_of new)) ⊎ Takes disks old told wanted
-  pub cause : HasKeptFaith disks (disk_of new) → IsCause old.version old.header.items told wanted (file_of disks old) error
-  pub failure : HasKeptFaith disks (disk_of new) → HasFailed (MoreFaults (disks.faults (disk_of old)) (disks.faults (disk_of new))) no_room
-      (IsSettled disks.seen disks.may_leave new.recorder.log ⊎ IsLeft disks (disk_of old) (disk_of new)) error
+  pub refused : IsRefused error → still × HasSameFile disks (disk_of old) (disk_of new)
+  pub begun : HasKeptFaith disks (disk_of new) →
+      (still × HasSameFile disks (disk_of old) (disk_of new)) ⊎ Takes disks old told wanted
+  pub cause : HasKeptFaith disks (disk_of new) →
+      IsCause old.version old.header.items told wanted (file_of disks old) error
+  pub failure : HasKeptFaith disks (disk_of new) →
+      HasFailed (MoreFaults (disks.faults (disk_of old)) (disks.faults (disk_of new))) no_room
+      (IsSettled disks.seen disks.may_leave new.recorder.log
+      ⊎ HasSameFile disks (disk_of old) (disk_of new)) error
 
 -- It took the log, which has the lines that it had, and has answered these again.
-pub record OpensAgain {D : Type 0} (disks : Ghosts D) (wanted : Option Digest) (old new : LoggedHub D) : Type 0 where
+pub record OpensAgain {D : Type 0} (disks : Ghosts D) (wanted : Option Digest)
+    (old new : LoggedHub D) : Type 0 where
   pub taken : Takes disks old None wanted
-  pub state : (past : Past) → HasGone old past
-      → Keeps old.recorder.answers.mode (past_after old.recorder.answers.mode past (kept old.header.items (file_of disks old))) new.recorder.answers.runner
+  pub state : (past : HubPast) → HasGone old past
+      → Keeps old.recorder.answers.mode
+      (past_after old.recorder.answers.mode past (kept old.header.items (file_of disks old)))
+      new.recorder.answers.runner
   pub settled : IsSettled disks.seen disks.may_leave new.recorder.log
-  pub lines : recovered (file_of disks new) ≡ recovered old.header.items ++ kept old.header.items (file_of disks old)
+  pub lines : recovered_lines (file_of disks new)
+      ≡ recovered_lines old.header.items ++ kept old.header.items (file_of disks old)
   pub intact : IsIntact old.version (file_of disks new)

@@ -1,4 +1,5 @@
--- The streams of a run: the reader of its lines and the writer of its replies. This hub's own choice.
+-- The streams of a run: the reader of its lines and the writer of its replies. This hub's own
+-- choice.
 use Rattle.std.specs.Prelude.{◌≡◌, ℕ, List, Option}
 use Rattle.std.specs.declared.io.Read.{Ghosts as ReadGhosts}
 use Rattle.std.specs.declared.io.Write.{Ghosts as WriteGhosts}

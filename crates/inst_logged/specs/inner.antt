@@ -1,5 +1,5 @@
 pub mod Answering
-pub mod Beginning
+pub mod LogHeader
 pub mod Books
 pub mod Errors
 pub mod Failing

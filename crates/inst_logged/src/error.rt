@@ -27,7 +27,8 @@ pub enum LoggedError {
     /// The log has no mark with the digest that was asked for. It was left as it is.
     #[error("the log doesn't have the digest")]
     OtherDigest,
-    /// The log's file hasn't the size that the hub left: another program truncated it or wrote to it.
+    /// The log's file hasn't the size that the hub left: another program truncated it or wrote to
+    /// it.
     #[error("the log was changed by another program")]
     Changed,
 }

@@ -1,14 +1,18 @@
 //! The line with which a log begins.
-ghost use Rattle.std.specs.Prelude.{◌≡◌, ◌<◌, ◌++◌, ◌∷◌, length, [], true, false, nat_lt, IfOk, OnOk, string_bytes};
+ghost use Rattle.std.specs.Prelude.{◌≡◌, ◌<◌, ◌++◌, ◌∷◌, length, [], true, false, nat_lt, IfOk};
+ghost use Rattle.std.specs.Prelude.{OnOk, string_bytes};
 ghost use Rattle.inst_settings.specs.Settings.{is_participant};
 ghost use Rattle.inst_settings.specs.Lawful.{IsSettings};
 ghost use Rattle.inst_command.specs.LineText.{code_numbered};
-ghost use Rattle.inst_log.specs.Layout.{recovered, at_rest, IsBatch, IsWhole};
+ghost use Rattle.inst_log.specs.Layout.{recovered_lines, at_rest, IsBatch, AreWholeLines};
 ghost use Rattle.inst_log.specs.Escape.{raw_of};
 ghost use Rattle.inst_world.specs.NextOpening.{CanOpenFrom};
 ghost use Rattle.inst_chain.specs.Chain.{HasNoMark};
 ghost use Rattle.inst_logged.specs.Marking.{BeginsBy};
-ghost use Rattle.inst_logged.specs.Header.{marked, header, header_from, CanBeginFrom, header_line, books_field, field, mode_field, participants_field, mode_word, version_word, listed, comma_if, quoted};
+ghost use Rattle.inst_logged.specs.Header.{lines_and_mark, header, header_from, CanBeginFrom};
+ghost use Rattle.inst_logged.specs.Header.{header_line};
+ghost use Rattle.inst_logged.specs.Header.{books_field, field, mode_field, participants_field};
+ghost use Rattle.inst_logged.specs.Header.{mode_word, version_word, quoted_codes, comma_if, quoted};
 
 use crate::Version;
 use inst_base::find_newline;
@@ -28,7 +32,8 @@ pub struct Heading {
     pub marker: Marker,
 }
 
-/// Returns the first lines of a log of such a hub: one line, with its settings and what its lines stand for.
+/// Returns the first lines of a log of such a hub: one line, with its settings and what its lines
+/// stand for.
 pub fn first_batch(
     alloc: Global,
     version: Version,
@@ -36,15 +41,16 @@ pub fn first_batch(
     settings: &Settings,
 ) -> Result<Heading, AllocError>
     ensures batch { IfOk result (λ heading. IsBatch heading.batch.items) }
-    ensures items { IfOk result (λ heading. heading.batch.items ≡ header version mode settings.now) }
+    ensures items { IfOk result (λ heading.
+        heading.batch.items ≡ header version mode settings.now) }
     ensures marker { IfOk result (λ heading. BeginsBy version heading.batch.items heading.marker) }
 {
     let lines = settings_line(alloc, version, mode, settings, None)?;
     close_heading(version, lines)
 }
 
-/// Returns the first lines of a log of a hub that opened again from these journals, one for each participant by number:
-/// the line of its settings, and a line for each event of its books.
+/// Returns the first lines of a log of a hub that opened again from these journals, one for each
+/// participant by number: the line of its settings, and a line for each event of its books.
 pub fn first_batch_from(
     alloc: Global,
     version: Version,
@@ -54,10 +60,12 @@ pub fn first_batch_from(
 ) -> Result<Heading, AllocError>
     requires { CanOpenFrom settings.now journals.now }
     ensures batch { IfOk result (λ heading. IsBatch heading.batch.items) }
-    ensures items { IfOk result (λ heading. heading.batch.items ≡ header_from version mode settings.now journals.now) }
+    ensures items { IfOk result (λ heading.
+        heading.batch.items ≡ header_from version mode settings.now journals.now) }
     ensures marker { IfOk result (λ heading. BeginsBy version heading.batch.items heading.marker) }
     // So a start finds the log again.
-    ensures again { IfOk result (λ _. IsSettings settings.now → CanBeginFrom settings.now journals.now) }
+    ensures again { IfOk result (λ _. IsSettings settings.now →
+        CanBeginFrom settings.now journals.now) }
 {
     let mut books = Vec::new(alloc);
     append_books(settings, journals, &mut books)?;
@@ -74,10 +82,11 @@ pub fn first_batch_from(
 
 /// Puts their mark behind the first lines of a log, if it has marks, and closes them.
 fn close_heading(version: Version, mut lines: Vec<u8>) -> Result<Heading, AllocError>
-    requires whole { IsWhole lines.items }
-    requires some { 0 < length (recovered lines.items) }
+    requires whole { AreWholeLines lines.items }
+    requires some { 0 < length (recovered_lines lines.items) }
     ensures batch { IfOk result (λ heading. IsBatch heading.batch.items) }
-    ensures items { IfOk result (λ heading. heading.batch.items ≡ at_rest (marked version (recovered lines.items))) }
+    ensures items { IfOk result (λ heading.
+        heading.batch.items ≡ at_rest (lines_and_mark version (recovered_lines lines.items))) }
     ensures marker { IfOk result (λ heading. BeginsBy version heading.batch.items heading.marker) }
 {
     // No line of settings or of books is a mark: this is never reached.
@@ -92,12 +101,14 @@ fn close_heading(version: Version, mut lines: Vec<u8>) -> Result<Heading, AllocE
     })
 }
 
-/// Puts their mark behind the first lines of a log, if it has marks. Returns what makes the next one.
+/// Puts their mark behind the first lines of a log, if it has marks. Returns what makes the next
+/// one.
 fn mark_heading(version: Version, lines: &mut Vec<u8>) -> Result<Marker, AllocError>
-    requires whole { IsWhole lines.old.items }
-    requires plain { HasNoMark (recovered lines.old.items) }
-    ensures whole { OnOk result (IsWhole lines.new.items) }
-    ensures lines { OnOk result (recovered lines.new.items ≡ marked version (recovered lines.old.items)) }
+    requires whole { AreWholeLines lines.old.items }
+    requires plain { HasNoMark (recovered_lines lines.old.items) }
+    ensures whole { OnOk result (AreWholeLines lines.new.items) }
+    ensures lines { OnOk result (recovered_lines lines.new.items
+        ≡ lines_and_mark version (recovered_lines lines.old.items)) }
     ensures marker { IfOk result (λ marker. BeginsBy version lines.new.items marker) }
 {
     let mut marker = Marker::new();
@@ -118,8 +129,9 @@ fn settings_line(
     settings: &Settings,
     books: Option<u64>,
 ) -> Result<Vec<u8>, AllocError>
-    ensures whole { IfOk result (λ batch. IsWhole batch.items) }
-    ensures lines { IfOk result (λ batch. recovered batch.items ≡ raw_of (header_line version mode settings.now books) ∷ []) }
+    ensures whole { IfOk result (λ batch. AreWholeLines batch.items) }
+    ensures lines { IfOk result (λ batch.
+        recovered_lines batch.items ≡ raw_of (header_line version mode settings.now books) ∷ []) }
 {
     let line = header_line(alloc, version, mode, settings, books)?;
     batch_of(alloc, line.as_bytes())
@@ -127,8 +139,8 @@ fn settings_line(
 
 /// A batch of one line that isn't closed.
 fn batch_of(alloc: Global, line: &[u8]) -> Result<Vec<u8>, AllocError>
-    ensures whole { IfOk result (λ batch. IsWhole batch.items) }
-    ensures lines { IfOk result (λ batch. recovered batch.items ≡ raw_of line.now ∷ []) }
+    ensures whole { IfOk result (λ batch. AreWholeLines batch.items) }
+    ensures lines { IfOk result (λ batch. recovered_lines batch.items ≡ raw_of line.now ∷ []) }
 {
     // No name, no number and no code has a newline: this is never reached.
     if find_newline(line).is_some() {
@@ -139,8 +151,8 @@ fn batch_of(alloc: Global, line: &[u8]) -> Result<Vec<u8>, AllocError>
     Ok(batch)
 }
 
-/// The settings and what the lines stand for, and how many lines of books come behind, if any do, as a line of compact
-/// JSON.
+/// The settings and what the lines stand for, and how many lines of books come behind, if any do,
+/// as a line of compact JSON.
 pub(crate) fn header_line(
     alloc: Global,
     version: Version,
@@ -148,14 +160,16 @@ pub(crate) fn header_line(
     settings: &Settings,
     books: Option<u64>,
 ) -> Result<String, AllocError>
-    ensures { IfOk result (λ text. string_bytes text ≡ header_line version mode settings.now books) }
+    ensures { IfOk result (λ text.
+        string_bytes text ≡ header_line version mode settings.now books) }
 {
     let mut text = String::new(alloc);
     push_header(&mut text, version, mode, settings, books)?;
     Ok(text)
 }
 
-/// Puts the settings, what the lines stand for, and how many lines of books come behind into an empty text.
+/// Puts the settings, what the lines stand for, and how many lines of books come behind into an
+/// empty text.
 fn push_header(
     text: &mut String,
     version: Version,
@@ -226,16 +240,19 @@ fn mode_word(mode: Mode) -> &'static str
 }
 
 fn push_participants(text: &mut String, settings: &Settings) -> Result<(), AllocError>
-    ensures { OnOk result (string_bytes text.new ≡ string_bytes text.old ++ participants_field settings.now.codes) }
+    ensures { OnOk result (string_bytes text.new
+        ≡ string_bytes text.old ++ participants_field settings.now.codes) }
 {
     text.push_str(",\"participants\":[")?;
     push_codes(text, settings)?;
     text.push_str("]")
 }
 
-/// Puts the codes of the participants at the end of a text, each between quotes, with commas between them.
+/// Puts the codes of the participants at the end of a text, each between quotes, with commas
+/// between them.
 fn push_codes(text: &mut String, settings: &Settings) -> Result<(), AllocError>
-    ensures { OnOk result (string_bytes text.new ≡ string_bytes text.old ++ listed false settings.now.codes) }
+    ensures { OnOk result (string_bytes text.new
+        ≡ string_bytes text.old ++ quoted_codes false settings.now.codes) }
 {
     for number in 0..settings.participants() {
         push_code(text, settings, number as u8)?;
@@ -243,11 +260,13 @@ fn push_codes(text: &mut String, settings: &Settings) -> Result<(), AllocError>
     Ok(())
 }
 
-/// Puts a participant's code at the end of a text, between quotes, with a comma before it unless it is the first.
+/// Puts a participant's code at the end of a text, between quotes, with a comma before it unless it
+/// is the first.
 fn push_code(text: &mut String, settings: &Settings, number: u8) -> Result<(), AllocError>
     requires { is_participant settings.now number ≡ true }
     ensures { OnOk result (string_bytes text.new
-        ≡ string_bytes text.old ++ (comma_if (nat_lt 0 number) ++ quoted (code_numbered settings.now number))) }
+        ≡ string_bytes text.old
+        ++ (comma_if (nat_lt 0 number) ++ quoted (code_numbered settings.now number))) }
 {
     let code = code_text(settings, number);
     push_comma(text, number)?;
@@ -257,7 +276,8 @@ fn push_code(text: &mut String, settings: &Settings, number: u8) -> Result<(), A
 }
 
 fn push_comma(text: &mut String, number: u8) -> Result<(), AllocError>
-    ensures { OnOk result (string_bytes text.new ≡ string_bytes text.old ++ comma_if (nat_lt 0 number)) }
+    ensures { OnOk result (string_bytes text.new
+        ≡ string_bytes text.old ++ comma_if (nat_lt 0 number)) }
 {
     if number > 0 {
         text.push_str(",")?;

@@ -1,23 +1,27 @@
 //! A hub with a log: its opening, and whole runs of lines.
-ghost use Rattle.std.specs.Prelude.{◌≡◌, ◌≤◌, ◌^◌, [], List, ℕ, length, IsTrue, IfOk, IfErr, OnOk, MatchBool};
+ghost use Rattle.std.specs.Prelude.{◌≡◌, ◌≤◌, ◌^◌, [], List, ℕ, length, IsTrue, IfOk, IfErr, OnOk};
+ghost use Rattle.std.specs.Prelude.{MatchBool};
 ghost use Rattle.std.specs.Io.KnownBytes.{IsAtEnd};
 ghost use Rattle.inst_base.specs.Newline.{NoNewline};
-ghost use Rattle.inst_log.specs.Layout.{recovered, blocks};
+ghost use Rattle.inst_log.specs.Layout.{recovered_lines, blocks};
 ghost use Rattle.inst_log.specs.Log.{IsSettled};
 ghost use Rattle.inst_log.specs.inner.Serving.{TellsPart};
 ghost use Rattle.inst_chain.specs.Chain.{kept_said};
-ghost use Rattle.inst_lines.specs.Answering.{Past};
-ghost use Rattle.inst_world.specs.HasRun.{settings_of};
-ghost use Rattle.inst_logged.specs.Input.{cut};
+ghost use Rattle.inst_lines.specs.Answering.{HubPast};
+ghost use Rattle.inst_world.specs.HasRun.{world_settings};
+ghost use Rattle.inst_logged.specs.Input.{shortened_line};
 ghost use Rattle.inst_logged.specs.Intake.{held};
-ghost use Rattle.inst_logged.specs.Answering.{SaysLines, told_of};
+ghost use Rattle.inst_logged.specs.Answering.{SaysLines, told_count};
 ghost use Rattle.inst_logged.specs.Marking.{IsIntact, IsIntactBy};
 ghost use Rattle.inst_logged.specs.Refused.{IsRefused};
-ghost use Rattle.inst_logged.specs.Running.{disk_of, file_of, StopsBy, HasGone, HasKeptFaith, HasNoRoom, IsKept, IsReady, RunsThrough, StaysAlike};
+ghost use Rattle.inst_logged.specs.Running.{disk_of, file_of, StopsBy, HasGone, HasKeptFaith};
+ghost use Rattle.inst_logged.specs.Running.{HasNoRoom, SurvivesEachCrash, IsReadyHub, RunsThrough};
+ghost use Rattle.inst_logged.specs.Running.{StaysAlike};
 ghost use Rattle.inst_logged.specs.Streams.{streams};
-ghost use Rattle.inst_logged.specs.Logged.{Are, owed};
+ghost use Rattle.inst_logged.specs.Logged.{AreReplies, unsent_replies_at};
 ghost use Rattle.inst_logged.specs.inner.Failing.{FailsBy};
-ghost use Rattle.inst_logged.specs.inner.Logged.{Turned, Ended, Came, IsInput, CameIn, ServedOn, KeptOn};
+ghost use Rattle.inst_logged.specs.inner.Logged.{Turned, Ended, Came, IsInput, CameIn, ServedOn};
+ghost use Rattle.inst_logged.specs.inner.Logged.{KeptOn};
 ghost use Rattle.inst_logged.specs.inner.Reopening.{Reopens};
 
 mod closing;
@@ -60,7 +64,7 @@ pub struct LoggedHub<D: Disk> {
 impl<D: Disk + Drop> LoggedHub<D> {
     /// Returns the settings of the hub.
     pub fn settings(&self) -> &Settings
-        ensures { result.now ≡ settings_of self.now.recorder.answers.runner.world }
+        ensures { result.now ≡ world_settings self.now.recorder.answers.runner.world }
     {
         self.recorder.answers.runner.settings()
     }
@@ -77,16 +81,17 @@ impl<D: Disk + Drop> LoggedHub<D> {
         (runner, disk)
     }
 
-    /// Opens the log, or makes it if the disk is empty, and answers its lines again. Of these replies the reader has those
-    /// to the first `told` lines, or all: the others are handed out. Then each line that the reader gives is answered, once
-    /// it is on the disk. The log is read twice, in pieces: its marks are verified before anything else is done.
+    /// Opens the log, or makes it if the disk is empty, and answers its lines again. Of these
+    /// replies the reader has those to the first `told` lines, or all: the others are handed out.
+    /// Then each line that the reader gives is answered, once it is on the disk. The log is read
+    /// twice, in pieces: its marks are verified before anything else is done.
     ///
     /// # Errors
     ///
-    /// `Damaged`, `OtherSettings`, `NoLog`, `Told` if it has fewer lines, and `OtherDigest` if it hasn't the mark with the
-    /// `wanted` digest: nothing is read of the input, nothing handed out, and the log stays as it is. `Changed` if another
-    /// program truncated the log's file or wrote to it since the last write. After any other error, open the log again by
-    /// another hub.
+    /// `Damaged`, `OtherSettings`, `NoLog`, `Told` if it has fewer lines, and `OtherDigest` if it
+    /// hasn't the mark with the `wanted` digest: nothing is read of the input, nothing handed out,
+    /// and the log stays as it is. `Changed` if another program truncated the log's file or wrote
+    /// to it since the last write. After any other error, open the log again by another hub.
     pub fn run<R: Read, W: Write>(
         &mut self,
         alloc: Global,
@@ -95,23 +100,27 @@ impl<D: Disk + Drop> LoggedHub<D> {
         reader: &mut R,
         writer: &mut W,
     ) -> Result<(), LoggedError>
-        requires ready { IsReady D.Disk self.old }
+        requires ready { IsReadyHub D.Disk self.old }
         ensures end { OnOk result (IsAtEnd (R.remaining reader.new)) }
-        ensures ok { OnOk result (HasKeptFaith D.Disk (disk_of self.new) → RunsThrough D.Disk told wanted self.old self.new
+        ensures ok { OnOk result (HasKeptFaith D.Disk (disk_of self.new) →
+            RunsThrough D.Disk told wanted self.old self.new
             (streams R.Read W.Write reader.old reader.new writer.old writer.new)) }
         // At `Ok` and at `Err`, whatever moment the machine stops at.
-        ensures any_moment { HasKeptFaith D.Disk (disk_of self.new) → IsKept D.Disk told self.old self.new
+        ensures any_moment { HasKeptFaith D.Disk (disk_of self.new) →
+            SurvivesEachCrash D.Disk told self.old self.new
             (streams R.Read W.Write reader.old reader.new writer.old writer.new) }
         ensures err { IfErr result (StopsBy D.Disk told wanted self.old self.new
             ((reader.new ≡ reader.old) × (writer.new ≡ writer.old))
             (HasNoRoom D.Disk self.new (R.remaining reader.old) (R.remaining reader.new))) }
-        ensures clean { HasKeptFaith D.Disk (disk_of self.new) → HasKeptFaith D.Disk (disk_of self.old) }
+        ensures clean { HasKeptFaith D.Disk (disk_of self.new) →
+            HasKeptFaith D.Disk (disk_of self.old) }
     {
         self.reopen(alloc, told, wanted, writer)?;
         self.serve_all(reader, writer)
     }
 
-    /// Opens the log with its first lines, and hands out the replies to its lines but for those to the first `told`.
+    /// Opens the log with its first lines, and hands out the replies to its lines but for those to
+    /// the first `told`.
     fn reopen<W: Write>(
         &mut self,
         alloc: Global,
@@ -119,18 +128,26 @@ impl<D: Disk + Drop> LoggedHub<D> {
         wanted: Option<Digest>,
         writer: &mut W,
     ) -> Result<(), LoggedError>
-        requires ready { IsReady D.Disk self.old }
-        ensures ok { OnOk result (IsTrue (D.Disk.is_usable (disk_of self.new)) × (HasKeptFaith D.Disk (disk_of self.new)
-            → Reopens D.Disk told wanted self.old self.new (W.contents writer.old) (W.contents writer.new))) }
-        ensures any_moment { HasKeptFaith D.Disk (disk_of self.new) → StaysAlike D.Disk self.old self.new }
-        ensures part { HasKeptFaith D.Disk (disk_of self.new) → (past : Past) → HasGone self.old past
-            → TellsPart (Are (owed self.old.recorder.answers.mode past (kept_said self.old.header.items (file_of D.Disk self.old))
-            (told_of told (kept_said self.old.header.items (file_of D.Disk self.old))))) []
+        requires ready { IsReadyHub D.Disk self.old }
+        ensures ok { OnOk result (IsTrue (D.Disk.is_usable (disk_of self.new))
+            × (HasKeptFaith D.Disk (disk_of self.new)
+            → Reopens D.Disk told wanted self.old self.new (W.contents writer.old)
+            (W.contents writer.new))) }
+        ensures any_moment { HasKeptFaith D.Disk (disk_of self.new) →
+            StaysAlike D.Disk self.old self.new }
+        ensures part { HasKeptFaith D.Disk (disk_of self.new) → (past : HubPast) →
+            HasGone self.old past
+            → TellsPart
+            (AreReplies (unsent_replies_at self.old.recorder.answers.mode past
+            (kept_said self.old.header.items (file_of D.Disk self.old))
+            (told_count told (kept_said self.old.header.items (file_of D.Disk self.old))))) []
             (W.contents writer.old) (W.contents writer.new) }
-        ensures err { IfErr result (StopsBy D.Disk told wanted self.old self.new (writer.new ≡ writer.old) ⊥) }
+        ensures err { IfErr result (StopsBy D.Disk told wanted self.old self.new (writer.new
+            ≡ writer.old) ⊥) }
         ensures same { (self.new.intake ≡ self.old.intake) × (self.new.version ≡ self.old.version)
             × (self.new.recorder.answers.mode ≡ self.old.recorder.answers.mode) }
-        ensures clean { HasKeptFaith D.Disk (disk_of self.new) → HasKeptFaith D.Disk (disk_of self.old) }
+        ensures clean { HasKeptFaith D.Disk (disk_of self.new) →
+            HasKeptFaith D.Disk (disk_of self.old) }
     {
         let recorder = &mut self.recorder;
         let header = self.header.as_slice();
@@ -162,15 +179,21 @@ impl<D: Disk + Drop> LoggedHub<D> {
             → IsIntactBy self.old.version (D.Disk.seen self.old.recorder.log.disk) self.old.marker }
         requires size { IsTrue (D.Disk.is_clean self.old.recorder.log.disk)
             → self.old.size ≡ length (D.Disk.seen self.old.recorder.log.disk) }
-        ensures ok { OnOk result (ServedOn D.Disk.seen D.Disk.may_leave (IsTrue (D.Disk.is_clean self.new.recorder.log.disk))
+        ensures ok { OnOk result
+            (ServedOn D.Disk.seen D.Disk.may_leave
+            (IsTrue (D.Disk.is_clean self.new.recorder.log.disk))
             (IsInput (R.remaining reader.old) (R.remaining reader.new))
             self.old.recorder self.new.recorder (W.contents writer.old) (W.contents writer.new)) }
         ensures any_moment { IsTrue (D.Disk.is_clean self.new.recorder.log.disk)
-            → KeptOn (D.Disk.may_leave self.new.recorder.log.disk) (CameIn (R.remaining reader.old) (R.remaining reader.new))
+            → KeptOn (D.Disk.may_leave self.new.recorder.log.disk)
+            (CameIn (R.remaining reader.old) (R.remaining reader.new))
             (SaysLines self.old.recorder.answers.mode self.old.recorder.answers.runner)
-            (recovered (D.Disk.seen self.old.recorder.log.disk)) (W.contents writer.old) (W.contents writer.new) }
-        ensures intact { ((d : D) → IsTrue (D.Disk.is_mixing d)) → IsTrue (D.Disk.is_clean self.new.recorder.log.disk)
-            → (c : List ℕ) → D.Disk.may_leave self.new.recorder.log.disk c → IsIntact self.old.version c }
+            (recovered_lines (D.Disk.seen self.old.recorder.log.disk)) (W.contents writer.old)
+            (W.contents writer.new) }
+        ensures intact { ((d : D) → IsTrue (D.Disk.is_mixing d)) →
+            IsTrue (D.Disk.is_clean self.new.recorder.log.disk)
+            → (c : List ℕ) → D.Disk.may_leave self.new.recorder.log.disk c →
+            IsIntact self.old.version c }
         ensures intact_now { OnOk result (IsTrue (D.Disk.is_clean self.new.recorder.log.disk)
             → IsIntactBy self.old.version (D.Disk.seen self.new.recorder.log.disk) self.new.marker) }
         ensures end { OnOk result (IsAtEnd (R.remaining reader.new)) }
@@ -178,7 +201,8 @@ impl<D: Disk + Drop> LoggedHub<D> {
         ensures failure { FailsBy D.Disk self.old.recorder.log.disk self.new.recorder.log.disk
             (HasNoRoom D.Disk self.new (R.remaining reader.old) (R.remaining reader.new))
             (IsSettled D.Disk.seen D.Disk.may_leave self.new.recorder.log) result }
-        ensures clean { IsTrue (D.Disk.is_clean self.new.recorder.log.disk) → IsTrue (D.Disk.is_clean self.old.recorder.log.disk) }
+        ensures clean { IsTrue (D.Disk.is_clean self.new.recorder.log.disk) →
+            IsTrue (D.Disk.is_clean self.old.recorder.log.disk) }
     {
         for _ in 0..u64::MAX {
             if !self.turn(reader, writer)? {
@@ -188,8 +212,8 @@ impl<D: Disk + Drop> LoggedHub<D> {
         Err(LoggedError::Log(LogError::Full))
     }
 
-    /// Reads once, and answers the lines that end there, once they are on the disk; at the end of the input, the last
-    /// line too. Says whether the input may go on.
+    /// Reads once, and answers the lines that end there, once they are on the disk; at the end of
+    /// the input, the last line too. Says whether the input may go on.
     fn turn<R: Read, W: Write>(
         &mut self,
         reader: &mut R,
@@ -203,19 +227,27 @@ impl<D: Disk + Drop> LoggedHub<D> {
             → IsIntactBy self.old.version (D.Disk.seen self.old.recorder.log.disk) self.old.marker }
         requires size { IsTrue (D.Disk.is_clean self.old.recorder.log.disk)
             → self.old.size ≡ length (D.Disk.seen self.old.recorder.log.disk) }
-        ensures ok { (part : List ℕ) → held self.old.intake ≡ cut part → IfOk result (λ more.
-            ServedOn D.Disk.seen D.Disk.may_leave (IsTrue (D.Disk.is_clean self.new.recorder.log.disk))
-            (λ lines. MatchBool more (Turned part self.new.intake lines (R.remaining reader.old) (R.remaining reader.new))
+        ensures ok { (part : List ℕ) → held self.old.intake ≡ shortened_line part →
+            IfOk result (λ more.
+            ServedOn D.Disk.seen D.Disk.may_leave
+            (IsTrue (D.Disk.is_clean self.new.recorder.log.disk))
+            (λ lines.
+            MatchBool more
+            (Turned part self.new.intake lines (R.remaining reader.old)
+            (R.remaining reader.new))
             (Ended part lines (R.remaining reader.old) (R.remaining reader.new)))
             self.old.recorder self.new.recorder (W.contents writer.old) (W.contents writer.new)) }
         ensures any_moment { IsTrue (D.Disk.is_clean self.new.recorder.log.disk) → (part : List ℕ)
-            → held self.old.intake ≡ cut part
+            → held self.old.intake ≡ shortened_line part
             → KeptOn (D.Disk.may_leave self.new.recorder.log.disk)
             (λ lines. Came part lines (R.remaining reader.old) (R.remaining reader.new))
             (SaysLines self.old.recorder.answers.mode self.old.recorder.answers.runner)
-            (recovered (D.Disk.seen self.old.recorder.log.disk)) (W.contents writer.old) (W.contents writer.new) }
-        ensures intact { ((d : D) → IsTrue (D.Disk.is_mixing d)) → IsTrue (D.Disk.is_clean self.new.recorder.log.disk)
-            → (c : List ℕ) → D.Disk.may_leave self.new.recorder.log.disk c → IsIntact self.old.version c }
+            (recovered_lines (D.Disk.seen self.old.recorder.log.disk)) (W.contents writer.old)
+            (W.contents writer.new) }
+        ensures intact { ((d : D) → IsTrue (D.Disk.is_mixing d)) →
+            IsTrue (D.Disk.is_clean self.new.recorder.log.disk)
+            → (c : List ℕ) → D.Disk.may_leave self.new.recorder.log.disk c →
+            IsIntact self.old.version c }
         ensures intact_now { OnOk result (IsTrue (D.Disk.is_clean self.new.recorder.log.disk)
             → IsIntactBy self.old.version (D.Disk.seen self.new.recorder.log.disk) self.new.marker) }
         ensures version { self.new.version ≡ self.old.version }
@@ -225,9 +257,10 @@ impl<D: Disk + Drop> LoggedHub<D> {
         ensures size { OnOk result (IsTrue (D.Disk.is_clean self.new.recorder.log.disk)
             → self.new.size ≡ length (D.Disk.seen self.new.recorder.log.disk)) }
         ensures failure { FailsBy D.Disk self.old.recorder.log.disk self.new.recorder.log.disk
-            (2 ^ 62 ≤ length (blocks (recovered (D.Disk.seen self.new.recorder.log.disk))))
+            (2 ^ 62 ≤ length (blocks (recovered_lines (D.Disk.seen self.new.recorder.log.disk))))
             (IsSettled D.Disk.seen D.Disk.may_leave self.new.recorder.log) result }
-        ensures clean { IsTrue (D.Disk.is_clean self.new.recorder.log.disk) → IsTrue (D.Disk.is_clean self.old.recorder.log.disk) }
+        ensures clean { IsTrue (D.Disk.is_clean self.new.recorder.log.disk) →
+            IsTrue (D.Disk.is_clean self.old.recorder.log.disk) }
     {
         self.batch.clear();
         let more = self.intake.read(reader, &mut self.batch)?;

@@ -1,13 +1,14 @@
 //! Bytes that were read, on their way into a log.
-ghost use Rattle.std.specs.Prelude.{◌≡◌, ◌+◌, ◌≤◌, ◌++◌, [], map, take, vec_len, List, ℕ, IfOk, IfErr, OnOk, OnErr, IsOkUnless, MatchBool};
+ghost use Rattle.std.specs.Prelude.{◌≡◌, ◌+◌, ◌≤◌, ◌++◌, [], map, take, vec_len, List, ℕ, IfOk};
+ghost use Rattle.std.specs.Prelude.{IfErr, OnOk, OnErr, IsOkUnless, MatchBool};
 ghost use Rattle.std.specs.Io.{ReadsAtMost};
 ghost use Rattle.std.specs.Io.KnownBytes.{Consumes, ReadConsumes};
 ghost use Rattle.inst_lines.specs.Limits.{buffer_bytes, most_line_bytes};
 ghost use Rattle.inst_base.specs.Newline.{NoNewline};
-ghost use Rattle.inst_log.specs.Layout.{recovered, IsWhole};
+ghost use Rattle.inst_log.specs.Layout.{recovered_lines, AreWholeLines};
 ghost use Rattle.inst_log.specs.Escape.{raw_of};
 ghost use Rattle.inst_chain.specs.Chain.{HasNoMark};
-ghost use Rattle.inst_logged.specs.Input.{cut, logged};
+ghost use Rattle.inst_logged.specs.Input.{shortened_line, logged_line};
 ghost use Rattle.inst_logged.specs.inner.Input.{last_line, lines_from, rest_from, CutsLines};
 
 use crate::LoggedError;
@@ -20,7 +21,8 @@ use std::io::Read;
 /// The most bytes that are held of a line: one more than a line may have.
 const MOST_HELD: usize = MOST_LINE_BYTES + 1;
 
-/// The part of a line that was read and is in no log yet: of a line that is too long its first 4,097 bytes.
+/// The part of a line that was read and is in no log yet: of a line that is too long its first
+/// 4,097 bytes.
 #[derive(Drop)]
 pub struct Intake {
     bytes: Vec<u8>,
@@ -43,22 +45,27 @@ impl Intake {
         Ok(Intake { bytes, len: 0 })
     }
 
-    /// Reads once, and adds the lines that end there to a batch that is not closed; at the end of the input, the last
-    /// line too, if it lacks its newline. Says whether the input may go on. After an error let the batch go.
+    /// Reads once, and adds the lines that end there to a batch that is not closed; at the end of
+    /// the input, the last line too, if it lacks its newline. Says whether the input may go on.
+    /// After an error let the batch go.
     pub(crate) fn read<R: Read>(
         &mut self,
         reader: &mut R,
         batch: &mut Vec<u8>,
     ) -> Result<bool, LoggedError>
         requires part { NoNewline (held self.old) }
-        requires whole { IsWhole batch.old.items }
+        requires whole { AreWholeLines batch.old.items }
         ensures lines { IfOk result (λ more. MatchBool more
-            (TakesIn self.old self.new batch.old.items batch.new.items (R.remaining reader.old) (R.remaining reader.new))
-            (TakesLast self.old batch.old.items batch.new.items (R.remaining reader.old) (R.remaining reader.new))) }
-        ensures err { OnErr result ((read : List ℕ) × Consumes (R.remaining reader.old) (R.remaining reader.new) read) }
+            (TakesIn self.old self.new batch.old.items batch.new.items (R.remaining reader.old)
+            (R.remaining reader.new))
+            (TakesLast self.old batch.old.items batch.new.items (R.remaining reader.old)
+            (R.remaining reader.new))) }
+        ensures err { OnErr result ((read : List ℕ)
+            × Consumes (R.remaining reader.old) (R.remaining reader.new) read) }
         ensures part { OnOk result (NoNewline (held self.new)) }
-        ensures whole { OnOk result (IsWhole batch.new.items) }
-        ensures plain { OnOk result (HasNoMark (recovered batch.old.items) → HasNoMark (recovered batch.new.items)) }
+        ensures whole { OnOk result (AreWholeLines batch.new.items) }
+        ensures plain { OnOk result (HasNoMark (recovered_lines batch.old.items) →
+            HasNoMark (recovered_lines batch.new.items)) }
         ensures unrefused { IfErr result (λ error. ¬ IsRefused error) }
         ensures failure { IfErr result (Fails ⊥ ⊥ ⊥) }
     {
@@ -74,9 +81,10 @@ impl Intake {
     /// Adds what is held to a batch as a line, if it isn't empty.
     fn take_last(&mut self, batch: &mut Vec<u8>) -> Result<(), AllocError>
         requires part { NoNewline (held self.old) }
-        requires whole { IsWhole batch.old.items }
-        ensures lines { OnOk result (recovered batch.new.items ≡ recovered batch.old.items ++ map raw_of (last_line (held self.old))) }
-        ensures whole { OnOk result (IsWhole batch.new.items) }
+        requires whole { AreWholeLines batch.old.items }
+        ensures lines { OnOk result (recovered_lines batch.new.items
+            ≡ recovered_lines batch.old.items ++ map raw_of (last_line (held self.old))) }
+        ensures whole { OnOk result (AreWholeLines batch.new.items) }
         ensures part { OnOk result (held self.new ≡ []) }
     {
         if self.len > 0 {
@@ -89,11 +97,13 @@ impl Intake {
     /// Adds the lines that end among the first bytes to a batch, and holds what stands behind them.
     fn take_lines(&mut self, end: usize, batch: &mut Vec<u8>) -> Result<(), AllocError>
         requires within { end ≤ buffer_bytes }
-        requires whole { IsWhole batch.old.items }
-        ensures lines { OnOk result (recovered batch.new.items
-            ≡ recovered batch.old.items ++ map logged (lines_from [] (take end self.old.bytes.items))) }
-        ensures whole { OnOk result (IsWhole batch.new.items) }
-        ensures held { OnOk result (held self.new ≡ cut (rest_from [] (take end self.old.bytes.items))) }
+        requires whole { AreWholeLines batch.old.items }
+        ensures lines { OnOk result (recovered_lines batch.new.items
+            ≡ recovered_lines batch.old.items
+            ++ map logged_line (lines_from [] (take end self.old.bytes.items))) }
+        ensures whole { OnOk result (AreWholeLines batch.new.items) }
+        ensures held { OnOk result (held self.new
+            ≡ shortened_line (rest_from [] (take end self.old.bytes.items))) }
     {
         let start = push_lines(&self.bytes[..end], batch)?;
         let len = (end - start).min(MOST_HELD);
@@ -103,9 +113,10 @@ impl Intake {
     }
 }
 
-/// Adds the lines that end among these bytes to a batch that is not closed, and tells where the last one ends.
+/// Adds the lines that end among these bytes to a batch that is not closed, and tells where the
+/// last one ends.
 fn push_lines(bytes: &[u8], batch: &mut Vec<u8>) -> Result<usize, AllocError>
-    requires { IsWhole batch.old.items }
+    requires { AreWholeLines batch.old.items }
     ensures { IfOk result (λ start. CutsLines bytes.now start batch.old.items batch.new.items) }
 {
     let mut rest = bytes;

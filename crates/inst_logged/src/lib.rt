@@ -1,21 +1,21 @@
-//! A hub in one thread with a log: each line is on the disk before a byte of its reply is handed out, and a hub that
-//! was cut off at any moment goes on where its log ends.
+//! A hub in one thread with a log: each line is on the disk before a byte of its reply is handed
+//! out, and a hub that was cut off at any moment goes on where its log ends.
 #![tactic(auto)]
 
-mod beginning;
 mod error;
 mod header;
 mod hub;
 mod intake;
 mod laws;
 mod line_answers;
+mod log_header;
 mod marking;
 mod version;
 
-pub use beginning::{Beginning, read_beginning, version_of};
 pub use error::LoggedError;
 pub use header::{Heading, first_batch, first_batch_from};
 pub use hub::{LoggedHub, NewHub};
 pub use laws::{a_refused_log_is_not_taken, headers_tell_their_settings, lines_answer_alike};
 pub use line_answers::LineAnswers;
+pub use log_header::{LogHeader, read_beginning, version_of};
 pub use version::Version;

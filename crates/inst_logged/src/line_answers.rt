@@ -1,6 +1,6 @@
 //! A hub in one thread answers the lines of a log.
 ghost use Rattle.std.specs.Prelude.{◌≡◌, ◌≤◌, [], ◌∷◌, length, IfOk, OnOk};
-ghost use Rattle.inst_log.specs.Layout.{recovered};
+ghost use Rattle.inst_log.specs.Layout.{recovered_lines};
 ghost use Rattle.inst_chain.specs.Chain.{said};
 ghost use Rattle.inst_logged.specs.Answering.{SaysLines};
 ghost use Rattle.inst_logged.specs.inner.Answering.{AnswersLines, AnswersFirst};
@@ -10,7 +10,7 @@ use inst_chain::is_mark;
 use inst_journal::Journal;
 use inst_json::LineReader;
 use inst_lines::{Mode, answer_line};
-use inst_log::{Answers, first_line, line_of};
+use inst_log::{Responder, first_line, line_of};
 use inst_settings::Settings;
 use inst_world::World;
 use std::alloc::{AllocError, Global};
@@ -43,7 +43,8 @@ impl LineAnswers {
         })
     }
 
-    /// A hub that opens again from these journals, one for each participant by number. It has a copy of them.
+    /// A hub that opens again from these journals, one for each participant by number. It has a
+    /// copy of them.
     pub fn open_from(
         alloc: Global,
         mode: Mode,
@@ -51,7 +52,8 @@ impl LineAnswers {
         journals: &[Journal],
     ) -> Result<LineAnswers, AllocError>
         requires journals { CanOpenFrom settings.now journals.now }
-        ensures opened { IfOk result (λ answers. HasOpened mode (opened_from settings.now journals.now) answers) }
+        ensures opened { IfOk result (λ answers.
+            HasOpened mode (opened_from settings.now journals.now) answers) }
     {
         let world = World::open_from(alloc, settings, journals)?;
         let runner = Runner::new(alloc, world)?;
@@ -62,8 +64,8 @@ impl LineAnswers {
         })
     }
 
-    /// Answers the first lines of a log, so many without marks, or all. Returns where the others begin, and how many are
-    /// missing.
+    /// Answers the first lines of a log, so many without marks, or all. Returns where the others
+    /// begin, and how many are missing.
     pub(crate) fn answer_first(
         &mut self,
         lines: &[u8],
@@ -89,7 +91,7 @@ impl LineAnswers {
     /// Answers the lines of a log.
     pub(crate) fn answer_all(&mut self, lines: &[u8], out: &mut Vec<u8>) -> Result<(), AllocError>
         ensures ok { OnOk result (AnswersLines self.old.mode self.old.runner self.new.runner
-            out.old.items out.new.items (recovered lines.now)) }
+            out.old.items out.new.items (recovered_lines lines.now)) }
         ensures mode { self.new.mode ≡ self.old.mode }
     {
         let mut rest = lines;
@@ -100,7 +102,8 @@ impl LineAnswers {
         Ok(())
     }
 
-    /// Answers a line as a log has it, if it isn't a mark. Returns how many replies that are, 1 or 0.
+    /// Answers a line as a log has it, if it isn't a mark. Returns how many replies that are, 1 or
+    /// 0.
     fn answer_raw(&mut self, raw: &[u8], out: &mut Vec<u8>) -> Result<u64, AllocError>
         ensures ok { OnOk result (AnswersLines self.old.mode self.old.runner self.new.runner
             out.old.items out.new.items (raw.now ∷ [])) }
@@ -117,7 +120,7 @@ impl LineAnswers {
     }
 }
 
-impl Answers for LineAnswers {
+impl Responder for LineAnswers {
     ghost says = { λ answers replies. SaysLines answers.mode answers.runner replies };
 
     fn answer(&mut self, batch: &[u8], out: &mut Vec<u8>) -> Result<(), AllocError> {

@@ -1,6 +1,6 @@
 //! A batch gets its mark, if its log has marks.
 ghost use Rattle.std.specs.Prelude.{◌≡◌, ◌++◌, List, ℕ, OnOk};
-ghost use Rattle.inst_log.specs.Layout.{recovered, IsWhole, IsShut};
+ghost use Rattle.inst_log.specs.Layout.{recovered_lines, AreWholeLines, IsShut};
 ghost use Rattle.inst_chain.specs.Chain.{HasNoMark, said};
 ghost use Rattle.inst_chain.specs.Verifying.{SealedBy};
 ghost use Rattle.inst_logged.specs.Marking.{IsIntactBy};
@@ -9,18 +9,24 @@ use crate::Version;
 use inst_chain::{Marker, mark_lines};
 use std::alloc::AllocError;
 
-/// Adds its mark to a batch that isn't closed, if it has lines and the log has marks. At `Err`, drop both.
+/// Adds its mark to a batch that isn't closed, if it has lines and the log has marks. At `Err`,
+/// drop both.
 pub(crate) fn mark_batch(
     version: Version,
     marker: &mut Marker,
     batch: &mut Vec<u8>,
 ) -> Result<(), AllocError>
-    requires { IsWhole batch.old.items }
-    ensures whole { OnOk result (IsWhole batch.new.items) }
-    ensures said { OnOk result (said (recovered batch.new.items) ≡ said (recovered batch.old.items)) }
+    requires { AreWholeLines batch.old.items }
+    ensures whole { OnOk result (AreWholeLines batch.new.items) }
+    ensures said { OnOk result (said (recovered_lines batch.new.items)
+        ≡ said (recovered_lines batch.old.items)) }
     // Behind a log whose marks are right, the batch leaves one whose marks are right.
-    ensures intact { OnOk result (HasNoMark (recovered batch.old.items) → (file new : List ℕ) → IsIntactBy version file marker.old
-        → recovered new ≡ recovered file ++ recovered batch.new.items → IsShut new → IsIntactBy version new marker.new) }
+    ensures intact { OnOk result (HasNoMark (recovered_lines batch.old.items) →
+        (file new : List ℕ) →
+        IsIntactBy version file marker.old
+        → recovered_lines new ≡ recovered_lines file ++ recovered_lines batch.new.items →
+        IsShut new →
+        IsIntactBy version new marker.new) }
 {
     match version {
         Version::One => Ok(()),
@@ -30,11 +36,16 @@ pub(crate) fn mark_batch(
 
 /// Adds its mark to a batch that isn't closed, if it has lines.
 fn mark_some(marker: &mut Marker, batch: &mut Vec<u8>) -> Result<(), AllocError>
-    requires { IsWhole batch.old.items }
-    ensures whole { OnOk result (IsWhole batch.new.items) }
-    ensures said { OnOk result (said (recovered batch.new.items) ≡ said (recovered batch.old.items)) }
-    ensures intact { OnOk result (HasNoMark (recovered batch.old.items) → (file new : List ℕ) → SealedBy file marker.old
-        → recovered new ≡ recovered file ++ recovered batch.new.items → IsShut new → SealedBy new marker.new) }
+    requires { AreWholeLines batch.old.items }
+    ensures whole { OnOk result (AreWholeLines batch.new.items) }
+    ensures said { OnOk result (said (recovered_lines batch.new.items)
+        ≡ said (recovered_lines batch.old.items)) }
+    ensures intact { OnOk result (HasNoMark (recovered_lines batch.old.items) →
+        (file new : List ℕ) →
+        SealedBy file marker.old
+        → recovered_lines new ≡ recovered_lines file ++ recovered_lines batch.new.items →
+        IsShut new →
+        SealedBy new marker.new) }
 {
     if batch.is_empty() {
         return Ok(());

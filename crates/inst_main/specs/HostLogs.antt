@@ -1,5 +1,6 @@
 -- The files of the machine, as the disks of the logs that were closed have them.
-use Rattle.std.specs.Prelude.{◌≡◌, ℕ, Bool, ◌&&◌, List, [], Option, IsTrue, IfSome, option_map, bytes_eq, string_bytes}
+use Rattle.std.specs.Prelude.{◌≡◌, ℕ, Bool, ◌&&◌, List, [], Option, IsTrue, IfSome, option_map}
+use Rattle.std.specs.Prelude.{bytes_eq, string_bytes}
 use Rattle.std.specs.Option.{option_map_or}
 use Rattle.std.specs.List.{find, list_all}
 use Rattle.sqlite_disk.specs.Disk.{Only}
@@ -9,10 +10,11 @@ use Rattle.inst_program.specs.Files.{Files}
 
 -- the log of this name that was closed last
 abbrev pub last_closed : {D : Type 0} → List (Closed D) → List ℕ → Option D
-last_closed closed name = option_map (λ one. one.log) (find (λ one. bytes_eq (string_bytes one.name) name) closed)
+last_closed closed name =
+    option_map (λ one. one.log) (find (λ one. bytes_eq (string_bytes one.name) name) closed)
 
--- A file has what the disk of its log had when that was closed. One whose log wasn't closed has nothing, and a crash may
--- leave anything of it.
+-- A file has what the disk of its log had when that was closed. One whose log wasn't closed has
+-- nothing, and a crash may leave anything of it.
 abbrev pub host_files : {D : Type 0} → Ghosts D → List (Closed D) → Option (List ℕ) → Bool → Files
 host_files {D} disks closed out is_known =
     record {

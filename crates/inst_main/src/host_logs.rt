@@ -29,8 +29,8 @@ fn was_closed<D: Disk>(closed: &[Closed<D>], name: &str) -> bool
     false
 }
 
-/// The files of the machine. It keeps each log that was closed, and with it the lock on its file: the file has what the
-/// disk of the log has.
+/// The files of the machine. It keeps each log that was closed, and with it the lock on its file:
+/// the file has what the disk of the log has.
 #[derive(Drop)]
 pub(crate) struct HostLogs<'a> {
     rt: &'a HostRuntime,
@@ -38,7 +38,8 @@ pub(crate) struct HostLogs<'a> {
     out: Option<String>,
     /// The logs that were closed, the last one first.
     closed: Vec<Closed<FileFrom<Unknown>>>,
-    /// `false` once a file was read without its disk, the file of a closed log was missing, or a closed log wasn't kept.
+    /// `false` once a file was read without its disk, the file of a closed log was missing, or a
+    /// closed log wasn't kept.
     is_known: bool,
 }
 
@@ -61,7 +62,9 @@ impl<'a> Logs for HostLogs<'a> {
 
     type Reader = File;
 
-    ghost files = { λ logs. host_files ⟦<FileFrom<Unknown> as Disk>⟧ logs.closed.items (option_map string_bytes logs.out) logs.is_known };
+    ghost files = { λ logs.
+        host_files ⟦<FileFrom<Unknown> as Disk>⟧ logs.closed.items
+        (option_map string_bytes logs.out) logs.is_known };
 
     ghost mixing = { λ logs mixes. mixes };
 

@@ -1,5 +1,5 @@
-//! The program: lines on standard input, one answer for each on standard output, with a log or without; or a drill,
-//! which reads nothing.
+//! The program: lines on standard input, one answer for each on standard output, with a log or
+//! without; or a drill, which reads nothing.
 #![tactic(auto)]
 
 mod host_logs;

@@ -13,12 +13,12 @@ use Rattle.inst_journal.specs.Sums.{if_accepted, credit, credits}
 use Rattle.inst_journal.proofs.Soundness.{sound_induction}
 use Rattle.inst_model.specs.Transfer.{Transfer, transfers, transfer}
 use Rattle.inst_model.specs.Untold.{sum_below, total}
-use Rattle.inst_model.proofs.Basics.{Each, Each_push, Each_weaker}
+use Rattle.inst_model.proofs.TextsTestsAndFirstThings.{Each, Each_push, Each_weaker}
 use Rattle.inst_model.proofs.Sums.{sum_by_same}
 use Rattle.inst_model.proofs.Transfers.{each_place_found, each_to_participant}
 use Rattle.inst_model.proofs.Mirror.{Together, weighed, weighed_there}
 use Rattle.inst_model.proofs.Totals.{sum_below_same, sum_below_zero, sum_below_one, sum_below_swap, sum_by_swap}
-use Rattle.inst_model.proofs.Agreeing.{Agree, accepted_in}
+use Rattle.inst_model.proofs.HistoriesAgreeWithOutcomes.{Agree, accepted_in}
 
 -- credits of the participant with history J, in the measure of forwarded transfers
 abbrev credit_of : List Event → ℕ → List ℕ → ℕ → ℕ
@@ -27,8 +27,8 @@ credit_of J from id cents = if_accepted (booked from id J) cents
 -- an originator that is a participant
 abbrev IsFromParticipant : HubSettings → Event → Type 0
 IsFromParticipant s (Forwarded from id cents d) = from < participants s
-IsFromParticipant s (Funded reference cents) = Unit {0}
-IsFromParticipant s (Defunded reference cents) = Unit {0}
+IsFromParticipant s (Funded funding) = Unit {0}
+IsFromParticipant s (Defunded funding) = Unit {0}
 IsFromParticipant s (Taken id to cents stamp) = Unit {0}
 IsFromParticipant s (Booked from id o) = Unit {0}
 IsFromParticipant s (Fetched count) = Unit {0}
@@ -36,8 +36,8 @@ IsFromParticipant s Opened = Unit {0}
 
 from_new : (s : HubSettings) (who : ℕ) (J : List Event) (event : Event) → Fits s who J event → IsFromParticipant s event
 from_new s who J (Forwarded from id cents d) fits = ltb-true from (participants s) fits.originator
-from_new s who J (Funded reference cents) fits = tt
-from_new s who J (Defunded reference cents) fits = tt
+from_new s who J (Funded funding) fits = tt
+from_new s who J (Defunded funding) fits = tt
 from_new s who J (Taken id to cents stamp) fits = tt
 from_new s who J (Booked from id o) fits = tt
 from_new s who J (Fetched count) fits = tt
@@ -55,8 +55,8 @@ credit_split s J (Forwarded from id cents d) below =
     sym (sum_below_one (participants s) (λ k. weighed (credit_of J k) k (Forwarded from id cents d)) from below
     (λ k other. ap (λ b. cond b (credit_of J k id cents) 0) (ne_eqb from k (λ same. other (sym same))))
     ∙ ap (λ b. cond b (credit_of J from id cents) 0) (eq-eqb from from refl))
-credit_split s J (Funded reference cents) below = sym (zeros (participants s))
-credit_split s J (Defunded reference cents) below = sym (zeros (participants s))
+credit_split s J (Funded funding) below = sym (zeros (participants s))
+credit_split s J (Defunded funding) below = sym (zeros (participants s))
 credit_split s J (Taken id to cents stamp) below = sym (zeros (participants s))
 credit_split s J (Booked from id o) below = sym (zeros (participants s))
 credit_split s J (Fetched count) below = sym (zeros (participants s))

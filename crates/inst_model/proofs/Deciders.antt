@@ -6,7 +6,7 @@ use Rattle.inst_base.specs.TimeLimit.{is_due, is_in_time_to_accept}
 use Rattle.inst_settings.specs.Settings.{HubSettings}
 use Rattle.inst_command.specs.Deciding.{timed_out_or, confirmed, rejected, expired}
 use Rattle.inst_command.specs.declared.command.Command.{Command}
-use Rattle.inst_command.specs.declared.command.Command.TheVariants.{Fund, Defund, Submit, Confirm, Reject, Investigate, Fetch, Position, Statement}
+use Rattle.inst_command.specs.declared.command.Command.TheVariants.{Fund, Defund, Submit, Confirm, Reject, Investigate, Fetch, Query}
 use Rattle.inst_command.specs.declared.outcome.Outcome.{Outcome}
 use Rattle.inst_command.specs.declared.outcome.Outcome.TheVariants.{Accepted, Rejected, TimedOut}
 use Rattle.inst_command.specs.declared.step.Step.{Step}
@@ -17,8 +17,8 @@ use Rattle.inst_model.specs.Transfer.{Transfer, at_place, deadline, is_named}
 use Rattle.inst_model.specs.Wants.{is_addressed, ask_wants, step_wants, wants}
 use Rattle.inst_model.specs.Hub.{history}
 use Rattle.inst_model.specs.Deciders.{asks, IsConfirmation, IsRejection, IsInvestigation, IsExpiry, IsBy, EachOutcomeIsAPartys}
-use Rattle.inst_model.proofs.Accepting.{when_true, wants_taken}
-use Rattle.inst_model.proofs.Basics.{same_transfer-true}
+use Rattle.inst_model.proofs.BeneficiaryBooksAccepted.{when_true, wants_taken}
+use Rattle.inst_model.proofs.TextsTestsAndFirstThings.{same_transfer-true}
 
 -- what is decided is the time-out or what is wanted early
 late_or_early : (d at : ℕ) (early : Option Outcome) (o : Outcome) → timed_out_or d at early ≡ Some o → (TimedOut ≡ o) ⊎ (early ≡ Some o)
@@ -94,12 +94,11 @@ ask_by s J who at p id x o (Investigate other) e =
       | inl late ↦ subst (λ (q : Outcome). IsBy J step p id x q) late (inr (inl by))
       | inr early ↦ absurd (none-some o early)
     ]
-ask_by s J who at p id x o (Fund reference cents) e = absurd (none-some o e)
-ask_by s J who at p id x o (Defund reference cents) e = absurd (none-some o e)
+ask_by s J who at p id x o (Fund funding) e = absurd (none-some o e)
+ask_by s J who at p id x o (Defund funding) e = absurd (none-some o e)
 ask_by s J who at p id x o (Submit submission) e = absurd (none-some o e)
 ask_by s J who at p id x o (Fetch max) e = absurd (none-some o e)
-ask_by s J who at p id x o Position e = absurd (none-some o e)
-ask_by s J who at p id x o (Statement skip count) e = absurd (none-some o e)
+ask_by s J who at p id x o (Query query) e = absurd (none-some o e)
 
 -- a step that decides is of a party
 step_by : (s : HubSettings) (J : ℕ → List Event) (step : Step) (p : ℕ) (id : List ℕ) (x : Transfer) (o : Outcome) → step_wants s J step p id x ≡ Some o → IsBy J step p id x o

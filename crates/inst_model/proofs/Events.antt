@@ -10,7 +10,7 @@ use Rattle.inst_journal.specs.Booked.{or_else, books, booked, same_transfer}
 use Rattle.inst_journal.specs.Sound.{Fits, IsSound}
 use Rattle.inst_journal.proofs.Soundness.{sound_induction}
 use Rattle.inst_model.specs.Transfer.{terms_named, Transfer, transfers, transfer}
-use Rattle.inst_model.proofs.Basics.{Each, Each_push, Each_weaker, Each_contains, or_else_cases, same_transfer-true}
+use Rattle.inst_model.proofs.TextsTestsAndFirstThings.{Each, Each_push, Each_weaker, Each_contains, or_else_cases, same_transfer-true}
 use Rattle.inst_model.proofs.Transfers.{taken_at, as_transfer, transfer_kept, transfer_new}
 
 -- the event that took a transfer
@@ -27,8 +27,8 @@ later x J each = Each_weaker (λ (t : Transfer). Contains J (taken_event t)) (λ
 pub each_there : (J : List Event) → Each (λ (t : Transfer). Contains J (taken_event t)) (transfers J)
 each_there [] = tt
 each_there (Taken id to cents stamp ∷ J) = (head_there (Taken id to cents stamp) J, later (Taken id to cents stamp) J (each_there J))
-each_there (Funded reference cents ∷ J) = later (Funded reference cents) J (each_there J)
-each_there (Defunded reference cents ∷ J) = later (Defunded reference cents) J (each_there J)
+each_there (Funded funding ∷ J) = later (Funded funding) J (each_there J)
+each_there (Defunded funding ∷ J) = later (Defunded funding) J (each_there J)
 each_there (Forwarded from id cents d ∷ J) = later (Forwarded from id cents d) J (each_there J)
 each_there (Booked from id o ∷ J) = later (Booked from id o) J (each_there J)
 each_there (Fetched count ∷ J) = later (Fetched count) J (each_there J)
@@ -37,8 +37,8 @@ each_there (Opened ∷ J) = later Opened J (each_there J)
 -- a taken event is found by its identifier
 abbrev IsFound : List Event → Event → Type 0
 IsFound J (Taken id to cents stamp) = transfer id J ≡ Some (as_transfer id to cents stamp)
-IsFound J (Funded reference cents) = Unit {0}
-IsFound J (Defunded reference cents) = Unit {0}
+IsFound J (Funded funding) = Unit {0}
+IsFound J (Defunded funding) = Unit {0}
 IsFound J (Forwarded from id cents d) = Unit {0}
 IsFound J (Booked from id o) = Unit {0}
 IsFound J (Fetched count) = Unit {0}
@@ -46,8 +46,8 @@ IsFound J Opened = Unit {0}
 
 found_later : (J : List Event) (new event : Event) → IsFound J event → IsFound (J ++ new ∷ []) event
 found_later J new (Taken id to cents stamp) is = transfer_kept id J new (as_transfer id to cents stamp) is
-found_later J new (Funded reference cents) is = tt
-found_later J new (Defunded reference cents) is = tt
+found_later J new (Funded funding) is = tt
+found_later J new (Defunded funding) is = tt
 found_later J new (Forwarded from id cents d) is = tt
 found_later J new (Booked from id o) is = tt
 found_later J new (Fetched count) is = tt
@@ -55,8 +55,8 @@ found_later J new Opened is = tt
 
 found_new : (s : HubSettings) (who : ℕ) (J : List Event) (event : Event) → Fits s who J event → IsFound (J ++ event ∷ []) event
 found_new s who J (Taken id to cents stamp) fits = transfer_new id to cents stamp J fits.new
-found_new s who J (Funded reference cents) fits = tt
-found_new s who J (Defunded reference cents) fits = tt
+found_new s who J (Funded funding) fits = tt
+found_new s who J (Defunded funding) fits = tt
 found_new s who J (Forwarded from id cents d) fits = tt
 found_new s who J (Booked from id o) fits = tt
 found_new s who J (Fetched count) fits = tt
@@ -76,8 +76,8 @@ book_there from id o (Booked other_from other p) J e =
     let same : (other_from ≡ from) × (other ≡ id) = same_transfer-true from id other_from other parts.0 in
     let is : Booked other_from other p ≡ Booked from id o = ap (λ q. Booked q other p) same.0 ∙ ap (λ (i : List ℕ). Booked from i p) same.1 ∙ ap (Booked from id) parts.1 in
     subst (λ (event : Event). Contains (event ∷ J) (Booked from id o)) (sym is) (head_there (Booked from id o) J)
-book_there from id o (Funded reference cents) J e = absurd cc
-book_there from id o (Defunded reference cents) J e = absurd cc
+book_there from id o (Funded funding) J e = absurd cc
+book_there from id o (Defunded funding) J e = absurd cc
 book_there from id o (Taken other to cents stamp) J e = absurd cc
 book_there from id o (Forwarded other_from other cents d) J e = absurd cc
 book_there from id o (Fetched count) J e = absurd cc
@@ -99,8 +99,8 @@ stands id (Taken other to cents stamp) J x e later =
       | inl here ↦ (zero, ap Some (cond_some (same_text other id) (as_transfer other to cents stamp) x here).1)
       | inr rest ↦ let found = later rest.1 in (suc found.0, found.1)
     ]
-stands id (Funded reference cents) J x e later = later e
-stands id (Defunded reference cents) J x e later = later e
+stands id (Funded funding) J x e later = later e
+stands id (Defunded funding) J x e later = later e
 stands id (Forwarded from other cents d) J x e later = later e
 stands id (Booked from other o) J x e later = later e
 stands id (Fetched count) J x e later = later e

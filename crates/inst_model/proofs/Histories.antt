@@ -1,6 +1,7 @@
 -- A history grows by at most one event a step; which, and why.
 use Rattle.std.proofs.Common.{◌≡◌, ℕ, true, false, ltb, List, [], ◌∷◌, ◌++◌, length, take, Option, Some, None, refl, sym, subst, ◌∙◌, inl, inr, ◌⊎◌, append-nil}
 use Rattle.std.proofs.lemmas.Bool.{or_left, or_right}
+use Rattle.inst_command.specs.declared.funding.Funding.{Funding}
 use Rattle.inst_model.specs.Opening.{Opening, beginning}
 use Rattle.inst_settings.specs.Settings.{HubSettings, same_text}
 use Rattle.inst_command.specs.declared.ask.Ask.{Ask as AskValue}
@@ -20,7 +21,7 @@ use Rattle.inst_model.specs.Found.{found}
 use Rattle.inst_model.specs.View.{Seen, sees}
 use Rattle.inst_model.specs.Kept.{kept, with_entries}
 use Rattle.inst_model.specs.Hub.{decided, view, outcome, history}
-use Rattle.inst_model.proofs.Basics.{Each, Each_weaker, Each_at, same_text_refl}
+use Rattle.inst_model.proofs.TextsTestsAndFirstThings.{Each, Each_weaker, Each_at, same_text_refl}
 use Rattle.inst_model.proofs.KeptCases.{FundKept, TakenKept, kept_cases}
 use Rattle.inst_model.proofs.Transfers.{place_there}
 use Rattle.inst_model.proofs.Steps.{Comes, sees_cases}
@@ -36,8 +37,8 @@ each_taken (Taken id to cents stamp ∷ J) = (
   Each_weaker (λ (x : Transfer). is_taken x.id J ≡ true) (λ (x : Transfer). is_taken x.id (Taken id to cents stamp ∷ J) ≡ true) (transfers J)
       (λ x e. or_right (same_text id x.id) (is_taken x.id J) e) (each_taken J),
 )
-each_taken (Funded reference cents ∷ J) = each_taken J
-each_taken (Defunded reference cents ∷ J) = each_taken J
+each_taken (Funded funding ∷ J) = each_taken J
+each_taken (Defunded funding ∷ J) = each_taken J
 each_taken (Forwarded from id cents deadline ∷ J) = each_taken J
 each_taken (Booked from id o ∷ J) = each_taken J
 each_taken (Fetched count ∷ J) = each_taken J
@@ -56,10 +57,10 @@ pub record Books (s : HubSettings) (J : ℕ → List Event) (before : ℕ → Li
 -- the history of p after a step, case by case
 pub record Grows (s : HubSettings) (J : ℕ → List Event) (before : ℕ → List ℕ → Option Outcome) (step : Step) (p : ℕ) (Q : List Event → Type 0) : Type 0 where
   pub nothing : Q (J p)
-  pub funds : (ask : AskValue) (reference : List ℕ) (cents : ℕ) → step ≡ Ask ask → ask.command ≡ Fund reference cents →
-      FundKept s (J p) reference → Q (J p ++ Funded reference cents ∷ [])
-  pub defunds : (ask : AskValue) (reference : List ℕ) (cents : ℕ) → step ≡ Ask ask → ask.command ≡ Defund reference cents →
-      FundKept s (J p) reference → ltb (available (J p)) cents ≡ false → Q (J p ++ Defunded reference cents ∷ [])
+  pub funds : (ask : AskValue) (funding : Funding) → step ≡ Ask ask → ask.command ≡ Fund funding →
+      FundKept s (J p) funding.reference → Q (J p ++ Funded funding ∷ [])
+  pub defunds : (ask : AskValue) (funding : Funding) → step ≡ Ask ask → ask.command ≡ Defund funding →
+      FundKept s (J p) funding.reference → ltb (available (J p)) funding.cents ≡ false → Q (J p ++ Defunded funding ∷ [])
   pub takes : (ask : AskValue) (id : List ℕ) (to cents stamp : ℕ) → step ≡ Ask ask → ask.command ≡ Submit (record { id = id; to = to; cents = cents; stamp = stamp }) →
       TakenKept s p (J p) id to cents → Q (J p ++ Taken id to cents stamp ∷ [])
   pub forwards : (from index : ℕ) (x : Transfer) → step ≡ Deliver from index p → Comes s before from p (J from) (J p) index x →
@@ -78,8 +79,8 @@ grows s J before step p Q c =
       nothing = c.nothing;
       asked = λ ask is who. kept_cases s p (J p) ask.command ask.at (found (decided s J before step) p (J p) ask.command) (λ events. Q (J p ++ events)) (record {
         nothing = subst Q (sym (append-nil (J p))) c.nothing;
-        funds = λ reference cents command why. c.funds ask reference cents is command why;
-        defunds = λ reference cents command why cover. c.defunds ask reference cents is command why cover;
+        funds = λ funding command why. c.funds ask funding is command why;
+        defunds = λ funding command why cover. c.defunds ask funding is command why cover;
         takes = λ x command why. c.takes ask x.id x.to x.cents x.stamp is command why;
         books = λ from id o why. c.books from id o (record { outcome_is = sym (why.named (decided s J before step)) ∙ why.found_here; new = why.new; party = why.party });
         hands_out = λ max entry entries command some. c.hands_out ask max entry entries is command some;
@@ -107,8 +108,8 @@ pub persists : (s : HubSettings) (J : ℕ → List Event) (before : ℕ → List
 persists s J before step p P more here =
     grows s J before step p P (record {
       nothing = here;
-      funds = λ ask reference cents is command why. more (J p) (Funded reference cents) here;
-      defunds = λ ask reference cents is command why cover. more (J p) (Defunded reference cents) here;
+      funds = λ ask funding is command why. more (J p) (Funded funding) here;
+      defunds = λ ask funding is command why cover. more (J p) (Defunded funding) here;
       takes = λ ask id to cents stamp is command why. more (J p) (Taken id to cents stamp) here;
       forwards = λ from index x is why. more (J p) (Forwarded from x.id x.cents (deadline s x)) here;
       books = λ from id o why. more (J p) (Booked from id o) here;
@@ -120,8 +121,8 @@ pub persists_within : (s : HubSettings) (J : ℕ → List Event) (before : ℕ �
 persists_within s J before step p P more here =
     grows s J before step p P (record {
       nothing = here;
-      funds = λ ask reference cents is command why. more (J p) (Funded reference cents) refl here;
-      defunds = λ ask reference cents is command why cover. more (J p) (Defunded reference cents) refl here;
+      funds = λ ask funding is command why. more (J p) (Funded funding) refl here;
+      defunds = λ ask funding is command why cover. more (J p) (Defunded funding) refl here;
       takes = λ ask id to cents stamp is command why. more (J p) (Taken id to cents stamp) refl here;
       forwards = λ from index x is why. more (J p) (Forwarded from x.id x.cents (deadline s x)) refl here;
       books = λ from id o why. more (J p) (Booked from id o) refl here;

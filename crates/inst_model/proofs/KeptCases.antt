@@ -7,7 +7,8 @@ use Rattle.inst_base.specs.declared.fault.Fault.{Fault}
 use Rattle.inst_base.specs.declared.fault.Fault.TheVariants.{SelfTransfer, UnknownTransfer, Duplicate, StampAhead, Expired, Full, Shortage}
 use Rattle.inst_settings.specs.Settings.{HubSettings}
 use Rattle.inst_command.specs.declared.command.Command.{Command}
-use Rattle.inst_command.specs.declared.command.Command.TheVariants.{Fund, Defund, Submit, Confirm, Reject, Investigate, Fetch, Position, Statement}
+use Rattle.inst_command.specs.declared.command.Command.TheVariants.{Fund, Defund, Submit, Confirm, Reject, Investigate, Fetch, Query}
+use Rattle.inst_command.specs.declared.funding.Funding.{Funding}
 use Rattle.inst_command.specs.declared.submission.Submission.{Submission}
 use Rattle.inst_command.specs.declared.entry.Entry.{Entry}
 use Rattle.inst_command.specs.declared.outcome.Outcome.{Outcome}
@@ -44,8 +45,8 @@ pub record BookedKept (who : ℕ) (J : List Event) (command : Command) (o : Opti
 
 pub record KeptCases (s : HubSettings) (who : ℕ) (J : List Event) (command : Command) (o : Option Outcome) (P : List Event → Type 0) : Type 0 where
   pub nothing : P []
-  pub funds : (reference : List ℕ) (cents : ℕ) → command ≡ Fund reference cents → FundKept s J reference → P (Funded reference cents ∷ [])
-  pub defunds : (reference : List ℕ) (cents : ℕ) → command ≡ Defund reference cents → FundKept s J reference → ltb (available J) cents ≡ false → P (Defunded reference cents ∷ [])
+  pub funds : (funding : Funding) → command ≡ Fund funding → FundKept s J funding.reference → P (Funded funding ∷ [])
+  pub defunds : (funding : Funding) → command ≡ Defund funding → FundKept s J funding.reference → ltb (available J) funding.cents ≡ false → P (Defunded funding ∷ [])
   pub takes : (x : Submission) → command ≡ Submit x → TakenKept s who J x.id x.to x.cents → P (Taken x.id x.to x.cents x.stamp ∷ [])
   pub books : (from : ℕ) (id : List ℕ) (outcome : Outcome) → BookedKept who J command o from id outcome → P (Booked from id outcome ∷ [])
   pub hands_out : (max : ℕ) (entry : Entry) (entries : List Entry) → command ≡ Fetch max → take max (unread J) ≡ entry ∷ entries → P (Fetched (length (entry ∷ entries)) ∷ [])
@@ -108,13 +109,13 @@ answer_shape s who J command from id pending o P c none named =
 
 pub kept_cases : (s : HubSettings) (who : ℕ) (J : List Event) (command : Command) (at : ℕ) (o : Option Outcome) (P : List Event → Type 0)
     → KeptCases s who J command o P → P (kept_events (handle s who J command at o))
-kept_cases s who J (Fund reference cents) at o P c =
-    funding_shape (is_fund_repeat reference cents J) (has_reference reference J) (leb s.fundings (fundings J)) reference _ P c.nothing
-    (λ new place. c.funds reference cents refl (record { new = new; place = place }))
-kept_cases s who J (Defund reference cents) at o P c =
-    funding_shape (is_defund_repeat reference cents J) (has_reference reference J) (leb s.fundings (fundings J)) reference _ P c.nothing
-    (λ new place. covered_shape (ltb (available J) cents) (Done reference) (Defunded reference cents) P c.nothing
-    (λ cover. c.defunds reference cents refl (record { new = new; place = place }) cover))
+kept_cases s who J (Fund funding) at o P c =
+    funding_shape (is_fund_repeat funding J) (has_reference funding.reference J) (leb s.fundings (fundings J)) funding.reference _ P c.nothing
+    (λ new place. c.funds funding refl (record { new = new; place = place }))
+kept_cases s who J (Defund funding) at o P c =
+    funding_shape (is_defund_repeat funding J) (has_reference funding.reference J) (leb s.fundings (fundings J)) funding.reference _ P c.nothing
+    (λ new place. covered_shape (ltb (available J) funding.cents) (Done funding.reference) (Defunded funding) P c.nothing
+    (λ cover. c.defunds funding refl (record { new = new; place = place }) cover))
 kept_cases s who J (Submit x) at o P c =
     let deadline = deadline_of s.limit x.stamp in
     submit_shape (eqb x.to who) (is_submission_repeat x J) (is_taken x.id J) (is_ahead s.ahead x.stamp at) (is_due deadline at)
@@ -130,5 +131,4 @@ kept_cases s who J (Investigate id) at o P c =
     (λ outcome some none. c.books who id outcome (record { found_here = some; new = none; party = inl (refl, there); named = λ after. cond-true (is_taken id J) (after who id) None there })))
 kept_cases s who J (Fetch max) at o P c =
     hand_out_cases (take max (unread J)) P c.nothing (λ entry entries is. c.hands_out max entry entries refl is)
-kept_cases s who J Position at o P c = c.nothing
-kept_cases s who J (Statement skip count) at o P c = c.nothing
+kept_cases s who J (Query query) at o P c = c.nothing

@@ -10,10 +10,10 @@ use Rattle.inst_journal.specs.declared.event.Event.{Event}
 use Rattle.inst_journal.specs.declared.event.Event.TheVariants.{Funded, Defunded, Taken, Forwarded, Booked, Fetched, Opened}
 use Rattle.inst_journal.specs.Booked.{or_else, is_taken, is_forwarded, forwards, same_transfer}
 use Rattle.inst_journal.specs.Sound.{Fits, IsSound}
-use Rattle.inst_journal.proofs.Pushing.{list_any_push, sum_by-both, or-false}
+use Rattle.inst_journal.proofs.OneMoreElement.{list_any_push, sum_by-both, or-false}
 use Rattle.inst_journal.proofs.Soundness.{sound_induction}
 use Rattle.inst_model.specs.Transfer.{Transfer, terms, terms_named, transfers, transfer, deadline}
-use Rattle.inst_model.proofs.Basics.{same_text-true, same_text_refl, same_transfer-true}
+use Rattle.inst_model.proofs.TextsTestsAndFirstThings.{same_text-true, same_text_refl, same_transfer-true}
 use Rattle.inst_model.proofs.Histories.{next, grows}
 use Rattle.inst_model.proofs.Sums.{sum_by_same, each_of}
 use Rattle.inst_model.proofs.Transfers.{as_transfer, transfers_push, transfer_push, transfer_none, place_found}
@@ -74,8 +74,8 @@ one_more h id other to cents stamp J new before =
 single_push : (s : HubSettings) (who : ℕ) (h : Transfer → ℕ) (id : List ℕ) (J : List Event) (event : Event) → Fits s who J event → sum_by (measure_named h id) (transfers J) ≡ measure_of h (transfer id J)
     → sum_by (measure_named h id) (transfers (J ++ event ∷ [])) ≡ measure_of h (transfer id (J ++ event ∷ []))
 single_push s who h id J (Taken other to cents stamp) fits before = one_more h id other to cents stamp J fits.new before
-single_push s who h id J (Funded reference cents) fits before = same_or_none h id J (Funded reference cents) refl refl before
-single_push s who h id J (Defunded reference cents) fits before = same_or_none h id J (Defunded reference cents) refl refl before
+single_push s who h id J (Funded funding) fits before = same_or_none h id J (Funded funding) refl refl before
+single_push s who h id J (Defunded funding) fits before = same_or_none h id J (Defunded funding) refl refl before
 single_push s who h id J (Forwarded from other cents deadline) fits before = same_or_none h id J (Forwarded from other cents deadline) refl refl before
 single_push s who h id J (Booked from other o) fits before = same_or_none h id J (Booked from other o) refl refl before
 single_push s who h id J (Fetched count) fits before = same_or_none h id J (Fetched count) refl refl before
@@ -88,8 +88,8 @@ single s who h id = sound_induction s who (λ J. sum_by (measure_named h id) (tr
 -- the measure of a forwarded transfer of this originator
 abbrev pub weighed : (List ℕ → ℕ → ℕ) → ℕ → Event → ℕ
 weighed g from (Forwarded other id cents deadline) = cond (eqb other from) (g id cents) 0
-weighed g from (Funded reference cents) = 0
-weighed g from (Defunded reference cents) = 0
+weighed g from (Funded funding) = 0
+weighed g from (Defunded funding) = 0
 weighed g from (Taken id to cents stamp) = 0
 weighed g from (Booked other id o) = 0
 weighed g from (Fetched count) = 0
@@ -151,8 +151,8 @@ taken_before s J before step t q =
     t.taken q from id (sym (forwarded_push from id (J q) event ∙ ap (λ b. is_forwarded from id (J q) || b) (none from id) ∙ or-false (is_forwarded from id (J q))) ∙ e) in
     grows s J before step q Q (record {
       nothing = t.taken q;
-      funds = λ ask reference cents is command why. other (Funded reference cents) (λ from id. refl);
-      defunds = λ ask reference cents is command why cover. other (Defunded reference cents) (λ from id. refl);
+      funds = λ ask funding is command why. other (Funded funding) (λ from id. refl);
+      defunds = λ ask funding is command why cover. other (Defunded funding) (λ from id. refl);
       takes = λ ask id to cents stamp is command why. other (Taken id to cents stamp) (λ from id. refl);
       forwards = λ o index x is why from id e.
           elim (or_cases (is_forwarded from id (J q)) (same_transfer from id o x.id) (sym (forwarded_push from id (J q) (Forwarded o x.id x.cents (deadline s x))) ∙ e)) [

@@ -8,8 +8,9 @@ use Rattle.inst_base.specs.declared.fault.Fault.{Fault}
 use Rattle.inst_base.specs.declared.fault.Fault.TheVariants.{Expired}
 use Rattle.inst_settings.specs.Settings.{HubSettings}
 use Rattle.inst_command.specs.declared.command.Command.{Command}
-use Rattle.inst_command.specs.declared.command.Command.TheVariants.{Fund, Defund, Submit, Confirm, Reject, Investigate, Fetch, Position, Statement}
+use Rattle.inst_command.specs.declared.command.Command.TheVariants.{Fund, Defund, Submit, Confirm, Reject, Investigate, Fetch, Query}
 use Rattle.inst_command.specs.declared.entry.Entry.{Entry}
+use Rattle.inst_command.specs.declared.query.Query.TheVariants.{Position, Statement}
 use Rattle.inst_command.specs.declared.outcome.Outcome.{Outcome}
 use Rattle.inst_command.specs.declared.outcome.State.TheVariants.{Unused, Pending, Decided}
 use Rattle.inst_command.specs.declared.step.Step.{Step}
@@ -31,11 +32,11 @@ use Rattle.inst_model.specs.Found.{found}
 use Rattle.inst_model.specs.Hub.{outcome, history}
 use Rattle.inst_model.specs.Trace.{as_reply}
 use Rattle.inst_model.specs.OneOutcome.{AnsweredIsTheOutcome, BookedIsTheOutcome, OutcomeStays}
-use Rattle.inst_model.proofs.Basics.{or_else_kept, Each, Each_push, Each_weaker, Each_contains, first_some_each, same_transfer-true}
+use Rattle.inst_model.proofs.TextsTestsAndFirstThings.{or_else_kept, Each, Each_push, Each_weaker, Each_contains, first_some_each, same_transfer-true}
 use Rattle.inst_model.proofs.Histories.{by_step}
-use Rattle.inst_model.proofs.FittingMirror.{each_contained}
-use Rattle.inst_model.proofs.Booking.{booked_found}
-use Rattle.inst_model.proofs.Beginning.{beginning_sound, beginning_booked}
+use Rattle.inst_model.proofs.MirrorOfFittingHistories.{each_contained}
+use Rattle.inst_model.proofs.BookingsAreOfParties.{booked_found}
+use Rattle.inst_model.proofs.HistoriesBeginSoundAndClosed.{beginning_sound, beginning_booked}
 
 -- an outcome stays through a step
 pub outcome_later : (s : HubSettings) (O : Opening) (step : Step) (past : List Step) (from : ℕ) (id : List ℕ) (o : Outcome) → outcome s O past from id ≡ Some o → outcome s O (step ∷ past) from id ≡ Some o
@@ -48,8 +49,8 @@ outcome_stays s O (step ∷ later) past from id o e = outcome_later s O step (la
 -- what is booked is the outcome
 abbrev pub BookedIs : (ℕ → List ℕ → Option Outcome) → Event → Type 0
 BookedIs outcomes (Booked from id o) = outcomes from id ≡ Some o
-BookedIs outcomes (Funded reference cents) = Unit {0}
-BookedIs outcomes (Defunded reference cents) = Unit {0}
+BookedIs outcomes (Funded funding) = Unit {0}
+BookedIs outcomes (Defunded funding) = Unit {0}
 BookedIs outcomes (Taken id to cents stamp) = Unit {0}
 BookedIs outcomes (Forwarded from id cents deadline) = Unit {0}
 BookedIs outcomes (Fetched count) = Unit {0}
@@ -57,8 +58,8 @@ BookedIs outcomes Opened = Unit {0}
 
 booked_later : (s : HubSettings) (O : Opening) (step : Step) (past : List Step) (event : Event) → BookedIs (outcome s O past) event → BookedIs (outcome s O (step ∷ past)) event
 booked_later s O step past (Booked from id o) e = outcome_later s O step past from id o e
-booked_later s O step past (Funded reference cents) e = tt
-booked_later s O step past (Defunded reference cents) e = tt
+booked_later s O step past (Funded funding) e = tt
+booked_later s O step past (Defunded funding) e = tt
 booked_later s O step past (Taken id to cents stamp) e = tt
 booked_later s O step past (Forwarded from id cents deadline) e = tt
 booked_later s O step past (Fetched count) e = tt
@@ -66,8 +67,8 @@ booked_later s O step past Opened e = tt
 
 begun : (s : HubSettings) (O : Opening) → IsOpening s O → (p : ℕ) (event : Event) → Contains (beginning O p) event → BookedIs (outcome s O []) event
 begun s O opened p (Booked from id o) there = beginning_booked s O opened p from id o (booked_found s p (beginning O p) from id o (beginning_sound s O opened p) there)
-begun s O opened p (Funded reference cents) there = tt
-begun s O opened p (Defunded reference cents) there = tt
+begun s O opened p (Funded funding) there = tt
+begun s O opened p (Defunded funding) there = tt
 begun s O opened p (Taken id to cents stamp) there = tt
 begun s O opened p (Forwarded from id cents deadline) there = tt
 begun s O opened p (Fetched count) there = tt
@@ -80,8 +81,8 @@ all_booked s O opened (step ∷ past) p =
     let before : Each P (history s O past p) = Each_weaker (BookedIs (outcome s O past)) P (history s O past p) (booked_later s O step past) (all_booked s O opened past p) in
     by_step s O step past p (λ J. Each P J) (record {
       nothing = before;
-      funds = λ ask reference cents is command why. Each_push P (history s O past p) (Funded reference cents) before tt;
-      defunds = λ ask reference cents is command why cover. Each_push P (history s O past p) (Defunded reference cents) before tt;
+      funds = λ ask funding is command why. Each_push P (history s O past p) (Funded funding) before tt;
+      defunds = λ ask funding is command why cover. Each_push P (history s O past p) (Defunded funding) before tt;
       takes = λ ask id to cents stamp is command why. Each_push P (history s O past p) (Taken id to cents stamp) before tt;
       forwards = λ from index x is why. Each_push P (history s O past p) _ before tt;
       books = λ from id o why. Each_push P (history s O past p) (Booked from id o) before why.outcome_is;
@@ -96,8 +97,8 @@ books_is outcomes from id o (Booked other_from other p) is e =
     let parts : (same_transfer from id other_from other ≡ true) × (p ≡ o) = cond_some (same_transfer from id other_from other) p o e in
     let same : (other_from ≡ from) × (other ≡ id) = same_transfer-true from id other_from other parts.0 in
     cc
-books_is outcomes from id o (Funded reference cents) is e = cc
-books_is outcomes from id o (Defunded reference cents) is e = cc
+books_is outcomes from id o (Funded funding) is e = cc
+books_is outcomes from id o (Defunded funding) is e = cc
 books_is outcomes from id o (Taken other to cents stamp) is e = cc
 books_is outcomes from id o (Forwarded other_from other cents deadline) is e = cc
 books_is outcomes from id o (Fetched count) is e = cc
@@ -150,9 +151,9 @@ hand_out_right outcomes (entry ∷ entries) = tt
 handled_right : (s : HubSettings) (who : ℕ) (J : List Event) (command : Command) (at : ℕ) (outcomes : ℕ → List ℕ → Option Outcome)
     → ((from : ℕ) (id : List ℕ) (o : Outcome) → booked from id J ≡ Some o → outcomes from id ≡ Some o)
     → Right outcomes (handle s who J command at (found outcomes who J command))
-handled_right s who J (Fund reference cents) at outcomes known = funding_right outcomes reference _ (is_new_funding s J reference _) tt
-handled_right s who J (Defund reference cents) at outcomes known =
-    funding_right outcomes reference _ (is_new_funding s J reference _) (chosen outcomes (ltb (available J) cents) _ _ (λ _. tt) (λ _. tt))
+handled_right s who J (Fund funding) at outcomes known = funding_right outcomes funding.reference _ (is_new_funding s J funding.reference _) tt
+handled_right s who J (Defund funding) at outcomes known =
+    funding_right outcomes funding.reference _ (is_new_funding s J funding.reference _) (chosen outcomes (ltb (available J) funding.cents) _ _ (λ _. tt) (λ _. tt))
 handled_right s who J (Submit x) at outcomes known =
     chosen outcomes (eqb x.to who) _ _ (λ _. tt) (λ _.
     chosen outcomes (is_submission_repeat x J) _ _ (λ _. tt) (λ _.
@@ -171,8 +172,8 @@ handled_right s who J (Investigate id) at outcomes known =
     chosen outcomes (is_taken id J) _ _
     (λ there. standing_right outcomes who id (still_pending who id) (booked who id J) _ tt (known who id) (cond-true (is_taken id J) (outcomes who id) None there)) (λ _. tt)
 handled_right s who J (Fetch max) at outcomes known = hand_out_right outcomes (take max (unread J))
-handled_right s who J Position at outcomes known = tt
-handled_right s who J (Statement skip count) at outcomes known = tt
+handled_right s who J (Query Position) at outcomes known = tt
+handled_right s who J (Query (Statement skip count)) at outcomes known = tt
 
 pub answered_is_the_outcome : AnsweredIsTheOutcome
 answered_is_the_outcome s O opened past ask from id o e =

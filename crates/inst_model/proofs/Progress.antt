@@ -3,7 +3,7 @@ use Rattle.std.proofs.Common.{◌≡◌, ℕ, Bool, true, false, ◌||◌, ◌&&
 use Rattle.std.proofs.lemmas.Bool.{and_parts, eqb-true}
 use Rattle.inst_settings.specs.Settings.{HubSettings}
 use Rattle.inst_command.specs.declared.command.Command.{Command}
-use Rattle.inst_command.specs.declared.command.Command.TheVariants.{Fund, Defund, Submit, Confirm, Reject, Investigate, Fetch, Position, Statement}
+use Rattle.inst_command.specs.declared.command.Command.TheVariants.{Fund, Defund, Submit, Confirm, Reject, Investigate, Fetch, Query}
 use Rattle.inst_command.specs.declared.outcome.Outcome.{Outcome}
 use Rattle.inst_command.specs.declared.outcome.Outcome.TheVariants.{Accepted, Rejected}
 use Rattle.inst_command.specs.declared.step.Step.{Step}
@@ -11,7 +11,7 @@ use Rattle.inst_command.specs.declared.step.Step.TheVariants.{Deliver}
 use Rattle.inst_journal.specs.declared.event.Event.{Event}
 use Rattle.inst_journal.specs.declared.event.Event.TheVariants.{Funded, Defunded, Taken, Booked, Fetched}
 use Rattle.inst_journal.specs.Booked.{or_else, is_forwarded, forwards, same_transfer}
-use Rattle.inst_journal.proofs.Pushing.{list_any_push, or-false, or_else-none}
+use Rattle.inst_journal.proofs.OneMoreElement.{list_any_push, or-false, or_else-none}
 use Rattle.inst_model.specs.Transfer.{Transfer, deadline}
 use Rattle.inst_base.specs.TimeLimit.{is_in_time_to_accept}
 use Rattle.inst_command.specs.Deciding.{timed_out_or, confirmed, rejected}
@@ -51,8 +51,8 @@ unforwarded_next s J before step q p id none =
     list_any_push (forwards p id) (J q) event ∙ ap (λ b. is_forwarded p id (J q) || b) not_this ∙ or-false (is_forwarded p id (J q)) in
     grows s J before step q (λ K. is_forwarded p id K ≡ is_forwarded p id (J q)) (record {
       nothing = refl;
-      funds = λ ask reference cents is command why. other (Funded reference cents) refl;
-      defunds = λ ask reference cents is command why cover. other (Defunded reference cents) refl;
+      funds = λ ask funding is command why. other (Funded funding) refl;
+      defunds = λ ask funding is command why cover. other (Defunded funding) refl;
       takes = λ ask other_id to cents stamp is command why. other (Taken other_id to cents stamp) refl;
       forwards = λ from index x is why. absurd (none from index is);
       books = λ from other_id o why. other (Booked from other_id o) refl;
@@ -97,12 +97,11 @@ at_ask s J who at p id x before (Reject from other reason) =
     deciding s x (Some (Rejected reason)) at (Rejects reason at) (same_transfer p id from other && eqb who x.to) (is_forwarded p id (J who)) (is_forwarded p id (J x.to)) before (λ g. refl)
     (λ e. ap (λ q. is_forwarded p id (J q)) (eqb-true who x.to (and_parts (same_transfer p id from other) (eqb who x.to) e).1))
 at_ask s J who at p id x before (Investigate other) = timing s x at (Investigates at) (same_transfer p id who other) (is_forwarded p id (J x.to)) before (λ g. refl)
-at_ask s J who at p id x before (Fund reference cents) = silent s x (is_forwarded p id (J x.to)) before
-at_ask s J who at p id x before (Defund reference cents) = silent s x (is_forwarded p id (J x.to)) before
+at_ask s J who at p id x before (Fund funding) = silent s x (is_forwarded p id (J x.to)) before
+at_ask s J who at p id x before (Defund funding) = silent s x (is_forwarded p id (J x.to)) before
 at_ask s J who at p id x before (Submit submission) = silent s x (is_forwarded p id (J x.to)) before
 at_ask s J who at p id x before (Fetch max) = silent s x (is_forwarded p id (J x.to)) before
-at_ask s J who at p id x before Position = silent s x (is_forwarded p id (J x.to)) before
-at_ask s J who at p id x before (Statement skip count) = silent s x (is_forwarded p id (J x.to)) before
+at_ask s J who at p id x before (Query query) = silent s x (is_forwarded p id (J x.to)) before
 
 pub with_forwarded : (s : HubSettings) (there now : Bool) (decided : Option Outcome) (g : Progress) → now ≡ there → Says s there decided g → Says s now decided g
 with_forwarded s there now decided g e says = record { forwarded_is = e ∙ says.forwarded_is; decided_is = says.decided_is }

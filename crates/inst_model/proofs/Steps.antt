@@ -14,7 +14,7 @@ use Rattle.inst_model.specs.Found.{found}
 use Rattle.inst_model.specs.View.{Seen, sees, comes, tells, news}
 use Rattle.inst_model.specs.View.Seen.{Asked, Came, Told}
 use Rattle.inst_model.specs.Hub.{decided}
-use Rattle.inst_model.proofs.Basics.{or_else_kept}
+use Rattle.inst_model.proofs.TextsTestsAndFirstThings.{or_else_kept}
 
 is_none-true : {A : Type 0} (o : Option A) → is_none o ≡ true → o ≡ None
 is_none-true None e = refl

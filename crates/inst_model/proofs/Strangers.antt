@@ -12,18 +12,18 @@ use Rattle.inst_journal.specs.declared.event.Event.TheVariants.{Funded, Defunded
 use Rattle.inst_journal.specs.Booked.{is_forwarded, forwards}
 use Rattle.inst_journal.specs.Sound.{Fits, IsSound}
 use Rattle.inst_journal.proofs.Soundness.{sound_induction}
-use Rattle.inst_journal.proofs.Pushing.{list_any_push}
+use Rattle.inst_journal.proofs.OneMoreElement.{list_any_push}
 use Rattle.inst_model.specs.Interleaving.{IsInterleaving}
 use Rattle.inst_model.specs.Opening.{Opening, IsOpening, beginning}
 use Rattle.inst_model.specs.Transfer.{Transfer, transfers, at_place}
 use Rattle.inst_model.specs.View.{sees}
 use Rattle.inst_model.specs.Kept.{with_entries}
 use Rattle.inst_model.specs.Hub.{decided, outcome, history}
-use Rattle.inst_model.proofs.Basics.{Each_at, same_transfer-true}
-use Rattle.inst_model.proofs.Beginning.{beginning_sound}
+use Rattle.inst_model.proofs.TextsTestsAndFirstThings.{Each_at, same_transfer-true}
+use Rattle.inst_model.proofs.HistoriesBeginSoundAndClosed.{beginning_sound}
 use Rattle.inst_model.proofs.Events.{taken_event, each_there}
 use Rattle.inst_model.proofs.Histories.{history_step}
-use Rattle.inst_model.proofs.Sides.{at_an_opening_the_live_have_come}
+use Rattle.inst_model.proofs.LiveTransfersOnBothSides.{at_an_opening_the_live_have_come}
 use Rattle.inst_model.proofs.Transfers.{place_there, place_live}
 use Rattle.std.proofs.lemmas.Bool.{or_cases}
 
@@ -67,8 +67,8 @@ from_participant s who from id =
   where
     forwarded_now : (J : List Event) (event : Event) → Fits s who J event → forwards from id event ≡ true → is_participant s from ≡ true
     forwarded_now J (Forwarded other_from other cents d) fits e = ap (is_participant s) (sym (same_transfer-true from id other_from other e).0) ∙ fits.originator
-    forwarded_now J (Funded reference cents) fits e = absurd (false≢true e)
-    forwarded_now J (Defunded reference cents) fits e = absurd (false≢true e)
+    forwarded_now J (Funded funding) fits e = absurd (false≢true e)
+    forwarded_now J (Defunded funding) fits e = absurd (false≢true e)
     forwarded_now J (Taken other to cents stamp) fits e = absurd (false≢true e)
     forwarded_now J (Booked other_from other o) fits e = absurd (false≢true e)
     forwarded_now J (Fetched count) fits e = absurd (false≢true e)

@@ -11,7 +11,7 @@ use Rattle.inst_journal.specs.Sound.{Fits, IsSound}
 use Rattle.inst_journal.specs.Opened.{is_live}
 use Rattle.inst_journal.proofs.Soundness.{sound_induction}
 use Rattle.inst_model.specs.Transfer.{Transfer, terms, terms_named, transfers, at_place, transfer}
-use Rattle.inst_model.proofs.Basics.{Each, Each_push, Each_weaker, Each_at, first_some_push, or_else_kept, or_else_cases, same_text-true, same_text_refl}
+use Rattle.inst_model.proofs.TextsTestsAndFirstThings.{Each, Each_push, Each_weaker, Each_at, first_some_push, or_else_kept, or_else_cases, same_text-true, same_text_refl}
 
 -- the same terms as a value
 abbrev pub as_transfer : List ℕ → ℕ → ℕ → ℕ → Transfer
@@ -32,8 +32,8 @@ pub transfer_some : (id : List ℕ) (J : List Event) → is_some (transfer id J)
 transfer_some id [] = refl
 transfer_some id (Taken other to cents stamp ∷ J) =
     named_or (same_text other id) (as_transfer other to cents stamp) (transfer id J) ∙ ap (λ b. same_text other id || b) (transfer_some id J)
-transfer_some id (Funded reference cents ∷ J) = transfer_some id J
-transfer_some id (Defunded reference cents ∷ J) = transfer_some id J
+transfer_some id (Funded funding ∷ J) = transfer_some id J
+transfer_some id (Defunded funding ∷ J) = transfer_some id J
 transfer_some id (Forwarded from other cents deadline ∷ J) = transfer_some id J
 transfer_some id (Booked from other o ∷ J) = transfer_some id J
 transfer_some id (Fetched count ∷ J) = transfer_some id J
@@ -60,8 +60,8 @@ terms_id : (id : List ℕ) (event : Event) (x : Transfer) → terms_named id eve
 terms_id id (Taken other to cents stamp) x e =
     let parts : (same_text other id ≡ true) × (as_transfer other to cents stamp ≡ x) = cond_some (same_text other id) (as_transfer other to cents stamp) x e in
     sym (ap (λ (y : Transfer). y.id) parts.1) ∙ same_text-true other id parts.0
-terms_id id (Funded reference cents) x e = absurd cc
-terms_id id (Defunded reference cents) x e = absurd cc
+terms_id id (Funded funding) x e = absurd cc
+terms_id id (Defunded funding) x e = absurd cc
 terms_id id (Forwarded from other cents deadline) x e = absurd cc
 terms_id id (Booked from other o) x e = absurd cc
 terms_id id (Fetched count) x e = absurd cc
@@ -98,8 +98,8 @@ found_itself : (s : HubSettings) (who : ℕ) (J : List Event) (event : Event) (x
 found_itself s who J (Taken id to cents stamp) x fits is =
     let same : as_transfer id to cents stamp ≡ x = same_Some (as_transfer id to cents stamp) x is in
     subst (λ (y : Transfer). transfer y.id (J ++ Taken id to cents stamp ∷ []) ≡ Some y) same (transfer_new id to cents stamp J fits.new)
-found_itself s who J (Funded reference cents) x fits is = absurd cc
-found_itself s who J (Defunded reference cents) x fits is = absurd cc
+found_itself s who J (Funded funding) x fits is = absurd cc
+found_itself s who J (Defunded funding) x fits is = absurd cc
 found_itself s who J (Forwarded from id cents deadline) x fits is = absurd cc
 found_itself s who J (Booked from id o) x fits is = absurd cc
 found_itself s who J (Fetched count) x fits is = absurd cc
@@ -167,8 +167,8 @@ place_found s who J k x sound e = let there = place_there who J k x e in index_f
 to_another : (s : HubSettings) (who : ℕ) (J : List Event) (event : Event) (x : Transfer) → Fits s who J event → terms event ≡ Some x → x.to ≢ who
 to_another s who J (Taken id to cents stamp) x fits is =
     subst (λ (y : Transfer). y.to ≢ who) (same_Some (as_transfer id to cents stamp) x is) fits.another
-to_another s who J (Funded reference cents) x fits is = absurd cc
-to_another s who J (Defunded reference cents) x fits is = absurd cc
+to_another s who J (Funded funding) x fits is = absurd cc
+to_another s who J (Defunded funding) x fits is = absurd cc
 to_another s who J (Forwarded from id cents deadline) x fits is = absurd cc
 to_another s who J (Booked from id o) x fits is = absurd cc
 to_another s who J (Fetched count) x fits is = absurd cc
@@ -187,8 +187,8 @@ place_to_another s who J k x sound e = let there = place_there who J k x e in in
 to_participant : (s : HubSettings) (who : ℕ) (J : List Event) (event : Event) (x : Transfer) → Fits s who J event → terms event ≡ Some x → x.to < length s.codes
 to_participant s who J (Taken id to cents stamp) x fits is =
     subst (λ (y : Transfer). y.to < length s.codes) (same_Some (as_transfer id to cents stamp) x is) (ltb-true to (participants s) fits.beneficiary)
-to_participant s who J (Funded reference cents) x fits is = absurd cc
-to_participant s who J (Defunded reference cents) x fits is = absurd cc
+to_participant s who J (Funded funding) x fits is = absurd cc
+to_participant s who J (Defunded funding) x fits is = absurd cc
 to_participant s who J (Forwarded from id cents deadline) x fits is = absurd cc
 to_participant s who J (Booked from id o) x fits is = absurd cc
 to_participant s who J (Fetched count) x fits is = absurd cc

@@ -1,5 +1,5 @@
--- What a hub has as soon as it is opened, before any step: nothing is untold, each statement is empty, and each
--- participant's money is that of its book. This hub's own promise.
+-- What a hub has as soon as it is opened, before any step: nothing is untold, each statement is
+-- empty, and each participant's money is that of its book. This hub's own promise.
 use Rattle.std.specs.Prelude.{◌≡◌, ℕ, []}
 use Rattle.inst_settings.specs.Settings.{HubSettings}
 use Rattle.inst_journal.specs.Living.{SameMoney}

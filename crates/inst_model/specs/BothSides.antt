@@ -1,7 +1,8 @@
--- The live transfers on both sides. What is live at its beneficiary is live at its originator, with the same identifier,
--- amount and deadline, each on either side once; and at an opening each live transfer is there on both sides, and pending.
--- So at an opening an originator's live transfers to a beneficiary and those that the beneficiary has live from it
--- correspond one to one. This hub's own promise.
+-- The live transfers on both sides. What is live at its beneficiary is live at its originator, with
+-- the same identifier, amount and deadline, each on either side once; and at an opening each live
+-- transfer is there on both sides, and pending. So at an opening an originator's live transfers to
+-- a beneficiary and those that the beneficiary has live from it correspond one to one. This hub's
+-- own promise.
 use Rattle.std.specs.Prelude.{◌≡◌, ℕ, ◌≤◌, true, List, [], None, count_by, Contains}
 use Rattle.inst_base.specs.TimeLimit.{deadline_of}
 use Rattle.inst_settings.specs.Settings.{HubSettings}
@@ -16,23 +17,29 @@ use Rattle.inst_model.specs.Hub.{outcome, history}
 
 -- the live transfers of `from` in the histories J of the originator `from` and the beneficiary `to`
 pub record IsLiveOnBothSides (s : HubSettings) (J : ℕ → List Event) (from to : ℕ) : Type 0 where
-  pub what_came_was_sent : (id : List ℕ) (cents deadline : ℕ) → Contains (J to) (Forwarded from id cents deadline) →
+  pub what_came_was_sent : (id : List ℕ) (cents deadline : ℕ) →
+      Contains (J to) (Forwarded from id cents deadline) →
       is_live from id (J to) ≡ true →
-      (stamp : ℕ) × Contains (J from) (Taken id to cents stamp) × (deadline_of s.limit stamp ≡ deadline)
+      (stamp : ℕ) × Contains (J from) (Taken id to cents stamp)
+      × (deadline_of s.limit stamp ≡ deadline)
       × (is_live from id (J from) ≡ true)
-  pub what_was_sent_came : (id : List ℕ) (cents stamp : ℕ) → Contains (J from) (Taken id to cents stamp) →
+  pub what_was_sent_came : (id : List ℕ) (cents stamp : ℕ) →
+      Contains (J from) (Taken id to cents stamp) →
       is_live from id (J from) ≡ true → is_forwarded from id (J to) ≡ true →
-      Contains (J to) (Forwarded from id cents (deadline_of s.limit stamp)) × (is_live from id (J to) ≡ true)
+      Contains (J to) (Forwarded from id cents (deadline_of s.limit stamp))
+      × (is_live from id (J to) ≡ true)
   pub sent_once : (id : List ℕ) → count_by (takes id) (J from) ≤ 1
   pub came_once : (id : List ℕ) → count_by (forwards from id) (J to) ≤ 1
 
 abbrev pub TheLiveAreTheSameOnBothSides : Type 0
-TheLiveAreTheSameOnBothSides = (s : HubSettings) (O : Opening) → IsOpening s O → (L : List Step) → IsInterleaving s L →
+TheLiveAreTheSameOnBothSides =
+    (s : HubSettings) (O : Opening) → IsOpening s O → (L : List Step) → IsInterleaving s L →
     (from to : ℕ) → IsLiveOnBothSides s (history s O L) from to
 
 -- at an opening each live transfer has come to its beneficiary and has no outcome
 abbrev pub AtAnOpeningTheLiveHaveCome : Type 0
 AtAnOpeningTheLiveHaveCome = (s : HubSettings) (O : Opening) → IsOpening s O →
     (from to : ℕ) (id : List ℕ) (cents stamp : ℕ) →
-    Contains (beginning O from) (Taken id to cents stamp) → is_live from id (beginning O from) ≡ true →
+    Contains (beginning O from) (Taken id to cents stamp) →
+    is_live from id (beginning O from) ≡ true →
     (is_forwarded from id (beginning O to) ≡ true) × (outcome s O [] from id ≡ None)

@@ -1,5 +1,5 @@
--- Books that are sound and closed, however they came about, sum to the net funding: this hub's own promise for the books
--- of a hub that was closed.
+-- Books that are sound and closed, however they came about, sum to the net funding: this hub's own
+-- promise for the books of a hub that was closed.
 use Rattle.std.specs.Prelude.{◌≡◌, ℕ, pos, List}
 use Rattle.inst_settings.specs.Settings.{HubSettings}
 use Rattle.inst_journal.specs.declared.event.Event.{Event}

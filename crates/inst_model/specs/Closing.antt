@@ -1,14 +1,17 @@
--- How a hub is closed: each participant learns what is decided, and what is pending comes to its beneficiary (EPC004-16,
--- chapter 4: both participants are told one outcome). Nothing is asked and nothing expires, for no reading is given. That a
--- closing goes over all places is this hub's own choice; in which order, and how often, is left open.
-use Rattle.std.specs.Prelude.{◌≡◌, ℕ, pos, zero, suc, ◌<◌, Bool, true, false, List, [], ◌∷◌, ◌++◌, Contains}
+-- How a hub is closed: each participant learns what is decided, and what is pending comes to its
+-- beneficiary (EPC004-16, chapter 4: both participants are told one outcome). Nothing is asked and
+-- nothing expires, for no reading is given. That a closing goes over all places is this hub's own
+-- choice; in which order, and how often, is left open.
+use Rattle.std.specs.Prelude.{◌≡◌, ℕ, pos, zero, suc, ◌<◌, Bool, true, false, List, [], ◌∷◌, ◌++◌}
+use Rattle.std.specs.Prelude.{Contains}
 use Rattle.std.specs.List.{AllByRecursion}
 use Rattle.inst_settings.specs.Settings.{HubSettings, participants}
 use Rattle.inst_command.specs.Step.{step_fits}
 use Rattle.inst_command.specs.declared.step.Step.{Step}
 use Rattle.inst_command.specs.declared.step.Step.TheVariants.{Ask, Deliver, Learn, Expire}
 use Rattle.inst_journal.specs.declared.event.Event.{Event}
-use Rattle.inst_journal.specs.declared.event.Event.TheVariants.{Funded, Defunded, Taken, Forwarded, Booked, Fetched, Opened}
+use Rattle.inst_journal.specs.declared.event.Event.TheVariants.{Funded, Defunded, Taken, Forwarded}
+use Rattle.inst_journal.specs.declared.event.Event.TheVariants.{Booked, Fetched, Opened}
 use Rattle.inst_journal.specs.Money.{position}
 use Rattle.inst_journal.specs.Sound.{IsSound}
 use Rattle.inst_journal.specs.Sums.{net}
@@ -29,15 +32,18 @@ is_telling (Expire who index at) = false
 pub record IsClosing (s : HubSettings) (M : List Step) : Type 0 where
   pub fits : IsInterleaving s M
   pub only_tells : AllByRecursion (λ step. is_telling step ≡ true) M
-  pub delivers : (who from index : ℕ) → who < participants s → from < participants s → index < s.places →
+  pub delivers : (who from index : ℕ) → who < participants s → from < participants s →
+      index < s.places →
       Contains M (Deliver from index who)
-  pub learns : (who from index : ℕ) → who < participants s → from < participants s → index < s.places →
+  pub learns : (who from index : ℕ) → who < participants s → from < participants s →
+      index < s.places →
       Contains M (Learn who from index)
 
 -- the participant `who` is told of the first places of the originator `from`
 abbrev pub of_places : ℕ → ℕ → ℕ → List Step
 of_places who from zero = []
-of_places who from (suc index) = Deliver from index who ∷ (Learn who from index ∷ of_places who from index)
+of_places who from (suc index) =
+    Deliver from index who ∷ (Learn who from index ∷ of_places who from index)
 
 -- the participant `who` is told of so many places of each of the first originators
 abbrev pub of_originators : ℕ → ℕ → ℕ → List Step
@@ -59,15 +65,16 @@ ThereIsAClosing = (s : HubSettings) → IsClosing s (closing s)
 
 -- a closing decides nothing
 abbrev pub ClosingDecidesNothing : Type 0
-ClosingDecidesNothing = (s : HubSettings) (O : Opening) (L M : List Step) → IsClosing s M → (p : ℕ) (id : List ℕ) →
+ClosingDecidesNothing =
+    (s : HubSettings) (O : Opening) (L M : List Step) → IsClosing s M → (p : ℕ) (id : List ℕ) →
     outcome s O (M ++ L) p id ≡ outcome s O L p id
 
 -- the event is a booking or a forwarding
 abbrev pub is_told : Event → Bool
 is_told (Forwarded from id cents deadline) = true
 is_told (Booked from id outcome) = true
-is_told (Funded reference cents) = false
-is_told (Defunded reference cents) = false
+is_told (Funded funding) = false
+is_told (Defunded funding) = false
 is_told (Taken id to cents stamp) = false
 is_told (Fetched count) = false
 is_told Opened = false
@@ -88,33 +95,40 @@ pub record AreClosed (s : HubSettings) (J : ℕ → List Event) : Type 0 where
   pub closed : BooksAreClosed s J
 
 abbrev pub ClosingCloses : Type 0
-ClosingCloses = (s : HubSettings) (O : Opening) → IsOpening s O → (L M : List Step) → IsInterleaving s L →
+ClosingCloses =
+    (s : HubSettings) (O : Opening) → IsOpening s O → (L M : List Step) → IsInterleaving s L →
     IsClosing s M → AreClosed s (history s O (M ++ L))
 
 -- no step that tells adds anything any more
 abbrev pub NothingIsLeftToTell : HubSettings → Opening → List Step → Type 0
-NothingIsLeftToTell s O L = (step : Step) → is_telling step ≡ true → step_fits s step ≡ true → (p : ℕ) →
+NothingIsLeftToTell s O L =
+    (step : Step) → is_telling step ≡ true → step_fits s step ≡ true → (p : ℕ) →
     history s O (step ∷ L) p ≡ history s O L p
 
 abbrev pub ClosingLeavesNothingToTell : Type 0
-ClosingLeavesNothingToTell = (s : HubSettings) (O : Opening) → IsOpening s O → (L M : List Step) → IsInterleaving s L →
+ClosingLeavesNothingToTell =
+    (s : HubSettings) (O : Opening) → IsOpening s O → (L M : List Step) → IsInterleaving s L →
     IsClosing s M → NothingIsLeftToTell s O (M ++ L)
 
 -- wherever nothing is left to tell the books are closed, whatever steps led there
 abbrev pub NothingLeftIsClosed : Type 0
-NothingLeftIsClosed = (s : HubSettings) (O : Opening) → IsOpening s O → (L : List Step) → IsInterleaving s L →
+NothingLeftIsClosed =
+    (s : HubSettings) (O : Opening) → IsOpening s O → (L : List Step) → IsInterleaving s L →
     NothingIsLeftToTell s O L → AreClosed s (history s O L)
 
 -- after a closing nothing is untold, and the positions sum to the net funding
 pub record IsSettledUp (s : HubSettings) (O : Opening) (L : List Step) : Type 0 where
   pub all_told : untold s O L ≡ 0
-  pub sum : pos (total s (λ p. position (history s O L p))) ≡ signed_total s (λ p. net (history s O L p))
+  pub sum : pos (total s (λ p. position (history s O L p)))
+      ≡ signed_total s (λ p. net (history s O L p))
 
 abbrev pub ClosingSettlesUp : Type 0
-ClosingSettlesUp = (s : HubSettings) (O : Opening) → IsOpening s O → (L M : List Step) → IsInterleaving s L →
+ClosingSettlesUp =
+    (s : HubSettings) (O : Opening) → IsOpening s O → (L M : List Step) → IsInterleaving s L →
     IsClosing s M → IsSettledUp s O (M ++ L)
 
 -- whoever closes once more finds nothing to do
 abbrev pub ClosingAgainAddsNothing : Type 0
-ClosingAgainAddsNothing = (s : HubSettings) (O : Opening) → IsOpening s O → (L M N : List Step) → IsInterleaving s L →
+ClosingAgainAddsNothing =
+    (s : HubSettings) (O : Opening) → IsOpening s O → (L M N : List Step) → IsInterleaving s L →
     IsClosing s M → IsClosing s N → (p : ℕ) → history s O (N ++ (M ++ L)) p ≡ history s O (M ++ L) p

@@ -1,6 +1,6 @@
--- No money is made or lost: positions sum to the net funding and what is untold, which is still reserved at its
--- originators; and where each decided transfer is booked by its originator, to the net funding alone. Nobody is ever
--- overdrawn. This hub's own promise.
+-- No money is made or lost: positions sum to the net funding and what is untold, which is still
+-- reserved at its originators; and where each decided transfer is booked by its originator, to the
+-- net funding alone. Nobody is ever overdrawn. This hub's own promise.
 use Rattle.std.specs.Prelude.{◌≡◌, ℕ, ◌+◌, ◌≤◌, pos, ◌+ℤ◌, true, List, Some, is_some, Contains}
 use Rattle.inst_settings.specs.Settings.{HubSettings}
 use Rattle.inst_command.specs.declared.outcome.Outcome.{Outcome}
@@ -17,17 +17,26 @@ use Rattle.inst_model.specs.Untold.{total, signed_total, if_untold, untold_by, u
 
 -- the originator of each decided transfer has booked it
 abbrev pub AllTold : HubSettings → Opening → List Step → Type 0
-AllTold s O L = (p : ℕ) (id : List ℕ) (o : Outcome) → outcome s O L p id ≡ Some o → is_some (booked p id (history s O L p)) ≡ true
+AllTold s O L =
+    (p : ℕ) (id : List ℕ) (o : Outcome) → outcome s O L p id ≡ Some o →
+    is_some (booked p id (history s O L p)) ≡ true
 
 pub record IsConserved (s : HubSettings) (O : Opening) (L : List Step) : Type 0 where
   -- without a subtraction
-  pub sum : total s (λ p. position (history s O L p)) + total s (λ p. defunded (history s O L p)) ≡ total s (λ p. funded (history s O L p)) + untold s O L
-  pub signed_sum : pos (total s (λ p. position (history s O L p))) ≡ (signed_total s (λ p. net (history s O L p)) +ℤ pos (untold s O L))
-  pub all_told : AllTold s O L → pos (total s (λ p. position (history s O L p))) ≡ signed_total s (λ p. net (history s O L p))
+  pub sum : total s (λ p. position (history s O L p)) + total s (λ p. defunded (history s O L p))
+      ≡ total s (λ p. funded (history s O L p)) + untold s O L
+  pub signed_sum : pos (total s (λ p. position (history s O L p)))
+      ≡ (signed_total s (λ p. net (history s O L p)) +ℤ pos (untold s O L))
+  pub all_told : AllTold s O L →
+      pos (total s (λ p. position (history s O L p))) ≡ signed_total s (λ p. net (history s O L p))
   pub untold_is_reserved : (p : ℕ) → untold_by s O L p ≤ reserved (history s O L p)
-  pub each_untold_is_reserved : (p : ℕ) (id : List ℕ) (to cents stamp : ℕ) → Contains (history s O L p) (Taken id to cents stamp) →
-      if_untold (outcome s O L p id) (booked p id (history s O L p)) cents ≤ reservation (history s O L p) (Taken id to cents stamp)
+  pub each_untold_is_reserved : (p : ℕ) (id : List ℕ) (to cents stamp : ℕ) →
+      Contains (history s O L p) (Taken id to cents stamp) →
+      if_untold (outcome s O L p id) (booked p id (history s O L p)) cents
+      ≤ reservation (history s O L p) (Taken id to cents stamp)
   pub never_overdrawn : (p : ℕ) → IsNeverOverdrawn (history s O L p)
 
 abbrev pub MoneyIsConserved : Type 0
-MoneyIsConserved = (s : HubSettings) (O : Opening) → IsOpening s O → (L : List Step) → IsInterleaving s L → IsConserved s O L
+MoneyIsConserved =
+    (s : HubSettings) (O : Opening) → IsOpening s O → (L : List Step) → IsInterleaving s L →
+    IsConserved s O L

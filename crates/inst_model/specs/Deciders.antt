@@ -1,6 +1,7 @@
--- Who decides a transfer. Its beneficiary's confirmation alone accepts it, and its beneficiary's rejection alone rejects it
--- (EPC004-16, chapter 4: positive and negative confirmation); it times out at an answer of the beneficiary, or as its
--- originator investigates it or lets its place expire, which is this hub's own choice.
+-- Who decides a transfer. Its beneficiary's confirmation alone accepts it, and its beneficiary's
+-- rejection alone rejects it (EPC004-16, chapter 4: positive and negative confirmation); it times
+-- out at an answer of the beneficiary, or as its originator investigates it or lets its place
+-- expire, which is this hub's own choice.
 use Rattle.std.specs.Prelude.{◌≡◌, ◌⊎◌, ℕ, true, List, ◌∷◌, Some, None}
 use Rattle.inst_settings.specs.Settings.{HubSettings}
 use Rattle.inst_command.specs.declared.command.Command.{Command}
@@ -20,11 +21,13 @@ asks who command at = Ask (record { who = who; command = command; at = at })
 
 -- the beneficiary confirms the transfer, which has come to it
 abbrev pub IsConfirmation : (ℕ → List Event) → Step → ℕ → List ℕ → Transfer → Type 0
-IsConfirmation J step p id x = (at : ℕ) × (step ≡ asks x.to (Confirm p id) at) × (is_forwarded p id (J x.to) ≡ true)
+IsConfirmation J step p id x =
+    (at : ℕ) × (step ≡ asks x.to (Confirm p id) at) × (is_forwarded p id (J x.to) ≡ true)
 
 -- the beneficiary rejects it with this reason
 abbrev pub IsRejection : (ℕ → List Event) → Step → ℕ → List ℕ → Transfer → List ℕ → Type 0
-IsRejection J step p id x reason = (at : ℕ) × (step ≡ asks x.to (Reject p id reason) at) × (is_forwarded p id (J x.to) ≡ true)
+IsRejection J step p id x reason =
+    (at : ℕ) × (step ≡ asks x.to (Reject p id reason) at) × (is_forwarded p id (J x.to) ≡ true)
 
 -- the originator investigates it
 abbrev pub IsInvestigation : Step → ℕ → List ℕ → Type 0
@@ -32,22 +35,28 @@ IsInvestigation step p id = (at : ℕ) × (step ≡ asks p (Investigate id) at)
 
 -- the originator lets the place expire where it stands
 abbrev pub IsExpiry : (ℕ → List Event) → Step → ℕ → List ℕ → Type 0
-IsExpiry J step p id = (index : ℕ) × (at : ℕ) × (step ≡ Expire p index at) × (is_named id (at_place p (J p) index) ≡ true)
+IsExpiry J step p id =
+    (index : ℕ) × (at : ℕ) × (step ≡ Expire p index at)
+    × (is_named id (at_place p (J p) index) ≡ true)
 
 -- the step is of a party that may decide the transfer so
 abbrev pub IsBy : (ℕ → List Event) → Step → ℕ → List ℕ → Transfer → Outcome → Type 0
 IsBy J step p id x Accepted = IsConfirmation J step p id x
 IsBy J step p id x (Rejected reason) = IsRejection J step p id x reason
-IsBy J step p id x TimedOut = (IsConfirmation J step p id x ⊎ ((reason : List ℕ) × IsRejection J step p id x reason)) ⊎
+IsBy J step p id x TimedOut =
+    (IsConfirmation J step p id x ⊎ ((reason : List ℕ) × IsRejection J step p id x reason)) ⊎
     (IsInvestigation step p id ⊎ IsExpiry J step p id)
 
 -- the step decides the transfer of p with this identifier, as a party of it
-pub record IsAPartys (s : HubSettings) (O : Opening) (past : List Step) (step : Step) (p : ℕ) (id : List ℕ) (o : Outcome) : Type 0 where
+pub record IsAPartys (s : HubSettings) (O : Opening) (past : List Step) (step : Step) (p : ℕ)
+    (id : List ℕ) (o : Outcome) : Type 0 where
   pub terms : Transfer
   pub taken : transfer id (history s O past p) ≡ Some terms
   pub by : IsBy (history s O past) step p id terms o
 
 abbrev pub EachOutcomeIsAPartys : Type 0
 EachOutcomeIsAPartys =
-    (s : HubSettings) (O : Opening) (past : List Step) (step : Step) (p : ℕ) (id : List ℕ) (o : Outcome) →
-    outcome s O past p id ≡ None → outcome s O (step ∷ past) p id ≡ Some o → IsAPartys s O past step p id o
+    (s : HubSettings) (O : Opening) (past : List Step) (step : Step) (p : ℕ) (id : List ℕ)
+    (o : Outcome) →
+    outcome s O past p id ≡ None → outcome s O (step ∷ past) p id ≡ Some o →
+    IsAPartys s O past step p id o

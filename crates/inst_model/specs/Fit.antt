@@ -1,6 +1,7 @@
--- When the books of all participants agree with one another: what is forwarded was taken, both sides book the same, and
--- nobody pays what wasn't received (EPC004-16, chapter 4: both participants are told one outcome). They are closed
--- once all that is decided is booked by both sides. This hub's own choice.
+-- When the books of all participants agree with one another: what is forwarded was taken, both
+-- sides book the same, and nobody pays what wasn't received (EPC004-16, chapter 4: both
+-- participants are told one outcome). They are closed once all that is decided is booked by both
+-- sides. This hub's own choice.
 use Rattle.std.specs.Prelude.{◌≡◌, ℕ, List, Contains}
 use Rattle.inst_base.specs.TimeLimit.{deadline_of}
 use Rattle.inst_settings.specs.Settings.{HubSettings}
@@ -11,19 +12,25 @@ use Rattle.inst_journal.specs.declared.event.Event.TheVariants.{Taken, Forwarded
 
 -- J p is the history of p
 pub record BooksFit (s : HubSettings) (J : ℕ → List Event) : Type 0 where
-  pub forwarded_is_taken : (p from : ℕ) (id : List ℕ) (cents deadline : ℕ) → Contains (J p) (Forwarded from id cents deadline) →
-      (stamp : ℕ) × Contains (J from) (Taken id p cents stamp) × (deadline_of s.limit stamp ≡ deadline)
+  pub forwarded_is_taken : (p from : ℕ) (id : List ℕ) (cents deadline : ℕ) →
+      Contains (J p) (Forwarded from id cents deadline) →
+      (stamp : ℕ) × Contains (J from) (Taken id p cents stamp)
+      × (deadline_of s.limit stamp ≡ deadline)
   pub both_book_the_same : (p q from : ℕ) (id : List ℕ) (one other : Outcome) →
       Contains (J p) (Booked from id one) → Contains (J q) (Booked from id other) → one ≡ other
   pub paid_is_received : (from : ℕ) (id : List ℕ) (to cents stamp : ℕ) →
-      Contains (J from) (Taken id to cents stamp) → Contains (J from) (Booked from id Accepted) → Contains (J to) (Booked from id Accepted)
+      Contains (J from) (Taken id to cents stamp) → Contains (J from) (Booked from id Accepted) →
+      Contains (J to) (Booked from id Accepted)
 
 pub record BooksAreClosed (s : HubSettings) (J : ℕ → List Event) : Type 0 where
   pub fit : BooksFit s J
   pub originator_booked : (from : ℕ) (id : List ℕ) (to cents stamp p : ℕ) (outcome : Outcome) →
-      Contains (J from) (Taken id to cents stamp) → Contains (J p) (Booked from id outcome) → Contains (J from) (Booked from id outcome)
+      Contains (J from) (Taken id to cents stamp) → Contains (J p) (Booked from id outcome) →
+      Contains (J from) (Booked from id outcome)
   pub beneficiary_booked : (from : ℕ) (id : List ℕ) (to cents deadline p : ℕ) (outcome : Outcome) →
-      Contains (J to) (Forwarded from id cents deadline) → Contains (J p) (Booked from id outcome) → Contains (J to) (Booked from id outcome)
+      Contains (J to) (Forwarded from id cents deadline) → Contains (J p) (Booked from id outcome) →
+      Contains (J to) (Booked from id outcome)
   pub pending_is_forwarded : (from : ℕ) (id : List ℕ) (to cents stamp : ℕ) →
-      Contains (J from) (Taken id to cents stamp) → ((p : ℕ) (outcome : Outcome) → Contains (J p) (Booked from id outcome) → ⊥) →
+      Contains (J from) (Taken id to cents stamp) →
+      ((p : ℕ) (outcome : Outcome) → Contains (J p) (Booked from id outcome) → ⊥) →
       Contains (J to) (Forwarded from id cents (deadline_of s.limit stamp))

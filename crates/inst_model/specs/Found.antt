@@ -1,9 +1,11 @@
--- What an ask finds of a transfer: the outcome after the ask, for a confirmation or rejection of a transfer that was
--- forwarded to the asker, and for an investigation of one that the asker has taken (EPC004-16, chapter 4: processing
--- flow). Else it finds none.
+-- What an ask finds of a transfer: the outcome after the ask, for a confirmation or rejection of a
+-- transfer that was forwarded to the asker, and for an investigation of one that the asker has
+-- taken (EPC004-16, chapter 4: processing flow). Else it finds none.
 use Rattle.std.specs.Prelude.{ℕ, if◌then◌else◌, List, Option, None}
 use Rattle.inst_command.specs.declared.command.Command.{Command}
-use Rattle.inst_command.specs.declared.command.Command.TheVariants.{Fund, Defund, Submit, Confirm, Reject, Investigate, Fetch, Position, Statement}
+use Rattle.inst_command.specs.declared.command.Command.TheVariants.{Fund, Defund, Submit, Confirm}
+use Rattle.inst_command.specs.declared.command.Command.TheVariants.{Reject, Investigate, Fetch}
+use Rattle.inst_command.specs.declared.command.Command.TheVariants.{Query}
 use Rattle.inst_command.specs.declared.outcome.Outcome.{Outcome}
 use Rattle.inst_journal.specs.declared.event.Event.{Event}
 use Rattle.inst_journal.specs.Booked.{is_forwarded, is_taken}
@@ -13,9 +15,8 @@ abbrev pub found : (ℕ → List ℕ → Option Outcome) → ℕ → List Event 
 found after who J (Confirm from id) = if is_forwarded from id J then after from id else None
 found after who J (Reject from id reason) = if is_forwarded from id J then after from id else None
 found after who J (Investigate id) = if is_taken id J then after who id else None
-found after who J (Fund reference cents) = None
-found after who J (Defund reference cents) = None
+found after who J (Fund funding) = None
+found after who J (Defund funding) = None
 found after who J (Submit submission) = None
 found after who J (Fetch max) = None
-found after who J Position = None
-found after who J (Statement skip count) = None
+found after who J (Query query) = None

@@ -1,6 +1,7 @@
--- The whole hub over a list of steps, the newest in front: what each participant sees, its history, and the outcome of
--- each transfer, which is what the first step wants that wants something. One outcome for both sides is the scheme's
--- (EPC004-16, chapters 3 and 4); the steps, and that the first one decides, are this hub's own choice.
+-- The whole hub over a list of steps, the newest in front: what each participant sees, its history,
+-- and the outcome of each transfer, which is what the first step wants that wants something. One
+-- outcome for both sides is the scheme's (EPC004-16, chapters 3 and 4); the steps, and that the
+-- first one decides, are this hub's own choice.
 use Rattle.std.specs.Prelude.{ℕ, List, [], ◌∷◌, ◌++◌, Option, Some, None}
 use Rattle.inst_settings.specs.Settings.{HubSettings}
 use Rattle.inst_command.specs.declared.outcome.Outcome.{Outcome}
@@ -14,7 +15,8 @@ use Rattle.inst_model.specs.View.{Seen, sees}
 use Rattle.inst_model.specs.Kept.{history_of}
 
 -- the outcome of a transfer after a step
-abbrev pub decided : HubSettings → (ℕ → List Event) → (ℕ → List ℕ → Option Outcome) → Step → ℕ → List ℕ → Option Outcome
+abbrev pub decided : HubSettings → (ℕ → List Event) → (ℕ → List ℕ → Option Outcome) → Step → ℕ →
+    List ℕ → Option Outcome
 decided s J before step p id = or_else (before p id) (wants s J step p id)
 
 abbrev mutual
@@ -29,7 +31,8 @@ abbrev mutual
   -- the outcome of the transfer with this identifier of the originator p
   pub outcome : HubSettings → Opening → List Step → ℕ → List ℕ → Option Outcome
   outcome s O [] p id = booked p id (beginning O p)
-  outcome s O (step ∷ past) p id = decided s (λ q. history_of s O q (view s O past q)) (outcome s O past) step p id
+  outcome s O (step ∷ past) p id =
+      decided s (λ q. history_of s O q (view s O past q)) (outcome s O past) step p id
 
 -- the history of the participant p
 abbrev pub history : HubSettings → Opening → List Step → ℕ → List Event

@@ -1,6 +1,6 @@
--- Each outcome is in time for the reading that decided it (EPC004-16, chapter 4: time-out deadline, positive and negative
--- confirmation): an acceptance before the deadline by more than the margin, a rejection before the deadline, a time-out at
--- it or after it. The margin is this hub's own choice.
+-- Each outcome is in time for the reading that decided it (EPC004-16, chapter 4: time-out deadline,
+-- positive and negative confirmation): an acceptance before the deadline by more than the margin, a
+-- rejection before the deadline, a time-out at it or after it. The margin is this hub's own choice.
 use Rattle.std.specs.Prelude.{◌≡◌, ℕ, ◌+◌, ◌<◌, ◌≤◌, List, ◌∷◌, Option, Some, None}
 use Rattle.inst_settings.specs.Settings.{HubSettings}
 use Rattle.inst_command.specs.declared.outcome.Outcome.{Outcome}
@@ -25,7 +25,8 @@ IsInTime s deadline at (Rejected reason) = at < deadline
 IsInTime s deadline at TimedOut = deadline ≤ at
 
 -- the step decides the transfer of p with this identifier, in time
-pub record DecidesInTime (s : HubSettings) (O : Opening) (past : List Step) (step : Step) (p : ℕ) (id : List ℕ) (o : Outcome) : Type 0 where
+pub record DecidesInTime (s : HubSettings) (O : Opening) (past : List Step) (step : Step) (p : ℕ)
+    (id : List ℕ) (o : Outcome) : Type 0 where
   pub terms : Transfer
   pub taken : transfer id (history s O past p) ≡ Some terms
   pub at : ℕ
@@ -34,5 +35,7 @@ pub record DecidesInTime (s : HubSettings) (O : Opening) (past : List Step) (ste
 
 abbrev pub EachOutcomeIsInTime : Type 0
 EachOutcomeIsInTime =
-    (s : HubSettings) (O : Opening) (past : List Step) (step : Step) (p : ℕ) (id : List ℕ) (o : Outcome) →
-    outcome s O past p id ≡ None → outcome s O (step ∷ past) p id ≡ Some o → DecidesInTime s O past step p id o
+    (s : HubSettings) (O : Opening) (past : List Step) (step : Step) (p : ℕ) (id : List ℕ)
+    (o : Outcome) →
+    outcome s O past p id ≡ None → outcome s O (step ∷ past) p id ≡ Some o →
+    DecidesInTime s O past step p id o

@@ -1,5 +1,5 @@
--- An interleaving: any list of steps of a hub with these settings, the newest in front. Readings needn't rise, and
--- nobody needs to ask, deliver or learn in any order: this hub's own choice.
+-- An interleaving: any list of steps of a hub with these settings, the newest in front. Readings
+-- needn't rise, and nobody needs to ask, deliver or learn in any order: this hub's own choice.
 use Rattle.std.specs.Prelude.{◌≡◌, true, List}
 use Rattle.std.specs.List.{AllByRecursion}
 use Rattle.inst_settings.specs.Settings.{HubSettings}

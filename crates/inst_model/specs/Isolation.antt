@@ -1,6 +1,6 @@
--- What a participant can tell of the others: nothing but what it sees. Two lists of steps, of any lengths, in which a
--- participant sees the same in the same order give it the same replies, history, money and statement: this hub's own
--- promise.
+-- What a participant can tell of the others: nothing but what it sees. Two lists of steps, of any
+-- lengths, in which a participant sees the same in the same order give it the same replies,
+-- history, money and statement: this hub's own promise.
 use Rattle.std.specs.Prelude.{◌≡◌, ℕ, List}
 use Rattle.inst_settings.specs.Settings.{HubSettings}
 use Rattle.inst_model.specs.Opening.{Opening, beginning}

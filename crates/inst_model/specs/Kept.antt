@@ -1,5 +1,6 @@
--- A participant's history, made from its view alone, entry by entry: a transfer that comes is forwarded, an outcome that
--- is told is booked, and an ask leaves the event of its reply, if any. This hub's own choice.
+-- A participant's history, made from its view alone, entry by entry: a transfer that comes is
+-- forwarded, an outcome that is told is booked, and an ask leaves the event of its reply, if any.
+-- This hub's own choice.
 use Rattle.std.specs.Prelude.{ℕ, List, [], ◌∷◌, ◌++◌}
 use Rattle.inst_model.specs.Opening.{Opening, beginning}
 use Rattle.inst_settings.specs.Settings.{HubSettings}

@@ -1,6 +1,7 @@
--- What each side is told (EPC004-16, chapter 4: both participants are told one outcome): a party that learns of a decided
--- transfer or asks after it has it booked, an originator whose transfer expires has it booked, and what is pending comes to
--- its beneficiary, which nothing does that is decided. That each is a step of its own is this hub's own choice.
+-- What each side is told (EPC004-16, chapter 4: both participants are told one outcome): a party
+-- that learns of a decided transfer or asks after it has it booked, an originator whose transfer
+-- expires has it booked, and what is pending comes to its beneficiary, which nothing does that is
+-- decided. That each is a step of its own is this hub's own choice.
 use Rattle.std.specs.Prelude.{◌≡◌, ◌⊎◌, ℕ, true, false, List, ◌∷◌, Some, None}
 use Rattle.inst_settings.specs.Settings.{HubSettings}
 use Rattle.inst_command.specs.declared.ask.Ask.{Ask as AskValue}
@@ -21,7 +22,8 @@ use Rattle.inst_model.specs.Trace.{answer, is_seen}
 -- a party that learns of a decided transfer has its outcome booked
 abbrev pub LearningBooks : Type 0
 LearningBooks =
-    (s : HubSettings) (O : Opening) → IsOpening s O → (past : List Step) (who p index : ℕ) (x : Transfer) (o : Outcome) →
+    (s : HubSettings) (O : Opening) → IsOpening s O →
+    (past : List Step) (who p index : ℕ) (x : Transfer) (o : Outcome) →
     at_place p (history s O past p) index ≡ Some x → outcome s O past p x.id ≡ Some o →
     (who ≡ p) ⊎ (is_forwarded p x.id (history s O past who) ≡ true) →
     booked p x.id (history s O (Learn who p index ∷ past) who) ≡ Some o
@@ -29,8 +31,10 @@ LearningBooks =
 -- an originator whose transfer is decided by its expiry, or was before, has the outcome booked
 abbrev pub ExpiryBooks : Type 0
 ExpiryBooks =
-    (s : HubSettings) (O : Opening) → IsOpening s O → (past : List Step) (p index at : ℕ) (x : Transfer) (o : Outcome) →
-    at_place p (history s O past p) index ≡ Some x → outcome s O (Expire p index at ∷ past) p x.id ≡ Some o →
+    (s : HubSettings) (O : Opening) → IsOpening s O →
+    (past : List Step) (p index at : ℕ) (x : Transfer) (o : Outcome) →
+    at_place p (history s O past p) index ≡ Some x →
+    outcome s O (Expire p index at ∷ past) p x.id ≡ Some o →
     booked p x.id (history s O (Expire p index at ∷ past) p) ≡ Some o
 
 -- a pending transfer that is delivered has come to its beneficiary
@@ -43,27 +47,35 @@ DeliveryForwards =
 -- nothing decided is delivered
 abbrev pub NothingDecidedIsDelivered : Type 0
 NothingDecidedIsDelivered =
-    (s : HubSettings) (O : Opening) (past : List Step) (p index q : ℕ) (x : Transfer) (o : Outcome) →
+    (s : HubSettings) (O : Opening) (past : List Step) (p index q : ℕ) (x : Transfer) (o : Outcome)
+    →
     at_place p (history s O past p) index ≡ Some x → outcome s O past p x.id ≡ Some o →
     is_seen s O past (Deliver p index q) q ≡ false
 
--- once the ask is answered the transfer has this outcome, and then the asker is answered it and has it booked
-abbrev pub IsTold : HubSettings → Opening → List Step → ℕ → Command → ℕ → ℕ → List ℕ → Outcome → Type 0
+-- once the ask is answered the transfer has this outcome, and then the asker is answered it and has
+-- it booked
+abbrev pub IsTold : HubSettings → Opening → List Step → ℕ → Command → ℕ → ℕ → List ℕ → Outcome →
+    Type 0
 IsTold s O past who command at from id o =
     let ask : AskValue = record { who = who; command = command; at = at } in
     outcome s O (Ask ask ∷ past) from id ≡ Some o →
     (answer s O past (Ask ask) ≡ Reply (State from id (Decided o)))
     × (booked from id (history s O (Ask ask ∷ past) who) ≡ Some o)
 
--- a beneficiary that confirms or rejects what has come to it, and an originator that investigates what it has taken
-pub record EachPartyIsTold (s : HubSettings) (O : Opening) (past : List Step) (who at : ℕ) (o : Outcome) : Type 0 where
+-- a beneficiary that confirms or rejects what has come to it, and an originator that investigates
+-- what it has taken
+pub record EachPartyIsTold (s : HubSettings) (O : Opening) (past : List Step) (who at : ℕ)
+    (o : Outcome) : Type 0 where
   pub confirmed : (from : ℕ) (id : List ℕ) → is_forwarded from id (history s O past who) ≡ true →
       IsTold s O past who (Confirm from id) at from id o
-  pub rejected : (from : ℕ) (id reason : List ℕ) → is_forwarded from id (history s O past who) ≡ true →
+  pub rejected : (from : ℕ) (id reason : List ℕ) →
+      is_forwarded from id (history s O past who) ≡ true →
       IsTold s O past who (Reject from id reason) at from id o
   pub investigated : (id : List ℕ) → is_taken id (history s O past who) ≡ true →
       IsTold s O past who (Investigate id) at who id o
 
 abbrev pub AskingTells : Type 0
-AskingTells = (s : HubSettings) (O : Opening) → IsOpening s O → (past : List Step) (who at : ℕ) (o : Outcome) →
+AskingTells =
+    (s : HubSettings) (O : Opening) → IsOpening s O →
+    (past : List Step) (who at : ℕ) (o : Outcome) →
     EachPartyIsTold s O past who at o

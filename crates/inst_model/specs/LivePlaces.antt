@@ -1,5 +1,6 @@
--- Where the live transfers of an originator stand: no more than the settings have places, each unbooked one at a place, and
--- within an opening their list grows only at its end. This hub's own promise.
+-- Where the live transfers of an originator stand: no more than the settings have places, each
+-- unbooked one at a place, and within an opening their list grows only at its end. This hub's own
+-- promise.
 use Rattle.std.specs.Prelude.{◌≡◌, ℕ, ◌≤◌, List, ◌++◌, length, Some, None}
 use Rattle.inst_settings.specs.Settings.{HubSettings}
 use Rattle.inst_command.specs.declared.step.Step.{Step}
@@ -12,10 +13,12 @@ use Rattle.inst_model.specs.Hub.{history}
 pub record HasPlaces (s : HubSettings) (O : Opening) (L : List Step) (p : ℕ) : Type 0 where
   pub few : length (live_transfers p (history s O L p)) ≤ s.places
   pub unbooked_has_one : (id : List ℕ) (x : Transfer) → transfer id (history s O L p) ≡ Some x →
-      booked p id (history s O L p) ≡ None → (index : ℕ) × (at_place p (history s O L p) index ≡ Some x)
+      booked p id (history s O L p) ≡ None →
+      (index : ℕ) × (at_place p (history s O L p) index ≡ Some x)
   pub grows_at_its_end : (later : List Step) → (new : List Transfer)
       × (live_transfers p (history s O (later ++ L) p) ≡ live_transfers p (history s O L p) ++ new)
 
 abbrev pub TheLiveHaveTheirPlaces : Type 0
-TheLiveHaveTheirPlaces = (s : HubSettings) (O : Opening) → IsOpening s O → (L : List Step) → IsInterleaving s L →
+TheLiveHaveTheirPlaces =
+    (s : HubSettings) (O : Opening) → IsOpening s O → (L : List Step) → IsInterleaving s L →
     (p : ℕ) → HasPlaces s O L p

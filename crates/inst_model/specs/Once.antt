@@ -1,6 +1,6 @@
--- Money is settled or released at most once (EPC004-16, chapter 4: one settlement a transfer): no history books a
--- transfer twice; the originator's amount is reserved until it has booked, then debited or free; the beneficiary is
--- credited exactly if it has booked accepted.
+-- Money is settled or released at most once (EPC004-16, chapter 4: one settlement a transfer): no
+-- history books a transfer twice; the originator's amount is reserved until it has booked, then
+-- debited or free; the beneficiary is credited exactly if it has booked accepted.
 use Rattle.std.specs.Prelude.{◌≡◌, ◌≢◌, ℕ, ◌≤◌, List, Some, None, count_by, is_some, Contains}
 use Rattle.inst_settings.specs.Settings.{HubSettings}
 use Rattle.inst_command.specs.declared.outcome.Outcome.{Outcome}
@@ -17,21 +17,30 @@ use Rattle.inst_model.specs.Hub.{history}
 
 -- J is the history of p
 pub record IsSettledOnce (p : ℕ) (J : List Event) : Type 0 where
-  pub booked_once : (from : ℕ) (id : List ℕ) → count_by (λ event. is_some (books from id event)) J ≤ 1
+  pub booked_once : (from : ℕ) (id : List ℕ) →
+      count_by (λ event. is_some (books from id event)) J ≤ 1
   pub one_place : (id : List ℕ) (to cents stamp : ℕ) → Contains J (Taken id to cents stamp) →
-      IsOneOf cents (reservation J (Taken id to cents stamp)) (debit J (Taken id to cents stamp)) (if_released (booked p id J) cents)
-  pub reserved_until_booked : (id : List ℕ) (to cents stamp : ℕ) → Contains J (Taken id to cents stamp) → booked p id J ≡ None →
+      IsOneOf cents (reservation J (Taken id to cents stamp)) (debit J (Taken id to cents stamp))
+      (if_released (booked p id J) cents)
+  pub reserved_until_booked : (id : List ℕ) (to cents stamp : ℕ) →
+      Contains J (Taken id to cents stamp) → booked p id J ≡ None →
       (reservation J (Taken id to cents stamp) ≡ cents) × (debit J (Taken id to cents stamp) ≡ 0)
-  pub debited_if_accepted : (id : List ℕ) (to cents stamp : ℕ) → Contains J (Taken id to cents stamp) → booked p id J ≡ Some Accepted →
+  pub debited_if_accepted : (id : List ℕ) (to cents stamp : ℕ) →
+      Contains J (Taken id to cents stamp) → booked p id J ≡ Some Accepted →
       (reservation J (Taken id to cents stamp) ≡ 0) × (debit J (Taken id to cents stamp) ≡ cents)
-  pub free_otherwise : (id : List ℕ) (to cents stamp : ℕ) (o : Outcome) → Contains J (Taken id to cents stamp) →
+  pub free_otherwise : (id : List ℕ) (to cents stamp : ℕ) (o : Outcome) →
+      Contains J (Taken id to cents stamp) →
       booked p id J ≡ Some o → o ≢ Accepted →
       (reservation J (Taken id to cents stamp) ≡ 0) × (debit J (Taken id to cents stamp) ≡ 0)
-  pub credited : (from : ℕ) (id : List ℕ) (cents deadline : ℕ) → Contains J (Forwarded from id cents deadline) →
+  pub credited : (from : ℕ) (id : List ℕ) (cents deadline : ℕ) →
+      Contains J (Forwarded from id cents deadline) →
       booked from id J ≡ Some Accepted → credit J (Forwarded from id cents deadline) ≡ cents
-  pub not_credited : (from : ℕ) (id : List ℕ) (cents deadline : ℕ) → Contains J (Forwarded from id cents deadline) →
+  pub not_credited : (from : ℕ) (id : List ℕ) (cents deadline : ℕ) →
+      Contains J (Forwarded from id cents deadline) →
       booked from id J ≢ Some Accepted → credit J (Forwarded from id cents deadline) ≡ 0
 
 abbrev pub MoneyIsSettledOnce : Type 0
-MoneyIsSettledOnce = (s : HubSettings) (O : Opening) → IsOpening s O → (L : List Step) → IsInterleaving s L → (p : ℕ) →
+MoneyIsSettledOnce =
+    (s : HubSettings) (O : Opening) → IsOpening s O → (L : List Step) → IsInterleaving s L →
+    (p : ℕ) →
     IsSettledOnce p (history s O L p)

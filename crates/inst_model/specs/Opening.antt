@@ -1,5 +1,5 @@
--- How a hub begins: for the first time, with nothing, or from books, one history for each participant, that are sound and
--- closed. This hub's own choice.
+-- How a hub begins: for the first time, with nothing, or from books, one history for each
+-- participant, that are sound and closed. This hub's own choice.
 use Rattle.std.specs.Prelude.{ℕ, List, [], ◌∷◌, ◌++◌}
 use Rattle.inst_settings.specs.Settings.{HubSettings}
 use Rattle.inst_journal.specs.declared.event.Event.{Event}

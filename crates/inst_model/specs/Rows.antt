@@ -1,14 +1,17 @@
--- The scripts of the worked rows and their short forms: steps in the order in which they happen, at a hub of three
--- participants with two places and four fundings each, a time limit of ten seconds, and time stamps at most one second
--- ahead. This hub's own choice.
+-- The scripts of the worked rows and their short forms: steps in the order in which they happen, at
+-- a hub of three participants with two places and four fundings each, a time limit of ten seconds,
+-- and time stamps at most one second ahead. This hub's own choice.
 use Rattle.std.specs.Prelude.{ℕ, Bool, List, [], ◌∷◌, ◌++◌, reverse, codes}
 use Rattle.inst_base.specs.declared.fault.Fault.{Fault}
 use Rattle.inst_settings.specs.Settings.{HubSettings}
-use Rattle.inst_command.specs.declared.command.Command.TheVariants.{Fund, Submit, Confirm, Reject, Investigate, Fetch, Position, Statement}
+use Rattle.inst_command.specs.declared.command.Command.TheVariants.{Fund, Submit, Confirm, Reject}
+use Rattle.inst_command.specs.declared.command.Command.TheVariants.{Investigate, Fetch, Query}
+use Rattle.inst_command.specs.declared.query.Query.TheVariants.{Position, Statement}
 use Rattle.inst_command.specs.declared.outcome.State.{State as StateValue}
 use Rattle.inst_command.specs.declared.step.Step.{Step}
 use Rattle.inst_command.specs.declared.step.Step.TheVariants.{Deliver, Learn, Expire}
-use Rattle.inst_command.specs.declared.reply.Reply.TheVariants.{Done, Taken, State, Position as PositionReply, Refused}
+use Rattle.inst_command.specs.declared.reply.Reply.TheVariants.{Done, Taken, State}
+use Rattle.inst_command.specs.declared.reply.Reply.TheVariants.{Position as PositionReply, Refused}
 use Rattle.inst_command.specs.declared.reply.Answer.{Answer}
 use Rattle.inst_command.specs.declared.reply.Answer.TheVariants.{Reply, New}
 use Rattle.inst_model.specs.Deciders.{asks}
@@ -19,10 +22,11 @@ use Rattle.inst_journal.specs.declared.event.Event.{Event}
 pub use Rattle.inst_journal.specs.Rows.{settings, A, B, C}
 
 abbrev pub fund : ℕ → List ℕ → ℕ → ℕ → Step
-fund who reference cents at = asks who (Fund reference cents) at
+fund who reference cents at = asks who (Fund (record { reference = reference; cents = cents })) at
 
 abbrev pub submit : ℕ → List ℕ → ℕ → ℕ → ℕ → ℕ → Step
-submit who id to cents stamp at = asks who (Submit (record { id = id; to = to; cents = cents; stamp = stamp })) at
+submit who id to cents stamp at =
+    asks who (Submit (record { id = id; to = to; cents = cents; stamp = stamp })) at
 
 abbrev pub confirm : ℕ → ℕ → List ℕ → ℕ → Step
 confirm who from id at = asks who (Confirm from id) at
@@ -34,7 +38,7 @@ abbrev pub investigate : ℕ → List ℕ → ℕ → Step
 investigate who id at = asks who (Investigate id) at
 
 abbrev pub position : ℕ → ℕ → Step
-position who at = asks who Position at
+position who at = asks who (Query Position) at
 
 -- who sees it, the originator, the place
 abbrev pub deliver : ℕ → ℕ → ℕ → Step
@@ -95,21 +99,23 @@ confirm_before_expire =
     delivered ++ confirm B A (codes "T1") 10999 ∷ expire A 0 11000 ∷ learn A A 0 ∷ positions 11000
 
 abbrev pub expire_before_confirm : List Step
-expire_before_confirm = delivered ++ expire A 0 11000 ∷ confirm B A (codes "T1") 10999 ∷ positions 11000
+expire_before_confirm =
+    delivered ++ expire A 0 11000 ∷ confirm B A (codes "T1") 10999 ∷ positions 11000
 
 -- B has confirmed, and A doesn't know yet
 abbrev pub untold_yet : List Step
 untold_yet = delivered ++ confirm B A (codes "T1") 2000 ∷ []
 
 abbrev pub untold_then_learnt : List Step
-untold_then_learnt = untold_yet ++ position A 2000 ∷ position B 2000 ∷ learn A A 0 ∷ position A 2000 ∷ []
+untold_then_learnt =
+    untold_yet ++ position A 2000 ∷ position B 2000 ∷ learn A A 0 ∷ position A 2000 ∷ []
 
 -- what B asks beside other traffic
 abbrev pub fetch_B : Step
 fetch_B = asks B (Fetch 10) 1500
 
 abbrev pub statement_B : Step
-statement_B = asks B (Statement 0 10) 2100
+statement_B = asks B (Query (Statement 0 10)) 2100
 
 abbrev pub alone : List Step
 alone = delivered ++ fetch_B ∷ confirm B A (codes "T1") 2000 ∷ statement_B ∷ position B 2100 ∷ []
@@ -136,11 +142,13 @@ confirmed_late = delivered ++ confirm B A (codes "T1") 11000 ∷ learn A A 0 ∷
 
 abbrev pub confirmed_before_delivery : List Step
 confirmed_before_delivery =
-    submitted ++ confirm B A (codes "T1") 2000 ∷ investigate A (codes "T1") 2000 ∷ deliver B A 0 ∷ []
+    submitted ++ confirm B A (codes "T1") 2000 ∷ investigate A (codes "T1") 2000 ∷ deliver B A 0
+    ∷ []
 
 abbrev pub expired_before_taken : List Step
 expired_before_taken =
-    fund A (codes "F1") 50000 0 ∷ expire A 0 11000 ∷ submit A (codes "T1") B 20000 1000 1000 ∷ deliver B A 0 ∷ []
+    fund A (codes "F1") 50000 0 ∷ expire A 0 11000 ∷ submit A (codes "T1") B 20000 1000 1000
+    ∷ deliver B A 0 ∷ []
 
 abbrev pub one_of_two_expired : List Step
 one_of_two_expired =
@@ -184,7 +192,8 @@ investigate_at_the_deadline =
 
 abbrev pub confirmed_by_another : List Step
 confirmed_by_another =
-    delivered ++ confirm C A (codes "T1") 2000 ∷ confirm A A (codes "T1") 2000 ∷ investigate A (codes "T1") 2000 ∷ []
+    delivered ++ confirm C A (codes "T1") 2000 ∷ confirm A A (codes "T1") 2000
+    ∷ investigate A (codes "T1") 2000 ∷ []
 
 abbrev pub learnt_twice : List Step
 learnt_twice =
@@ -245,7 +254,8 @@ margin_confirmation_refused =
     ∷ []
 
 abbrev pub margin_then_timed_out : List Step
-margin_then_timed_out = delivered ++ confirm B A (codes "T1") 10999 ∷ confirm B A (codes "T1") 11000 ∷ []
+margin_then_timed_out =
+    delivered ++ confirm B A (codes "T1") 10999 ∷ confirm B A (codes "T1") 11000 ∷ []
 
 abbrev pub margin_after_expire : List Step
 margin_after_expire = delivered ++ expire A 0 11000 ∷ confirm B A (codes "T1") 9500 ∷ []
@@ -263,10 +273,10 @@ carried_over_an_opening =
     position A 1002
     ∷ submit A (codes "T1") B 20000 1000 1002
     ∷ submit A (codes "T1") B 19999 1000 1002
-    ∷ asks A (Statement 0 10) 1002
+    ∷ asks A (Query (Statement 0 10)) 1002
     ∷ confirm B A (codes "T1") 2000
     ∷ learn A A 0
-    ∷ asks A (Statement 0 10) 2000
+    ∷ asks A (Query (Statement 0 10)) 2000
     ∷ []
 
 -- A has an accepted and a pending transfer when the hub closes, and two places

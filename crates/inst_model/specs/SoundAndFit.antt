@@ -1,5 +1,5 @@
--- After any interleaving each history is one that a participant can have, and the histories fit one another: this hub's
--- own promise.
+-- After any interleaving each history is one that a participant can have, and the histories fit one
+-- another: this hub's own promise.
 use Rattle.std.specs.Prelude.{ℕ, List}
 use Rattle.inst_settings.specs.Settings.{HubSettings}
 use Rattle.inst_command.specs.declared.step.Step.{Step}
@@ -10,7 +10,11 @@ use Rattle.inst_model.specs.Hub.{history}
 use Rattle.inst_model.specs.Fit.{BooksFit}
 
 abbrev pub HistoriesAreSound : Type 0
-HistoriesAreSound = (s : HubSettings) (O : Opening) → IsOpening s O → (L : List Step) → IsInterleaving s L → (p : ℕ) → IsSound s p (history s O L p)
+HistoriesAreSound =
+    (s : HubSettings) (O : Opening) → IsOpening s O → (L : List Step) → IsInterleaving s L →
+    (p : ℕ) → IsSound s p (history s O L p)
 
 abbrev pub HistoriesFit : Type 0
-HistoriesFit = (s : HubSettings) (O : Opening) → IsOpening s O → (L : List Step) → IsInterleaving s L → BooksFit s (history s O L)
+HistoriesFit =
+    (s : HubSettings) (O : Opening) → IsOpening s O → (L : List Step) → IsInterleaving s L →
+    BooksFit s (history s O L)

@@ -1,5 +1,6 @@
--- The whole hub step by step: the first step that wants something decides; a participant sees at most one entry of a
--- step, made of what was before it and of the outcomes after it. This hub's own choice.
+-- The whole hub step by step: the first step that wants something decides; a participant sees at
+-- most one entry of a step, made of what was before it and of the outcomes after it. This hub's own
+-- choice.
 use Rattle.std.specs.Prelude.{◌≡◌, ℕ, ◌≤◌, List, ◌∷◌, ◌++◌, length, reverse}
 use Rattle.inst_settings.specs.Settings.{HubSettings}
 use Rattle.inst_model.specs.Opening.{Opening}
@@ -11,12 +12,16 @@ use Rattle.inst_model.specs.Hub.{view, outcome, history}
 use Rattle.inst_model.specs.Trace.{trace, replies, own_answers}
 
 abbrev pub TheFirstThatWantsDecides : Type 0
-TheFirstThatWantsDecides = (s : HubSettings) (O : Opening) (step : Step) (past : List Step) (p : ℕ) (id : List ℕ) →
-    outcome s O (step ∷ past) p id ≡ or_else (outcome s O past p id) (wants s (history s O past) step p id)
+TheFirstThatWantsDecides =
+    (s : HubSettings) (O : Opening) (step : Step) (past : List Step) (p : ℕ) (id : List ℕ) →
+    outcome s O (step ∷ past) p id
+    ≡ or_else (outcome s O past p id) (wants s (history s O past) step p id)
 
 abbrev pub AViewGrowsByWhatIsSeen : Type 0
 AViewGrowsByWhatIsSeen = (s : HubSettings) (O : Opening) (step : Step) (past : List Step) (p : ℕ) →
-    view s O (step ∷ past) p ≡ view s O past p ++ sees s (history s O past) (outcome s O past) (outcome s O (step ∷ past)) step p
+    view s O (step ∷ past) p
+    ≡ view s O past p
+    ++ sees s (history s O past) (outcome s O past) (outcome s O (step ∷ past)) step p
 
 abbrev pub AtMostOneEntryIsSeen : Type 0
 AtMostOneEntryIsSeen = (s : HubSettings) (O : Opening) (step : Step) (past : List Step) (p : ℕ) →

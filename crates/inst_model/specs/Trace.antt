@@ -1,6 +1,7 @@
--- What each step of a hub is answered: an ask its reply, each other step whether its participant saw anything of it.
--- This hub's own choice.
-use Rattle.std.specs.Prelude.{ℕ, Bool, true, false, ◌==◌, if◌then◌else◌, List, [], ◌∷◌, ◌++◌, Result, Ok, Err}
+-- What each step of a hub is answered: an ask its reply, each other step whether its participant
+-- saw anything of it. This hub's own choice.
+use Rattle.std.specs.Prelude.{ℕ, Bool, true, false, ◌==◌, if◌then◌else◌, List, [], ◌∷◌, ◌++◌}
+use Rattle.std.specs.Prelude.{Result, Ok, Err}
 use Rattle.inst_base.specs.declared.fault.Fault.{Fault}
 use Rattle.inst_settings.specs.Settings.{HubSettings}
 use Rattle.inst_model.specs.Opening.{Opening}
@@ -26,7 +27,8 @@ is_some_entry (seen ∷ view) = true
 
 -- whether p sees anything of the step after these steps
 abbrev pub is_seen : HubSettings → Opening → List Step → Step → ℕ → Bool
-is_seen s O past step p = is_some_entry (sees s (history s O past) (outcome s O past) (outcome s O (step ∷ past)) step p)
+is_seen s O past step p =
+    is_some_entry (sees s (history s O past) (outcome s O past) (outcome s O (step ∷ past)) step p)
 
 -- what the step is answered after these steps
 abbrev pub answer : HubSettings → Opening → List Step → Step → Answer

@@ -1,7 +1,7 @@
--- A transfer between two participants, as its originator's history has taken it (EPC004-16, chapter 4, attributes: the
--- originator's reference, the amount, and the time stamp from which the time limit counts). A transfer is named by its
--- originator and its identifier; its place, counted from 0 over the originator's live submissions, names it too: this hub's
--- own choice.
+-- A transfer between two participants, as its originator's history has taken it (EPC004-16, chapter
+-- 4, attributes: the originator's reference, the amount, and the time stamp from which the time
+-- limit counts). A transfer is named by its originator and its identifier; its place, counted from
+-- 0 over the originator's live submissions, names it too: this hub's own choice.
 use Rattle.std.specs.Prelude.{ℕ, Bool, false, if◌then◌else◌, List, Option, Some, None, slice_get}
 use Rattle.std.specs.List.{filter, filter_map}
 use Rattle.inst_base.specs.TimeLimit.{deadline_of}
@@ -25,7 +25,8 @@ terms _ = None
 -- the transfer that the event takes, where it has this identifier
 abbrev pub terms_named : List ℕ → Event → Option Transfer
 terms_named id (Taken other to cents stamp) =
-    if same_text other id then Some (record { id = other; to = to; cents = cents; stamp = stamp }) else None
+    if same_text other id then Some (record { id = other; to = to; cents = cents; stamp = stamp })
+    else None
 terms_named id _ = None
 
 -- the transfers that an originator's history has taken, in the order of their places

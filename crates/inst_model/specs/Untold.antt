@@ -1,5 +1,5 @@
--- Sums over all participants, and the money that the originator hasn't been told of: accepted, credited to the
--- beneficiary, and still reserved at the originator. This hub's own choice.
+-- Sums over all participants, and the money that the originator hasn't been told of: accepted,
+-- credited to the beneficiary, and still reserved at the originator. This hub's own choice.
 use Rattle.std.specs.Prelude.{ℕ, zero, suc, ◌+◌, ℤ, pos, ◌+ℤ◌, List, Option, Some, None, sum_by}
 use Rattle.inst_settings.specs.Settings.{HubSettings, participants}
 use Rattle.inst_command.specs.declared.outcome.Outcome.{Outcome}
@@ -35,7 +35,9 @@ if_untold outcome (Some before) cents = 0
 -- the accepted transfers of the originator p that it hasn't booked
 abbrev pub untold_by : HubSettings → Opening → List Step → ℕ → ℕ
 untold_by s O L p =
-    sum_by (λ x. if_untold (outcome s O L p x.id) (booked p x.id (history s O L p)) x.cents) (transfers (history s O L p))
+    sum_by (λ x.
+    if_untold (outcome s O L p x.id) (booked p x.id (history s O L p)) x.cents)
+    (transfers (history s O L p))
 
 abbrev pub untold : HubSettings → Opening → List Step → ℕ
 untold s O L = total s (untold_by s O L)

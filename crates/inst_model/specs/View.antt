@@ -1,6 +1,8 @@
--- What a participant sees of the hub, entry by entry: its own asks with what each finds, the transfers that come to it,
--- and the outcomes that it is told. An outcome is told to the two parties alone, once to each: this hub's own choice.
-use Rattle.std.specs.Prelude.{ℕ, ◌&&◌, ◌||◌, ◌==◌, not, is_none, if◌then◌else◌, List, [], ◌∷◌, Option, Some, None}
+-- What a participant sees of the hub, entry by entry: its own asks with what each finds, the
+-- transfers that come to it, and the outcomes that it is told. An outcome is told to the two
+-- parties alone, once to each: this hub's own choice.
+use Rattle.std.specs.Prelude.{ℕ, ◌&&◌, ◌||◌, ◌==◌, not, is_none, if◌then◌else◌, List, [], ◌∷◌}
+use Rattle.std.specs.Prelude.{Option, Some, None}
 use Rattle.inst_settings.specs.Settings.{HubSettings}
 use Rattle.inst_command.specs.declared.command.Command.{Command}
 use Rattle.inst_command.specs.declared.outcome.Outcome.{Outcome}
@@ -16,8 +18,10 @@ pub data Seen : Type 0 where
   Came : (from : ℕ) (id : List ℕ) (cents deadline : ℕ) → Seen
   Told : (from : ℕ) (id : List ℕ) (outcome : Outcome) → Seen
 
--- a transfer of `from` comes to p, where it is addressed to p, has no outcome and hasn't come before
-abbrev pub comes : HubSettings → (ℕ → List ℕ → Option Outcome) → ℕ → ℕ → List Event → Option Transfer → List Seen
+-- a transfer of `from` comes to p, where it is addressed to p, has no outcome and hasn't come
+-- before
+abbrev pub comes : HubSettings → (ℕ → List ℕ → Option Outcome) → ℕ → ℕ → List Event →
+    Option Transfer → List Seen
 comes s outcomes from p J None = []
 comes s outcomes from p J (Some x) =
     if (x.to == p) && is_none (outcomes from x.id) && not (is_forwarded from x.id J)
@@ -33,10 +37,12 @@ news from id None before = []
 abbrev pub tells : (ℕ → List ℕ → Option Outcome) → ℕ → ℕ → List Event → Option Transfer → List Seen
 tells outcomes from p J None = []
 tells outcomes from p J (Some x) =
-    if (p == from) || is_forwarded from x.id J then news from x.id (outcomes from x.id) (booked from x.id J) else []
+    if (p == from) || is_forwarded from x.id J
+    then news from x.id (outcomes from x.id) (booked from x.id J) else []
 
 -- what p sees of a step, with the histories and outcomes before it and the outcomes after it
-abbrev pub sees : HubSettings → (ℕ → List Event) → (ℕ → List ℕ → Option Outcome) → (ℕ → List ℕ → Option Outcome) →
+abbrev pub sees : HubSettings → (ℕ → List Event) → (ℕ → List ℕ → Option Outcome) →
+    (ℕ → List ℕ → Option Outcome) →
     Step → ℕ → List Seen
 sees s J before after (Ask ask) p =
     if ask.who == p then Asked ask.command ask.at (found after p (J p) ask.command) ∷ [] else []

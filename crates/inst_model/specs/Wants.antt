@@ -1,11 +1,14 @@
--- What a step wants for a transfer that was taken before it. Until its deadline the beneficiary's confirmation or
--- rejection decides a transfer; from the deadline on, whoever asks after it finds it timed out (EPC004-16, chapter 4:
--- time-out deadline, positive and negative confirmation, investigation). A confirmation in the margin before the deadline
--- wants nothing, and expiry is a step of its own: this hub's own choices.
+-- What a step wants for a transfer that was taken before it. Until its deadline the beneficiary's
+-- confirmation or rejection decides a transfer; from the deadline on, whoever asks after it finds
+-- it timed out (EPC004-16, chapter 4: time-out deadline, positive and negative confirmation,
+-- investigation). A confirmation in the margin before the deadline wants nothing, and expiry is a
+-- step of its own: this hub's own choices.
 use Rattle.std.specs.Prelude.{ℕ, Bool, ◌&&◌, ◌==◌, if◌then◌else◌, List, Option, Some, None}
 use Rattle.inst_settings.specs.Settings.{HubSettings}
 use Rattle.inst_command.specs.declared.command.Command.{Command}
-use Rattle.inst_command.specs.declared.command.Command.TheVariants.{Fund, Defund, Submit, Confirm, Reject, Investigate, Fetch, Position, Statement}
+use Rattle.inst_command.specs.declared.command.Command.TheVariants.{Fund, Defund, Submit, Confirm}
+use Rattle.inst_command.specs.declared.command.Command.TheVariants.{Reject, Investigate, Fetch}
+use Rattle.inst_command.specs.declared.command.Command.TheVariants.{Query}
 use Rattle.inst_command.specs.declared.outcome.Outcome.{Outcome}
 use Rattle.inst_command.specs.Deciding.{confirmed, rejected, expired}
 use Rattle.inst_command.specs.declared.step.Step.{Step}
@@ -16,34 +19,39 @@ use Rattle.inst_model.specs.Transfer.{Transfer, transfer, at_place, deadline, is
 
 -- whether the asker `who` is the beneficiary of the transfer, which it has forwarded, and names it
 abbrev pub is_addressed : (ℕ → List Event) → ℕ → ℕ → List ℕ → ℕ → List ℕ → Transfer → Bool
-is_addressed J who from other p id x = same_transfer p id from other && (who == x.to) && is_forwarded p id (J who)
+is_addressed J who from other p id x =
+    same_transfer p id from other && (who == x.to) && is_forwarded p id (J who)
 
 -- what an ask wants for the transfer x with this identifier of the originator p
-abbrev pub ask_wants : HubSettings → (ℕ → List Event) → ℕ → Command → ℕ → ℕ → List ℕ → Transfer → Option Outcome
+abbrev pub ask_wants : HubSettings → (ℕ → List Event) → ℕ → Command → ℕ → ℕ → List ℕ → Transfer →
+    Option Outcome
 ask_wants s J who (Confirm from other) at p id x =
     if is_addressed J who from other p id x then confirmed s.margin (deadline s x) at else None
 ask_wants s J who (Reject from other reason) at p id x =
     if is_addressed J who from other p id x then rejected reason (deadline s x) at else None
-ask_wants s J who (Investigate other) at p id x = if same_transfer p id who other then expired (deadline s x) at else None
-ask_wants s J who (Fund reference cents) at p id x = None
-ask_wants s J who (Defund reference cents) at p id x = None
+ask_wants s J who (Investigate other) at p id x =
+    if same_transfer p id who other then expired (deadline s x) at else None
+ask_wants s J who (Fund funding) at p id x = None
+ask_wants s J who (Defund funding) at p id x = None
 ask_wants s J who (Submit submission) at p id x = None
 ask_wants s J who (Fetch max) at p id x = None
-ask_wants s J who Position at p id x = None
-ask_wants s J who (Statement skip count) at p id x = None
+ask_wants s J who (Query query) at p id x = None
 
 -- what a step wants for the transfer x
-abbrev pub step_wants : HubSettings → (ℕ → List Event) → Step → ℕ → List ℕ → Transfer → Option Outcome
+abbrev pub step_wants : HubSettings → (ℕ → List Event) → Step → ℕ → List ℕ → Transfer →
+    Option Outcome
 step_wants s J (Ask ask) p id x = ask_wants s J ask.who ask.command ask.at p id x
 step_wants s J (Deliver from index to) p id x = None
 step_wants s J (Learn who from index) p id x = None
 step_wants s J (Expire who index at) p id x =
     if (who == p) && is_named id (at_place p (J p) index) then expired (deadline s x) at else None
 
-abbrev pub taken_wants : HubSettings → (ℕ → List Event) → Step → ℕ → List ℕ → Option Transfer → Option Outcome
+abbrev pub taken_wants : HubSettings → (ℕ → List Event) → Step → ℕ → List ℕ → Option Transfer →
+    Option Outcome
 taken_wants s J step p id None = None
 taken_wants s J step p id (Some x) = step_wants s J step p id x
 
--- what a step wants for the transfer with this identifier of the originator p, after the histories J
+-- what a step wants for the transfer with this identifier of the originator p, after the histories
+-- J
 abbrev pub wants : HubSettings → (ℕ → List Event) → Step → ℕ → List ℕ → Option Outcome
 wants s J step p id = taken_wants s J step p id (transfer id (J p))

@@ -1,6 +1,7 @@
 //! The laws of all participants together, over every list of steps, of any length and in any order.
 ghost use Rattle.inst_model.specs.Isolation.{EqualViewsGiveEqualReplies};
-ghost use Rattle.inst_model.specs.OneOutcome.{AnsweredIsTheOutcome, BookedIsTheOutcome, OutcomeStays};
+ghost use Rattle.inst_model.specs.OneOutcome.{AnsweredIsTheOutcome, BookedIsTheOutcome};
+ghost use Rattle.inst_model.specs.OneOutcome.{OutcomeStays};
 ghost use Rattle.inst_model.specs.Once.{MoneyIsSettledOnce};
 ghost use Rattle.inst_model.specs.ClosedBooks.{ClosedBooksSumToTheNet};
 ghost use Rattle.inst_model.specs.Conservation.{MoneyIsConserved};
@@ -13,12 +14,18 @@ ghost use Rattle.inst_model.specs.Places.{PlacesName, IdentifiersName};
 ghost use Rattle.inst_model.specs.SoundAndFit.{HistoriesAreSound, HistoriesFit};
 ghost use Rattle.inst_model.specs.AtTheOpening.{AnOpeningBeginsFromItsBooks};
 ghost use Rattle.inst_model.specs.LivePlaces.{TheLiveHaveTheirPlaces};
-ghost use Rattle.inst_model.specs.BothSides.{TheLiveAreTheSameOnBothSides, AtAnOpeningTheLiveHaveCome};
-ghost use Rattle.inst_model.specs.Closing.{ThereIsAClosing, ClosingCloses, ClosingDecidesNothing, ClosingOnlyTells};
-ghost use Rattle.inst_model.specs.Closing.{ClosingSettlesUp, ClosingAgainAddsNothing, ClosingLeavesNothingToTell};
+ghost use Rattle.inst_model.specs.BothSides.{TheLiveAreTheSameOnBothSides};
+ghost use Rattle.inst_model.specs.BothSides.{AtAnOpeningTheLiveHaveCome};
+ghost use Rattle.inst_model.specs.Closing.{ThereIsAClosing, ClosingCloses, ClosingDecidesNothing};
+ghost use Rattle.inst_model.specs.Closing.{ClosingOnlyTells};
+ghost use Rattle.inst_model.specs.Closing.{ClosingSettlesUp, ClosingAgainAddsNothing};
+ghost use Rattle.inst_model.specs.Closing.{ClosingLeavesNothingToTell};
 ghost use Rattle.inst_model.specs.Closing.{NothingLeftIsClosed};
-ghost use Rattle.inst_model.specs.NextOpening.{ClosedBooksCanOpen, TheNextBeginsWithTheOutcomes, AnOutcomeStaysOverTheNext, AHubOpensAgain, AnOutcomeStaysForGood};
-ghost use Rattle.inst_model.specs.StepByStep.{TheFirstThatWantsDecides, AViewGrowsByWhatIsSeen, AtMostOneEntryIsSeen, RepliesAreInTheTrace};
+ghost use Rattle.inst_model.specs.NextOpening.{ClosedBooksCanOpen, TheNextBeginsWithTheOutcomes};
+ghost use Rattle.inst_model.specs.NextOpening.{AnOutcomeStaysOverTheNext, AHubOpensAgain};
+ghost use Rattle.inst_model.specs.NextOpening.{AnOutcomeStaysForGood};
+ghost use Rattle.inst_model.specs.StepByStep.{TheFirstThatWantsDecides, AViewGrowsByWhatIsSeen};
+ghost use Rattle.inst_model.specs.StepByStep.{AtMostOneEntryIsSeen, RepliesAreInTheTrace};
 
 /// The first step that wants something decides, and a participant sees at most one entry of a step.
 pub fn the_hub_goes_step_by_step()
@@ -28,12 +35,14 @@ pub fn the_hub_goes_step_by_step()
     ensures replies { RepliesAreInTheTrace }
 {}
 
-/// A participant that sees the same in two interleavings gets the same replies, history, money and statement.
+/// A participant that sees the same in two interleavings gets the same replies, history, money and
+/// statement.
 pub fn equal_views_give_equal_replies()
     ensures { EqualViewsGiveEqualReplies }
 {}
 
-/// Whatever a participant is answered or has booked of a transfer is its outcome, which never changes.
+/// Whatever a participant is answered or has booked of a transfer is its outcome, which never
+/// changes.
 pub fn a_transfer_has_one_outcome()
     ensures answered { AnsweredIsTheOutcome }
     ensures booked { BookedIsTheOutcome }
@@ -45,13 +54,14 @@ pub fn each_outcome_is_in_time()
     ensures { EachOutcomeIsInTime }
 {}
 
-/// A transfer is accepted by its beneficiary's confirmation alone, rejected by its beneficiary's rejection alone, and
-/// timed out at a step of one of its parties.
+/// A transfer is accepted by its beneficiary's confirmation alone, rejected by its beneficiary's
+/// rejection alone, and timed out at a step of one of its parties.
 pub fn each_outcome_is_a_partys()
     ensures { EachOutcomeIsAPartys }
 {}
 
-/// Who learns has it booked, who asks is told it and has it booked, and what is pending comes to its beneficiary.
+/// Who learns has it booked, who asks is told it and has it booked, and what is pending comes to
+/// its beneficiary.
 pub fn what_is_decided_is_learnt()
     ensures learnt { LearningBooks }
     ensures expired { ExpiryBooks }
@@ -92,7 +102,8 @@ pub fn closed_books_sum_to_the_net()
     ensures { ClosedBooksSumToTheNet }
 {}
 
-/// A hub begins from its books: nothing is untold, each statement is empty, and the money is the books'.
+/// A hub begins from its books: nothing is untold, each statement is empty, and the money is the
+/// books'.
 pub fn an_opening_begins_from_its_books()
     ensures { AnOpeningBeginsFromItsBooks }
 {}
@@ -108,7 +119,8 @@ pub fn the_live_are_the_same_on_both_sides()
     ensures at_an_opening { AtAnOpeningTheLiveHaveCome }
 {}
 
-/// A closing tells everyone what there is to be told and decides nothing; the books are then sound and closed.
+/// A closing tells everyone what there is to be told and decides nothing; the books are then sound
+/// and closed.
 pub fn a_closing_closes_the_books()
     ensures there_is_one { ThereIsAClosing }
     ensures closes { ClosingCloses }

@@ -13,18 +13,26 @@ ghost use Rattle.inst_model.specs.Hub.{history};
 ghost use Rattle.inst_model.specs.Opening.Opening.{First};
 ghost use Rattle.inst_model.specs.Untold.{total, signed_total, untold};
 ghost use Rattle.inst_model.specs.Trace.{replies};
-ghost use Rattle.inst_model.specs.Rows.{A, B, settings, answers, is_done, is_taken, is_state, is_position, is_refused};
-ghost use Rattle.inst_model.specs.Rows.{is_new, confirm_before_expire, expire_before_confirm, untold_yet};
+ghost use Rattle.inst_model.specs.Rows.{A, B, settings, answers, is_done, is_taken, is_state};
+ghost use Rattle.inst_model.specs.Rows.{is_position, is_refused};
+ghost use Rattle.inst_model.specs.Rows.{is_new, confirm_before_expire, expire_before_confirm};
+ghost use Rattle.inst_model.specs.Rows.{untold_yet};
 ghost use Rattle.inst_model.specs.Rows.{untold_then_learnt, alone, among_others, confirmed_late};
-ghost use Rattle.inst_model.specs.Rows.{confirmed_before_delivery, expired_before_taken, one_of_two_expired};
+ghost use Rattle.inst_model.specs.Rows.{confirmed_before_delivery, expired_before_taken};
+ghost use Rattle.inst_model.specs.Rows.{one_of_two_expired};
 ghost use Rattle.inst_model.specs.Rows.{wrong_deliveries_and_stamp_ahead, expired_before_delivery};
-ghost use Rattle.inst_model.specs.Rows.{rejected_with_reason, investigate_at_the_deadline, confirmed_by_another};
-ghost use Rattle.inst_model.specs.Rows.{learnt_twice, answers_with_margin, answers_from, on_either_side, fundings_full};
-ghost use Rattle.inst_model.specs.Rows.{a_page_of_two, margin_confirmed_before, margin_confirmation_refused};
-ghost use Rattle.inst_model.specs.Rows.{margin_then_timed_out, margin_after_expire, carried_over_an_opening, delivered};
+ghost use Rattle.inst_model.specs.Rows.{rejected_with_reason, investigate_at_the_deadline};
+ghost use Rattle.inst_model.specs.Rows.{confirmed_by_another};
+ghost use Rattle.inst_model.specs.Rows.{learnt_twice, answers_with_margin, answers_from};
+ghost use Rattle.inst_model.specs.Rows.{on_either_side, fundings_full};
+ghost use Rattle.inst_model.specs.Rows.{a_page_of_two, margin_confirmed_before};
+ghost use Rattle.inst_model.specs.Rows.{margin_confirmation_refused};
+ghost use Rattle.inst_model.specs.Rows.{margin_then_timed_out, margin_after_expire};
+ghost use Rattle.inst_model.specs.Rows.{carried_over_an_opening, delivered};
 ghost use Rattle.inst_model.specs.Rows.{one_settled, places_given_back};
 
-/// A confirmation just in time stands, though the deadline passes before the originator learns of it.
+/// A confirmation just in time stands, though the deadline passes before the originator learns of
+/// it.
 pub fn confirm_before_expire()
     ensures { answers confirm_before_expire ≡
         is_done (codes "F1") ∷ is_taken (codes "T1") 11000 ∷ is_new true
@@ -39,19 +47,22 @@ pub fn expire_before_confirm()
         ∷ is_state A (codes "T1") (State.Decided Outcome.TimedOut)
         ∷ is_position 50000 0 50000 ∷ is_position 0 0 0 ∷ [] }
     ensures history { history settings First (reverse expire_before_confirm) B ≡
-        Event.Forwarded A (codes "T1") 20000 11000 ∷ Event.Booked A (codes "T1") Outcome.TimedOut ∷ [] }
+        Event.Forwarded A (codes "T1") 20000 11000 ∷ Event.Booked A (codes "T1") Outcome.TimedOut
+        ∷ [] }
 {}
 
-/// Until the originator learns of an accepted transfer its amount stays reserved, and the positions sum to 20000 more
-/// than the net funding.
+/// Until the originator learns of an accepted transfer its amount stays reserved, and the positions
+/// sum to 20000 more than the net funding.
 pub fn untold_then_learnt()
     ensures answers { answers untold_then_learnt ≡
         is_done (codes "F1") ∷ is_taken (codes "T1") 11000 ∷ is_new true
         ∷ is_state A (codes "T1") (State.Decided Outcome.Accepted)
         ∷ is_position 50000 20000 30000 ∷ is_position 20000 0 20000 ∷ is_new true
         ∷ is_position 30000 0 30000 ∷ [] }
-    ensures positions { total settings (λ p. position (history settings First (reverse untold_yet) p)) ≡ 70000 }
-    ensures net { signed_total settings (λ p. net (history settings First (reverse untold_yet) p)) ≡ pos 50000 }
+    ensures positions { total settings (λ p.
+        position (history settings First (reverse untold_yet) p)) ≡ 70000 }
+    ensures net { signed_total settings (λ p. net (history settings First (reverse untold_yet) p))
+        ≡ pos 50000 }
     ensures untold { untold settings First (reverse untold_yet) ≡ 20000 }
     ensures learnt { untold settings First (reverse untold_then_learnt) ≡ 0 }
 {}
@@ -59,7 +70,13 @@ pub fn untold_then_learnt()
 /// What B is answered is the same beside the traffic of others.
 pub fn other_traffic_unseen()
     ensures alone { replies settings First (reverse alone) B ≡
-        Answer.Reply (Reply.Inbox (record { from = A; id = codes "T1"; cents = 20000; deadline = 11000 } ∷ []))
+        Answer.Reply (Reply.Inbox (record {
+          from = A;
+          id = codes "T1";
+          cents = 20000;
+          deadline =
+              11000;
+        } ∷ []))
         ∷ is_state A (codes "T1") (State.Decided Outcome.Accepted)
         ∷ Answer.Reply (Reply.Statement (record {
           number = 1;
@@ -70,10 +87,12 @@ pub fn other_traffic_unseen()
           position = 20000;
         } ∷ []))
         ∷ is_position 20000 0 20000 ∷ [] }
-    ensures same { replies settings First (reverse among_others) B ≡ replies settings First (reverse alone) B }
+    ensures same { replies settings First (reverse among_others) B
+        ≡ replies settings First (reverse alone) B }
 {}
 
-/// A transfer comes once, to its beneficiary; a time stamp may lie one second after the reading and no more.
+/// A transfer comes once, to its beneficiary; a time stamp may lie one second after the reading and
+/// no more.
 pub fn wrong_deliveries_and_stamp_ahead()
     ensures { answers wrong_deliveries_and_stamp_ahead ≡
         is_done (codes "F1") ∷ is_taken (codes "T1") 11000 ∷ is_new true
@@ -96,7 +115,8 @@ pub fn confirmed_late()
         ∷ is_position 50000 0 50000 ∷ is_position 0 0 0 ∷ [] }
 {}
 
-/// A beneficiary can't confirm what hasn't come to it, and the transfer goes on as if it hadn't tried.
+/// A beneficiary can't confirm what hasn't come to it, and the transfer goes on as if it hadn't
+/// tried.
 pub fn confirmed_before_delivery()
     ensures { answers confirmed_before_delivery ≡
         is_done (codes "F1") ∷ is_taken (codes "T1") 11000 ∷ is_refused Fault.UnknownTransfer
@@ -112,7 +132,8 @@ pub fn expired_before_taken()
 /// An expiry times out the transfer at its place and no other.
 pub fn one_of_two_expired()
     ensures { answers one_of_two_expired ≡
-        is_done (codes "F1") ∷ is_taken (codes "T1") 11000 ∷ is_taken (codes "T2") 11000 ∷ is_new true
+        is_done (codes "F1") ∷ is_taken (codes "T1") 11000 ∷ is_taken (codes "T2") 11000
+        ∷ is_new true
         ∷ is_state A (codes "T1") (State.Decided Outcome.TimedOut)
         ∷ is_state A (codes "T2") State.Pending ∷ [] }
 {}
@@ -130,7 +151,8 @@ pub fn rejected_with_reason()
         ∷ Event.Booked A (codes "T1") (Outcome.Rejected (codes "AC04")) ∷ [] }
 {}
 
-/// An investigation before the deadline leaves the transfer pending, one at the deadline times it out.
+/// An investigation before the deadline leaves the transfer pending, one at the deadline times it
+/// out.
 pub fn investigate_at_the_deadline()
     ensures { answers investigate_at_the_deadline ≡
         is_done (codes "F1") ∷ is_taken (codes "T1") 11000 ∷ is_new true
@@ -154,12 +176,13 @@ pub fn learnt_twice()
         ∷ is_state A (codes "T1") (State.Decided Outcome.Accepted)
         ∷ is_new true ∷ is_new false ∷ is_new false ∷ is_position 30000 0 30000 ∷ [] }
     ensures history { history settings First (reverse learnt_twice) A ≡
-        Event.Funded (codes "F1") 50000 ∷ Event.Taken (codes "T1") B 20000 1000
+        Event.Funded (record { reference = codes "F1"; cents = 50000 })
+        ∷ Event.Taken (codes "T1") B 20000 1000
         ∷ Event.Booked A (codes "T1") Outcome.Accepted ∷ [] }
 {}
 
-/// One millisecond before the deadline an expiry does nothing and a rejection stands; at the deadline a
-/// rejection comes too late, and the expiry finds the time-out that it made.
+/// One millisecond before the deadline an expiry does nothing and a rejection stands; at the
+/// deadline a rejection comes too late, and the expiry finds the time-out that it made.
 pub fn on_either_side()
     ensures { answers on_either_side ≡
         is_done (codes "F1") ∷ is_taken (codes "T1") 11000 ∷ is_new true
@@ -168,8 +191,8 @@ pub fn on_either_side()
         ∷ is_state A (codes "T2") (State.Decided Outcome.TimedOut) ∷ is_new true ∷ [] }
 {}
 
-/// Where all fundings are used, a kept reference with other cents is a duplicate still, a new one finds no
-/// room, and a repeat is answered.
+/// Where all fundings are used, a kept reference with other cents is a duplicate still, a new one
+/// finds no room, and a repeat is answered.
 pub fn fundings_full()
     ensures { answers fundings_full ≡
         is_done (codes "F1") ∷ is_done (codes "F2") ∷ is_done (codes "F3") ∷ is_done (codes "F4")
@@ -181,7 +204,13 @@ pub fn a_page_of_two()
     ensures { answers a_page_of_two ≡
         is_done (codes "F1") ∷ is_taken (codes "T1") 11000 ∷ is_taken (codes "T2") 11000
         ∷ is_new true ∷ is_new true
-        ∷ Answer.Reply (Reply.Inbox (record { from = A; id = codes "T2"; cents = 200; deadline = 11000 }
+        ∷ Answer.Reply (Reply.Inbox (record {
+          from = A;
+          id = codes "T2";
+          cents = 200;
+          deadline =
+              11000;
+        }
         ∷ record { from = A; id = codes "T1"; cents = 20000; deadline = 11000 } ∷ []))
         ∷ Answer.Reply (Reply.Inbox []) ∷ [] }
 {}
@@ -193,8 +222,8 @@ pub fn margin_confirmed_before()
         ∷ is_state A (codes "T1") (State.Decided Outcome.Accepted) ∷ [] }
 {}
 
-/// In the margin a confirmation comes too late and decides nothing; a rejection still stands, and then the
-/// confirmation is answered with it.
+/// In the margin a confirmation comes too late and decides nothing; a rejection still stands, and
+/// then the confirmation is answered with it.
 pub fn margin_confirmation_refused()
     ensures { answers_with_margin margin_confirmation_refused ≡
         is_done (codes "F1") ∷ is_taken (codes "T1") 11000 ∷ is_new true
@@ -217,8 +246,8 @@ pub fn margin_after_expire()
         ∷ is_state A (codes "T1") (State.Decided Outcome.TimedOut) ∷ [] }
 {}
 
-/// At the next opening a pending transfer is still reserved, its repeat and its duplicate are told apart, the
-/// statement begins anew, and the transfer can be confirmed.
+/// At the next opening a pending transfer is still reserved, its repeat and its duplicate are told
+/// apart, the statement begins anew, and the transfer can be confirmed.
 pub fn carried_over_an_opening()
     ensures { answers_from delivered carried_over_an_opening ≡
         is_position 50000 20000 30000 ∷ is_taken (codes "T1") 11000 ∷ is_refused Fault.Duplicate
@@ -234,8 +263,8 @@ pub fn carried_over_an_opening()
         } ∷ [])) ∷ [] }
 {}
 
-/// At the next opening a settled transfer's place is free again, a pending one's isn't; the settled one keeps its
-/// name and its outcome, and the pending one is at the first place.
+/// At the next opening a settled transfer's place is free again, a pending one's isn't; the settled
+/// one keeps its name and its outcome, and the pending one is at the first place.
 pub fn places_given_back()
     ensures { answers_from one_settled places_given_back ≡
         is_taken (codes "T3") 13000 ∷ is_refused Fault.Full

@@ -1,5 +1,5 @@
-pub mod Given
-pub mod Naming
-pub mod Refused
+pub mod OptionTextsAndNumbers
+pub mod OptionsOfLog
+pub mod OptionsWithoutSettings
 pub mod Ranges
 pub mod FaultNames

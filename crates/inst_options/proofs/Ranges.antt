@@ -8,7 +8,7 @@ use Rattle.inst_options.specs.Options.{Gives, GivesNoneBelow}
 use Rattle.inst_options.specs.BadOptions.{AreInside, IsInside, Range, ranges}
 use Rattle.inst_options.specs.inner.BadOptions.{range_of}
 use Rattle.inst_options.specs.declared.bad_option.Bound.{Bound}
-use Rattle.inst_options.proofs.Refused.{given_one}
+use Rattle.inst_options.proofs.OptionsWithoutSettings.{given_one}
 
 mapped : {A B : Type 0} (f : A → B) (o : Option A) (b : B) → option_map f o ≡ Some b → o ≡ None → ⊥
 mapped f None b e none = cc

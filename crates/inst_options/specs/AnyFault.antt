@@ -1,4 +1,5 @@
--- The faults of a hub, of a log and of a drill together, and the words that name them. They are this hub's own choice.
+-- The faults of a hub, of a log and of a drill together, and the words that name them. They are
+-- this hub's own choice.
 use Rattle.std.specs.Prelude.{◌≡◌, ◌⊎◌, ℕ, List, codes}
 use Rattle.std.specs.Str.Parse.{IsNumeral, digits_value, without_leading_plus}
 use Rattle.inst_base.specs.Fault as hub
@@ -20,4 +21,5 @@ name_of NoInterleaving = codes "NoInterleaving"
 abbrev pub IsNamed : List ℕ → AnyFault → Type 0
 IsNamed word fault =
     (word ≡ name_of fault)
-    ⊎ (IsNumeral 10 (without_leading_plus word) × (number_of fault ≡ digits_value 10 (without_leading_plus word)))
+    ⊎ (IsNumeral 10 (without_leading_plus word)
+    × (number_of fault ≡ digits_value 10 (without_leading_plus word)))

@@ -1,6 +1,7 @@
--- Which option is named where no hub can have what the options choose, and what is said that it may be. This hub's own
--- choice.
-use Rattle.std.specs.Prelude.{◌≡◌, ◌⊎◌, ℕ, ◌<◌, ◌≤◌, ◌^◌, true, false, List, [], ◌∷◌, slice_get, Some, codes}
+-- Which option is named where no hub can have what the options choose, and what is said that it may
+-- be. This hub's own choice.
+use Rattle.std.specs.Prelude.{◌≡◌, ◌⊎◌, ℕ, ◌<◌, ◌≤◌, ◌^◌, true, false, List, [], ◌∷◌, slice_get}
+use Rattle.std.specs.Prelude.{Some, codes}
 use Rattle.clap.specs.Words.{Row, first_of}
 use Rattle.inst_options.specs.Options.{Gives, IsFlag, NamesNoLog, is_digest}
 use Rattle.inst_options.specs.declared.bad_option.BadOption.{BadOption}
@@ -44,21 +45,28 @@ AreInside rows = (i : ℕ) (r : Range) → slice_get ranges i ≡ Some r → IsI
 -- the margin is not below the limit
 abbrev pub IsMarginTooLarge : List Row → Type 0
 IsMarginTooLarge rows =
-    (limit : ℕ) × (margin : ℕ) × Gives rows (codes "limit") limit × Gives rows (codes "margin") margin × (limit ≤ margin)
+    (limit : ℕ) × (margin : ℕ) × Gives rows (codes "limit") limit
+    × Gives rows (codes "margin") margin × (limit ≤ margin)
 
 -- the option describes a log, and none is named
 abbrev pub IsWithoutItsLog : List Row → List ℕ → Type 0
 IsWithoutItsLog rows name = NamesNoLog rows
-    × ((name ≡ codes "told") ⊎ ((name ≡ codes "digest") ⊎ ((name ≡ codes "resume") × IsFlag (codes "resume") rows true)))
+    × ((name ≡ codes "told")
+    ⊎ ((name ≡ codes "digest") ⊎ ((name ≡ codes "resume") × IsFlag (codes "resume") rows true)))
 
 -- why an option is the bad one, with what it may be
 -- by_codes: where each number is in its range, it is the participants
 pub data IsBad (rows : List Row) (name value words : List ℕ) : Type 0 where
-  by_range : (i : ℕ) (r : Range) → slice_get ranges i ≡ Some r → name ≡ r.name → words ≡ r.words → IsOutside rows r → IsBad rows name value words
-  by_limit : name ≡ codes "margin" → words ≡ codes "0 to one less than the limit" → IsMarginTooLarge rows → IsBad rows name value words
-  by_form : name ≡ codes "digest" → words ≡ DIGEST.now → is_digest value ≡ false → IsBad rows name value words
-  by_log : words ≡ codes "given beside --log alone" → IsWithoutItsLog rows name → IsBad rows name value words
-  by_codes : name ≡ codes "participants" → words ≡ PARTICIPANTS.now → AreInside rows → IsBad rows name value words
+  by_range : (i : ℕ) (r : Range) → slice_get ranges i ≡ Some r → name ≡ r.name → words ≡ r.words →
+      IsOutside rows r → IsBad rows name value words
+  by_limit : name ≡ codes "margin" → words ≡ codes "0 to one less than the limit" →
+      IsMarginTooLarge rows → IsBad rows name value words
+  by_form : name ≡ codes "digest" → words ≡ DIGEST.now → is_digest value ≡ false →
+      IsBad rows name value words
+  by_log : words ≡ codes "given beside --log alone" → IsWithoutItsLog rows name →
+      IsBad rows name value words
+  by_codes : name ≡ codes "participants" → words ≡ PARTICIPANTS.now → AreInside rows →
+      IsBad rows name value words
 
 -- the option has this value, and is the bad one
 pub record IsBadOption (rows : List Row) (bad : BadOption) : Type 0 where

@@ -1,5 +1,6 @@
 -- How lines on standard error show texts from outside. This hub's own choice.
-use Rattle.std.specs.Prelude.{◌+◌, ◌/◌, ◌%◌, ◌++◌, ◌∷◌, [], ◌&&◌, ◌==◌, ℕ, Bool, not, nat_le, nat_lt, if◌then◌else◌, List, length, take, codes}
+use Rattle.std.specs.Prelude.{◌+◌, ◌/◌, ◌%◌, ◌++◌, ◌∷◌, [], ◌&&◌, ◌==◌, ℕ, Bool, not, nat_le}
+use Rattle.std.specs.Prelude.{nat_lt, if◌then◌else◌, List, length, take, codes}
 use Rattle.std.specs.List.{flat_map}
 
 -- printable ASCII, but for the backslash
@@ -12,8 +13,10 @@ hex_digit n = if nat_lt n 10 then 48 + n else 87 + n
 
 -- such a byte as it is, and any other one as `\x` and its two hexadecimal digits
 abbrev pub shown_byte : ℕ → List ℕ
-shown_byte c = if is_plain c then c ∷ [] else 92 ∷ 120 ∷ hex_digit (c / 16) ∷ hex_digit (c % 16) ∷ []
+shown_byte c =
+    if is_plain c then c ∷ [] else 92 ∷ 120 ∷ hex_digit (c / 16) ∷ hex_digit (c % 16) ∷ []
 
 -- the first 200 bytes of a text, shown so, and two points if there are more
 abbrev pub excerpt : List ℕ → List ℕ
-excerpt bytes = flat_map shown_byte (take 200 bytes) ++ (if nat_lt 200 (length bytes) then codes ".." else [])
+excerpt bytes =
+    flat_map shown_byte (take 200 bytes) ++ (if nat_lt 200 (length bytes) then codes ".." else [])

@@ -1,7 +1,11 @@
 -- The faults of a run's log, and the exit status of each. They are this hub's own choice.
 use Rattle.std.specs.Prelude.{ℕ, List, codes}
 use Rattle.inst_options.specs.declared.log_fault.LogFault.{LogFault}
-use Rattle.inst_options.specs.declared.log_fault.LogFault.TheVariants.{DiskFault, OtherSettings, NoLog, ToldAhead, LogInUse, BadBooks, LastOpening, DamagedLog, OtherDigest, ChangedLog}
+use Rattle.inst_options.specs.declared.log_fault.LogFault.TheVariants.{DiskFault, OtherSettings}
+use Rattle.inst_options.specs.declared.log_fault.LogFault.TheVariants.{NoLog, ToldAhead, LogInUse}
+use Rattle.inst_options.specs.declared.log_fault.LogFault.TheVariants.{BadBooks, LastOpening}
+use Rattle.inst_options.specs.declared.log_fault.LogFault.TheVariants.{DamagedLog, OtherDigest}
+use Rattle.inst_options.specs.declared.log_fault.LogFault.TheVariants.{ChangedLog}
 
 abbrev pub number_of : LogFault → ℕ
 number_of DiskFault = 19

@@ -1,5 +1,8 @@
--- The options of a subcommand, and the settings that their values choose. They are this hub's own choice.
-use Rattle.std.specs.Prelude.{◌⊎◌, ◌≡◌, ◌<◌, ◌≤◌, ◌^◌, ◌==◌, ◌&&◌, ◌||◌, ℕ, Bool, true, false, nat_le, nat_lt, List, length, Option, Some, None, IfSome, is_some, unwrap_or, codes}
+-- The options of a subcommand, and the settings that their values choose. They are this hub's own
+-- choice.
+use Rattle.std.specs.Prelude.{◌⊎◌, ◌≡◌, ◌<◌, ◌≤◌, ◌^◌, ◌==◌, ◌&&◌, ◌||◌, ℕ, Bool, true, false}
+use Rattle.std.specs.Prelude.{nat_le, nat_lt, List, length, Option, Some, None, IfSome, is_some}
+use Rattle.std.specs.Prelude.{unwrap_or, codes}
 use Rattle.std.specs.List.{list_all}
 use Rattle.std.specs.Str.Parse.{IsNumeral, digits_value, without_leading_plus}
 use Rattle.clap.specs.Words.{Row, Text, first_of, one_of}
@@ -42,11 +45,15 @@ IsFlag name rows flag =
 -- it has a hub: it is none of `log`, `next` and `explain`
 abbrev pub HasAHub : List ℕ → Type 0
 HasAHub name =
-    (same_text name (codes "log") ≡ false) × (same_text name (codes "next") ≡ false) × (same_text name (codes "explain") ≡ false)
+    (same_text name (codes "log") ≡ false) × (same_text name (codes "next") ≡ false)
+    × (same_text name (codes "explain") ≡ false)
 
--- an option says something of a log: how many replies are there, which digest it contains, or that it is there
+-- an option says something of a log: how many replies are there, which digest it contains, or that
+-- it is there
 abbrev pub DescribesALog : List Row → Type 0
-DescribesALog rows = IsGiven (codes "told") rows ⊎ (IsGiven (codes "digest") rows ⊎ IsFlag (codes "resume") rows true)
+DescribesALog rows =
+    IsGiven (codes "told") rows
+    ⊎ (IsGiven (codes "digest") rows ⊎ IsFlag (codes "resume") rows true)
 
 -- the options say that so many replies are there already, or no number that a word can have
 abbrev pub GivesTold : List Row → Option ℕ → Type 0
@@ -63,21 +70,25 @@ is_digest text = length text == 64 && list_all is_digest_character text
 
 -- the options give this digest, or none
 abbrev pub GivesDigest : List Row → Option Text → Type 0
-GivesDigest rows digest = (first_of (codes "digest") rows ≡ digest) × IfSome digest (λ text. is_digest text ≡ true)
+GivesDigest rows digest =
+    (first_of (codes "digest") rows ≡ digest) × IfSome digest (λ text. is_digest text ≡ true)
 
--- whether the log must be there already: this is asked for, or a digest is given, or replies are there
+-- whether the log must be there already: this is asked for, or a digest is given, or replies are
+-- there
 abbrev pub must_resume : Bool → Option ℕ → Option Text → Bool
 must_resume asked told digest = asked || is_some digest || nat_lt 0 (unwrap_or told 0)
 
 -- the options say that the log must be there already, or that it may be new
 abbrev pub GivesResume : List Row → Option ℕ → Option Text → Bool → Type 0
-GivesResume rows told digest resume = (asked : Bool) × IsFlag (codes "resume") rows asked × (resume ≡ must_resume asked told digest)
+GivesResume rows told digest resume =
+    (asked : Bool) × IsFlag (codes "resume") rows asked × (resume ≡ must_resume asked told digest)
 
--- the options name a log by its file, with how many of its replies are there already, whether it must be there, and a
--- digest that it must contain
+-- the options name a log by its file, with how many of its replies are there already, whether it
+-- must be there, and a digest that it must contain
 abbrev pub NamesTheLog : List Row → List ℕ → Option ℕ → Bool → Option Text → Type 0
 NamesTheLog rows path told resume digest =
-    (first_of (codes "log") rows ≡ Some path) × GivesTold rows told × GivesResume rows told digest resume × GivesDigest rows digest
+    (first_of (codes "log") rows ≡ Some path) × GivesTold rows told
+    × GivesResume rows told digest resume × GivesDigest rows digest
 
 -- they name none
 abbrev pub NamesNoLog : List Row → Type 0
@@ -85,7 +96,8 @@ NamesNoLog rows = first_of (codes "log") rows ≡ None
 
 -- the text of the option is no digest
 abbrev pub GivesNoDigest : List Row → Type 0
-GivesNoDigest rows = (text : Text) × (first_of (codes "digest") rows ≡ Some text) × (is_digest text ≡ false)
+GivesNoDigest rows =
+    (text : Text) × (first_of (codes "digest") rows ≡ Some text) × (is_digest text ≡ false)
 
 -- the options say something of a log, and name none, or what they give as its digest is none
 abbrev pub AreOfNoLog : List Row → Type 0
@@ -93,22 +105,27 @@ AreOfNoLog rows = GivesNoDigest rows ⊎ (NamesNoLog rows × DescribesALog rows)
 
 -- the options give a drill's numbers
 abbrev pub IsDrill : List Row → ℕ → ℕ → Type 0
-IsDrill rows transfers openings = Gives rows (codes "transfers") transfers × Gives rows (codes "openings") openings
+IsDrill rows transfers openings =
+    Gives rows (codes "transfers") transfers × Gives rows (codes "openings") openings
 
--- what the subcommand of this name does, with these options; the one that is none of `play`, `drill` and
--- `check` is `run`
+-- what the subcommand of this name does, with these options; the one that is none of `play`,
+-- `drill` and `check` is `run`
 abbrev pub IsTask : List ℕ → List Row → Task → Type 0
 IsTask name rows Run =
-    (same_text name (codes "play") ≡ false) × (same_text name (codes "drill") ≡ false) × (same_text name (codes "check") ≡ false)
+    (same_text name (codes "play") ≡ false) × (same_text name (codes "drill") ≡ false)
+    × (same_text name (codes "check") ≡ false)
 IsTask name rows Play = same_text name (codes "play") ≡ true
 IsTask name rows (Drill transfers openings) =
-    (same_text name (codes "play") ≡ false) × (same_text name (codes "drill") ≡ true) × IsDrill rows transfers openings
+    (same_text name (codes "play") ≡ false) × (same_text name (codes "drill") ≡ true)
+    × IsDrill rows transfers openings
 IsTask name rows Check =
-    (same_text name (codes "play") ≡ false) × (same_text name (codes "drill") ≡ false) × (same_text name (codes "check") ≡ true)
+    (same_text name (codes "play") ≡ false) × (same_text name (codes "drill") ≡ false)
+    × (same_text name (codes "check") ≡ true)
 
 -- the options choose these settings
 pub record Chooses (rows : List Row) (s : HubSettings) : Type 0 where
-  pub participants : (text : Text) × (first_of (codes "participants") rows ≡ Some text) × (s.codes ≡ parts_of text)
+  pub participants : (text : Text) × (first_of (codes "participants") rows ≡ Some text)
+      × (s.codes ≡ parts_of text)
   pub places : Gives rows (codes "places") s.places
   pub fundings : Gives rows (codes "fundings") s.fundings
   pub limit : Gives rows (codes "limit") s.limit

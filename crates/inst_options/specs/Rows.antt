@@ -1,23 +1,31 @@
 -- Worked command lines, computed from the definitions. This hub's own choice.
 use Rattle.std.specs.Prelude.{◌≡◌, ℕ, true, false, List, [], ◌∷◌, ◌++◌, Some, None, codes}
-use Rattle.clap.specs.declared.error.kind.ErrorKind.TheVariants.{DisplayHelp, DisplayVersion, MissingRequiredArgument, MissingSubcommand}
+use Rattle.clap.specs.declared.error.kind.ErrorKind.TheVariants.{DisplayHelp, DisplayVersion}
+use Rattle.clap.specs.declared.error.kind.ErrorKind.TheVariants.{MissingRequiredArgument}
+use Rattle.clap.specs.declared.error.kind.ErrorKind.TheVariants.{MissingSubcommand}
 use Rattle.inst_settings.specs.Settings.{HubSettings}
 use Rattle.inst_settings.specs.Lawful.{AreOfAHub, settings_with}
-use Rattle.inst_settings.specs.declared.numbers.TheConstants.Numbers.{DEFAULT}
-use Rattle.inst_options.specs.Asking.{AreChosen, AreWhole, AskForTheLog, AskForTheNext, AskToExplain, NameNoLog, NameTheLog, faults_of}
+use Rattle.inst_settings.specs.declared.hub_parameters.TheConstants.HubParameters.{DEFAULT}
+use Rattle.inst_options.specs.Asking.{AreChosen, AreWhole, AskForTheLog, AskForTheNext}
+use Rattle.inst_options.specs.Asking.{AskToExplain, NameNoLog, NameTheLog, faults_of}
 use Rattle.inst_options.specs.Options.Task.{Run, Play, Drill}
 
 -- `inst_main run --participants AAAADEFF,BBBBFRPP --places 2`
 abbrev pub small_hub : List (List ℕ)
-small_hub = codes "inst_main" ∷ codes "run" ∷ codes "--participants" ∷ codes "AAAADEFF,BBBBFRPP" ∷ codes "--places" ∷ codes "2" ∷ []
+small_hub =
+    codes "inst_main" ∷ codes "run" ∷ codes "--participants" ∷ codes "AAAADEFF,BBBBFRPP"
+    ∷ codes "--places" ∷ codes "2" ∷ []
 
 -- its settings: what was given, and the others as they are where they aren't
 abbrev pub small_settings : HubSettings
-small_settings = settings_with (codes "AAAADEFF" ∷ codes "BBBBFRPP" ∷ []) 2 256 10000 0 1000 99999999999 0
+small_settings =
+    settings_with (codes "AAAADEFF" ∷ codes "BBBBFRPP" ∷ []) 2 256 10000 0 1000 99999999999 0
 
 -- the same words with `play` in the place of `run`
 abbrev pub small_script : List (List ℕ)
-small_script = codes "inst_main" ∷ codes "play" ∷ codes "--participants" ∷ codes "AAAADEFF,BBBBFRPP" ∷ codes "--places" ∷ codes "2" ∷ []
+small_script =
+    codes "inst_main" ∷ codes "play" ∷ codes "--participants" ∷ codes "AAAADEFF,BBBBFRPP"
+    ∷ codes "--places" ∷ codes "2" ∷ []
 
 -- `inst_main drill --participants AAAADEFF,BBBBFRPP --places 2 --transfers 2`
 abbrev pub small_drill : List (List ℕ)
@@ -34,33 +42,46 @@ pub record SmallHub : Type 0 where
   pub drill_chosen : AreChosen small_drill (Drill 2 1) small_settings
   pub good : AreOfAHub small_settings
 
--- `inst_main run --participants AAAADEFF,BBBBFRPP`: what isn't given is as the library's own default has it
+-- `inst_main run --participants AAAADEFF,BBBBFRPP`: what isn't given is as the library's own
+-- default has it
 pub record DefaultHub : Type 0 where
-  pub chosen : AreChosen (codes "inst_main" ∷ codes "run" ∷ codes "--participants" ∷ codes "AAAADEFF,BBBBFRPP" ∷ []) Run
-      (settings_with (codes "AAAADEFF" ∷ codes "BBBBFRPP" ∷ []) DEFAULT.places DEFAULT.fundings DEFAULT.limit DEFAULT.margin
+  pub chosen : AreChosen (codes "inst_main" ∷ codes "run" ∷ codes "--participants"
+      ∷ codes "AAAADEFF,BBBBFRPP" ∷ []) Run
+      (settings_with (codes "AAAADEFF" ∷ codes "BBBBFRPP"
+      ∷ []) DEFAULT.places DEFAULT.fundings DEFAULT.limit DEFAULT.margin
       DEFAULT.ahead DEFAULT.ceiling DEFAULT.base)
 
 -- SHA-256 of no bytes
 abbrev pub empty_digest : List ℕ
 empty_digest = codes "e3b0c44298fc1c149afbf4c8996fb92427ae41e4649b934ca495991b7852b855"
 
--- the words of a run with `--log hub.log`, of a play with `--told 3 --log hub.log`, which must find a log, of runs with
--- `--resume` or `--digest` beside it, and of a run with none of these; and those that are of logs alone, `inst_main log
--- hub.log` and `inst_main next --log hub.log --to next.log`, without and with a digest
+-- the words of a run with `--log hub.log`, of a play with `--told 3 --log hub.log`, which must find
+-- a log, of runs with `--resume` or `--digest` beside it, and of a run with none of these; and
+-- those that are of logs alone, `inst_main log hub.log` and `inst_main next --log hub.log --to
+-- next.log`, without and with a digest
 pub record KeptHub : Type 0 where
   pub whole : AreWhole (small_hub ++ codes "--log" ∷ codes "hub.log" ∷ [])
-  pub all_told : NameTheLog (small_hub ++ codes "--log" ∷ codes "hub.log" ∷ []) (codes "hub.log") None false None
-  pub some_told : NameTheLog (small_script ++ codes "--told" ∷ codes "3" ∷ codes "--log" ∷ codes "hub.log" ∷ []) (codes "hub.log") (Some 3) true None
-  pub none_told : NameTheLog (small_script ++ codes "--told" ∷ codes "0" ∷ codes "--log" ∷ codes "hub.log" ∷ []) (codes "hub.log") (Some 0) false None
-  pub resumed : NameTheLog (small_hub ++ codes "--resume" ∷ codes "--log" ∷ codes "hub.log" ∷ []) (codes "hub.log") None true None
-  pub known : NameTheLog (small_hub ++ codes "--log" ∷ codes "hub.log" ∷ codes "--digest" ∷ empty_digest ∷ []) (codes "hub.log") None true (Some empty_digest)
+  pub all_told : NameTheLog (small_hub ++ codes "--log" ∷ codes "hub.log"
+      ∷ []) (codes "hub.log") None false None
+  pub some_told : NameTheLog (small_script ++ codes "--told" ∷ codes "3" ∷ codes "--log"
+      ∷ codes "hub.log" ∷ []) (codes "hub.log") (Some 3) true None
+  pub none_told : NameTheLog (small_script ++ codes "--told" ∷ codes "0" ∷ codes "--log"
+      ∷ codes "hub.log" ∷ []) (codes "hub.log") (Some 0) false None
+  pub resumed : NameTheLog (small_hub ++ codes "--resume" ∷ codes "--log" ∷ codes "hub.log"
+      ∷ []) (codes "hub.log") None true None
+  pub known : NameTheLog (small_hub ++ codes "--log" ∷ codes "hub.log" ∷ codes "--digest"
+      ∷ empty_digest ∷ []) (codes "hub.log") None true (Some empty_digest)
   pub none : NameNoLog small_hub
-  pub shown : AskForTheLog (codes "inst_main" ∷ codes "log" ∷ codes "hub.log" ∷ []) (codes "hub.log")
-  pub carried : AskForTheNext (codes "inst_main" ∷ codes "next" ∷ codes "--log" ∷ codes "hub.log" ∷ codes "--to" ∷ codes "next.log" ∷ []) (codes "hub.log") (codes "next.log") None
-  pub known_carried : AskForTheNext (codes "inst_main" ∷ codes "next" ∷ codes "--log" ∷ codes "hub.log" ∷ codes "--to" ∷ codes "next.log" ∷ codes "--digest" ∷ empty_digest ∷ []) (codes "hub.log") (codes "next.log") (Some empty_digest)
+  pub shown : AskForTheLog (codes "inst_main" ∷ codes "log" ∷ codes "hub.log"
+      ∷ []) (codes "hub.log")
+  pub carried : AskForTheNext (codes "inst_main" ∷ codes "next" ∷ codes "--log" ∷ codes "hub.log"
+      ∷ codes "--to" ∷ codes "next.log" ∷ []) (codes "hub.log") (codes "next.log") None
+  pub known_carried : AskForTheNext (codes "inst_main" ∷ codes "next" ∷ codes "--log"
+      ∷ codes "hub.log" ∷ codes "--to" ∷ codes "next.log" ∷ codes "--digest" ∷ empty_digest
+      ∷ []) (codes "hub.log") (codes "next.log") (Some empty_digest)
 
--- words that are no whole command line: `inst_main run`, `inst_main play`, `inst_main drill`, `inst_main`,
--- `inst_main --help` and `inst_main --version`
+-- words that are no whole command line: `inst_main run`, `inst_main play`, `inst_main drill`,
+-- `inst_main`, `inst_main --help` and `inst_main --version`
 pub record NoHub : Type 0 where
   pub participants : faults_of (codes "inst_main" ∷ codes "run" ∷ []) ≡ MissingRequiredArgument ∷ []
   pub script : faults_of (codes "inst_main" ∷ codes "play" ∷ []) ≡ MissingRequiredArgument ∷ []

@@ -73,7 +73,8 @@ impl AnyFault {
     }
 }
 
-/// The fault that this word names, by its number in digits, which may follow a plus, or by its name.
+/// The fault that this word names, by its number in digits, which may follow a plus, or by its
+/// name.
 ///
 /// ```text
 /// fault_of("13")       // Some(AnyFault::Hub(Fault::Shortage))

@@ -2,7 +2,8 @@
 ghost use Rattle.std.specs.Prelude.{◌≡◌, IfSome, MatchOption, Some, None, codes, false, map};
 ghost use Rattle.clap.specs.Words.{first_of, found_of, rows_of};
 ghost use Rattle.inst_options.specs.Options.{NamesNoLog, is_digest};
-ghost use Rattle.inst_options.specs.BadOptions.{AreInside, IsBadOption, IsInside, IsOutside, ranges};
+ghost use Rattle.inst_options.specs.BadOptions.{AreInside, IsBadOption, IsInside, IsOutside};
+ghost use Rattle.inst_options.specs.BadOptions.{ranges};
 ghost use Rattle.inst_options.specs.inner.BadOptions.{range_of};
 
 use crate::digest::is_digest;
@@ -81,14 +82,16 @@ const BOUNDS: &'static [Bound] = &[
     },
 ];
 
-/// The table of ranges. What goes over it calls this, so that the constant is in no proof about options.
+/// The table of ranges. What goes over it calls this, so that the constant is in no proof about
+/// options.
 fn bounds() -> &'static [Bound]
     ensures { map range_of result.now ≡ ranges }
 {
     BOUNDS
 }
 
-/// Returns an option that the settings were refused for. If no number is out of its range, it is the participants.
+/// Returns an option that the settings were refused for. If no number is out of its range, it is
+/// the participants.
 pub(crate) fn bad_option<'a>(options: &ArgMatches<'a>) -> Option<BadOption<'a>>
     ensures { IfSome result (IsBadOption (rows_of (found_of options.now))) }
 {
@@ -126,9 +129,11 @@ fn number_out_of_range<'a>(options: &ArgMatches<'a>) -> Option<BadOption<'a>>
 
 /// Returns the value of an option whose number is out of this range.
 fn outside<'a>(options: &ArgMatches<'a>, bound: &Bound) -> Option<&'a str>
-    ensures outside { MatchOption result (IsInside (rows_of (found_of options.now)) (range_of bound.now))
+    ensures outside { MatchOption result
+        (IsInside (rows_of (found_of options.now)) (range_of bound.now))
         (λ _. IsOutside (rows_of (found_of options.now)) (range_of bound.now)) }
-    ensures value { IfSome result (λ value. first_of bound.now.name.now (rows_of (found_of options.now)) ≡ Some value.now) }
+    ensures value { IfSome result (λ value.
+        first_of bound.now.name.now (rows_of (found_of options.now)) ≡ Some value.now) }
 {
     let Ok(number) = whole(options, bound.name) else {
         return None;
@@ -190,7 +195,8 @@ fn bad_log_option<'a>(options: &ArgMatches<'a>) -> Option<BadOption<'a>>
 
 /// Returns the text that is given as a digest, if it is none.
 fn malformed_digest<'a>(options: &ArgMatches<'a>) -> Option<&'a str>
-    ensures value { IfSome result (λ value. first_of (codes "digest") (rows_of (found_of options.now)) ≡ Some value.now) }
+    ensures value { IfSome result (λ value.
+        first_of (codes "digest") (rows_of (found_of options.now)) ≡ Some value.now) }
     ensures none { IfSome result (λ value. is_digest value.now ≡ false) }
 {
     let value = text(options, "digest").ok()?;
@@ -199,7 +205,8 @@ fn malformed_digest<'a>(options: &ArgMatches<'a>) -> Option<&'a str>
 
 /// Returns the value of this option, if no log is named.
 fn given_without_log<'a>(options: &ArgMatches<'a>, name: &str) -> Option<&'a str>
-    ensures value { IfSome result (λ value. first_of name.now (rows_of (found_of options.now)) ≡ Some value.now) }
+    ensures value { IfSome result (λ value.
+        first_of name.now (rows_of (found_of options.now)) ≡ Some value.now) }
     ensures no_log { IfSome result (λ _. NamesNoLog (rows_of (found_of options.now))) }
 {
     match text(options, "log") {

@@ -5,12 +5,13 @@ ghost use Rattle.inst_options.specs.CommandLine.{command_line as the_command_lin
 ghost use Rattle.inst_options.specs.inner.CommandLine.{IsLocal};
 ghost use Rattle.inst_options.specs.inner.Table.{app_of_row, rule_of_choice};
 
-use crate::table::{Choice, Kind, Subcommand, subcommands};
+use crate::table::{Kind, OptionRow, Subcommand, subcommands};
 use crate::texts;
 use clap::{Arg, Command};
 use std::alloc::{AllocError, Global};
 
-/// What `--version` says: the first number changes where lines, replies, faults, options or exit statuses do.
+/// What `--version` says: the first number changes where lines, replies, faults, options or exit
+/// statuses do.
 const VERSION: &str = "1.1.0";
 
 /// The command line of the program.
@@ -55,7 +56,7 @@ fn subcommand<'a>(alloc: Global, row: &Subcommand) -> Result<Command<'a>, AllocE
 }
 
 /// The argument of a row.
-fn argument<'a>(alloc: Global, choice: &Choice) -> Arg<'a>
+fn argument<'a>(alloc: Global, choice: &OptionRow) -> Arg<'a>
     ensures rule { rule_of result ≡ rule_of_choice choice.now }
     ensures local { result.global ≡ false }
 {

@@ -6,8 +6,8 @@ ghost use Rattle.inst_options.specs.LogFault.{number_of, name_of, status_of_log}
 pub enum LogFault {
     /// The disk failed or has no room, or the file can't be opened.
     DiskFault,
-    /// The log begins with other settings than the options give, or with books in another form, or fewer lines of them
-    /// than it says.
+    /// The log begins with other settings than the options give, or with books in another form, or
+    /// fewer lines of them than it says.
     OtherSettings,
     /// The file is no log, or there is none where one must be.
     NoLog,
@@ -53,8 +53,8 @@ impl LogFault {
         }
     }
 
-    /// Returns the exit status: 3 if the disk failed or the log changed during a run, or else 2, since the log was
-    /// refused.
+    /// Returns the exit status: 3 if the disk failed or the log changed during a run, or else 2,
+    /// since the log was refused.
     pub fn status(self) -> u8
         ensures { result ≡ status_of_log self }
     {

@@ -1,5 +1,6 @@
 //! What the options of a subcommand ask for.
-ghost use Rattle.std.specs.Prelude.{◌≡◌, ◌^◌, ◌⊎◌, ◌↔◌, IfOk, IfErr, OnErr, IsOkUnless, Some, None, true};
+ghost use Rattle.std.specs.Prelude.{◌≡◌, ◌^◌, ◌⊎◌, ◌↔◌, IfOk, IfErr, OnErr, IsOkUnless, Some, None};
+ghost use Rattle.std.specs.Prelude.{true};
 ghost use Rattle.std.specs.Prelude.{codes, option_map};
 ghost use Rattle.clap.specs.Words.{first_of, found_of, rows_of};
 ghost use Rattle.inst_options.specs.Options.{AreOfNoLog, GivesNoDigest, HasAHub, IsText};
@@ -11,41 +12,46 @@ ghost use Rattle.inst_options.specs.Asking.{IsRefusal};
 ghost use Rattle.inst_settings.specs.Lawful.{IsSettings};
 
 use crate::digest::is_digest;
-use crate::wish::{LogOptions, Wish};
+use crate::invocation::{Invocation, LogOptions};
 use clap::ArgMatches;
 use inst_base::Fault;
-use inst_settings::{Numbers, Settings, parse_codes};
+use inst_settings::{HubParameters, Settings, parse_codes};
 use std::alloc::Global;
 
-/// What the subcommand of this name and its options ask for. `BadSettings` as from `hub_wish`, and for a digest of
-/// another form.
+/// What the subcommand of this name and its options ask for. `BadSettings` as from `hub_wish`, and
+/// for a digest of another form.
 pub(crate) fn wish<'a>(
     alloc: Global,
     name: &str,
     options: &ArgMatches<'a>,
-) -> Result<Wish<'a>, Fault>
+) -> Result<Invocation<'a>, Fault>
     ensures wish { IfOk result (IsWish name.now (rows_of (found_of options.now))) }
     ensures fault { IfErr result (IsRefusal (AskForNone name.now (rows_of (found_of options.now))
         ⊎ AreOfNoLog (rows_of (found_of options.now)))) }
 {
     if name == "log" {
-        return Ok(Wish::Log(text_if_any(options, "file")));
+        return Ok(Invocation::Log(text_if_any(options, "file")));
     }
     if name == "next" {
         let digest = digest(options)?;
         let from = text_if_any(options, "log");
-        return Ok(Wish::Next(from, text_if_any(options, "to"), digest));
+        return Ok(Invocation::Next(from, text_if_any(options, "to"), digest));
     }
     if name == "explain" {
-        return Ok(Wish::Explain(text_if_any(options, "fault")));
+        return Ok(Invocation::Explain(text_if_any(options, "fault")));
     }
     hub_wish(alloc, name, options)
 }
 
-/// What the subcommand of this name, if it is one with a hub, and its options ask for. The one that is none of `play`,
-/// `drill` and `check` is `run`. `BadSettings` where a number of a drill is too large for any hub, as from
-/// `log_options`, and then as from `settings`, which come last: nothing fails that would let them go.
-fn hub_wish<'a>(alloc: Global, name: &str, options: &ArgMatches<'a>) -> Result<Wish<'a>, Fault>
+/// What the subcommand of this name, if it is one with a hub, and its options ask for. The one that
+/// is none of `play`, `drill` and `check` is `run`. `BadSettings` where a number of a drill is too
+/// large for any hub, as from `log_options`, and then as from `settings`, which come last: nothing
+/// fails that would let them go.
+fn hub_wish<'a>(
+    alloc: Global,
+    name: &str,
+    options: &ArgMatches<'a>,
+) -> Result<Invocation<'a>, Fault>
     requires hub { HasAHub name.now }
     ensures wish { IfOk result (IsWish name.now (rows_of (found_of options.now))) }
     ensures fault { IfErr result (IsRefusal (AskForNone name.now (rows_of (found_of options.now))
@@ -55,18 +61,18 @@ fn hub_wish<'a>(alloc: Global, name: &str, options: &ArgMatches<'a>) -> Result<W
         let (transfers, openings) = drill_options(options)?;
         let script = text_given(options, "script");
         let settings = settings(alloc, options)?;
-        return Ok(Wish::Drill(settings, transfers, openings, script));
+        return Ok(Invocation::Drill(settings, transfers, openings, script));
     }
     if name == "check" {
-        return Ok(Wish::Check(settings(alloc, options)?));
+        return Ok(Invocation::Check(settings(alloc, options)?));
     }
     let log = log_options(options)?;
     let sums = flag(options, "summary");
     let settings = settings(alloc, options)?;
     if name == "play" {
-        return Ok(Wish::Play(settings, log, sums));
+        return Ok(Invocation::Play(settings, log, sums));
     }
-    Ok(Wish::Run(settings, log, sums))
+    Ok(Invocation::Run(settings, log, sums))
 }
 
 /// Whether an option that has no value is there.
@@ -115,7 +121,8 @@ fn is_given(options: &ArgMatches<'_>, name: &str) -> bool
     options.get_str(name).is_some()
 }
 
-/// Returns `true` if a log must be there already: it is asked for, or a digest is given, or replies are there.
+/// Returns `true` if a log must be there already: it is asked for, or a digest is given, or replies
+/// are there.
 fn must_resume(asked: bool, told: Option<u64>, digest: Option<&str>) -> bool
     ensures { result ≡ must_resume asked told (option_map (λ d. d.now) digest.entry) }
 {
@@ -128,7 +135,8 @@ fn must_resume(asked: bool, told: Option<u64>, digest: Option<&str>) -> bool
 ///
 /// `BadSettings` if it has another form.
 fn digest<'a>(options: &ArgMatches<'a>) -> Result<Option<&'a str>, Fault>
-    ensures digest { IfOk result (λ r. GivesDigest (rows_of (found_of options.now)) (option_map (λ d. d.now) r)) }
+    ensures digest { IfOk result (λ r.
+        GivesDigest (rows_of (found_of options.now)) (option_map (λ d. d.now) r)) }
     ensures none { OnErr result (GivesNoDigest (rows_of (found_of options.now))) }
     ensures fault { IsOkUnless result Fault.BadSettings }
 {
@@ -142,7 +150,8 @@ fn digest<'a>(options: &ArgMatches<'a>) -> Result<Option<&'a str>, Fault>
 /// How many transfers and openings a drill has, as the options say.
 fn drill_options(options: &ArgMatches<'_>) -> Result<(u16, u8), Fault>
     ensures drill { IfOk result (λ r. IsDrill (rows_of (found_of options.now)) r.0 r.1) }
-    ensures none { OnErr result (GivesNoneBelow (2 ^ 16) (rows_of (found_of options.now)) (codes "transfers")
+    ensures none { OnErr result
+        (GivesNoneBelow (2 ^ 16) (rows_of (found_of options.now)) (codes "transfers")
         ⊎ GivesNoneBelow (2 ^ 8) (rows_of (found_of options.now)) (codes "openings")) }
     ensures fault { IsOkUnless result Fault.BadSettings }
 {
@@ -166,7 +175,7 @@ fn settings(alloc: Global, options: &ArgMatches<'_>) -> Result<Settings, Fault>
     let ahead = medium(options, "ahead")?;
     let ceiling = whole(options, "ceiling")?;
     let base = whole(options, "base")?;
-    let numbers = Numbers {
+    let numbers = HubParameters {
         places,
         fundings,
         limit,
@@ -181,7 +190,8 @@ fn settings(alloc: Global, options: &ArgMatches<'_>) -> Result<Settings, Fault>
 
 /// The text of an option.
 pub(crate) fn text<'a>(options: &ArgMatches<'a>, name: &str) -> Result<&'a str, Fault>
-    ensures text { IfOk result (λ text. first_of name.now (rows_of (found_of options.now)) ≡ Some text.now) }
+    ensures text { IfOk result (λ text.
+        first_of name.now (rows_of (found_of options.now)) ≡ Some text.now) }
     ensures none { OnErr result (first_of name.now (rows_of (found_of options.now)) ≡ None) }
     ensures fault { IsOkUnless result Fault.BadSettings }
 {
@@ -190,7 +200,8 @@ pub(crate) fn text<'a>(options: &ArgMatches<'a>, name: &str) -> Result<&'a str, 
 
 /// The text of an option, if it has one.
 fn text_given<'a>(options: &ArgMatches<'a>, name: &str) -> Option<&'a str>
-    ensures { option_map (λ text. text.now) result ≡ first_of name.now (rows_of (found_of options.now)) }
+    ensures { option_map (λ text. text.now) result
+        ≡ first_of name.now (rows_of (found_of options.now)) }
 {
     options.get_str(name)
 }

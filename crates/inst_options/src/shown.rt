@@ -9,8 +9,8 @@ const MOST_SHOWN: usize = 200;
 
 /// Returns the first 200 bytes of a text, followed by `..` if it has more.
 ///
-/// A backslash, and each byte that isn't printable ASCII, is escaped as `\x1b`, say, so the excerpt can be written to a
-/// terminal or to a log of lines.
+/// A backslash, and each byte that isn't printable ASCII, is escaped as `\x1b`, say, so the excerpt
+/// can be written to a terminal or to a log of lines.
 ///
 /// ```text
 /// excerpt(alloc, b"hub\x1b[2J") // hub\x1b[2J, with no control character

@@ -19,8 +19,8 @@ pub(crate) struct Subcommand {
     pub(crate) groups: &'static [Group],
 }
 
-/// Options that stand together in each subcommand that has them. A row names its groups and doesn't hold their lists:
-/// one constant with all lists in all rows is too large to be checked.
+/// Options that stand together in each subcommand that has them. A row names its groups and doesn't
+/// hold their lists: one constant with all lists in all rows is too large to be checked.
 #[derive(Clone, Copy)]
 pub(crate) enum Group {
     /// The settings of a hub.
@@ -39,7 +39,7 @@ pub(crate) enum Group {
 
 impl Group {
     /// Its options.
-    pub(crate) fn choices(self) -> &'static [Choice]
+    pub(crate) fn choices(self) -> &'static [OptionRow]
         ensures { map rule_of_choice result.now ≡ rules_of self }
     {
         match self {
@@ -54,7 +54,7 @@ impl Group {
 }
 
 /// An option of a subcommand, or a word that it takes.
-pub(crate) struct Choice {
+pub(crate) struct OptionRow {
     /// The name by which its value is read, and an option is given, as `--limit`.
     pub(crate) name: &'static str,
     pub(crate) kind: Kind,
@@ -93,7 +93,8 @@ impl Kind {
     }
 }
 
-/// The table of all subcommands. What goes over it calls this, so that the constant stands in no proof about commands.
+/// The table of all subcommands. What goes over it calls this, so that the constant stands in no
+/// proof about commands.
 pub(crate) fn subcommands() -> &'static [Subcommand]
     ensures { with_rows bare_command_line result.now ≡ command_line }
 {
@@ -111,7 +112,8 @@ const SUBCOMMANDS: &'static [Subcommand] = &[
     },
     Subcommand {
         name: "play",
-        about: "The same for a script of steps: each line is one step, and nothing happens by itself",
+        about: "The same for a script of steps: each line is one step, and nothing happens by \
+            itself",
         long_about: texts::PLAY,
         after_help: Some(texts::MOMENTS),
         groups: &[Group::Hub, Group::Run],
@@ -125,7 +127,8 @@ const SUBCOMMANDS: &'static [Subcommand] = &[
     },
     Subcommand {
         name: "drill",
-        about: "Drills a hub by threads that race at a deadline, and tells by four lines how each opening ended",
+        about: "Drills a hub by threads that race at a deadline, and tells by four lines how each \
+            opening ended",
         long_about: texts::DRILL,
         after_help: Some(texts::MOMENTS),
         groups: &[Group::Hub, Group::Drill],
@@ -153,9 +156,10 @@ const SUBCOMMANDS: &'static [Subcommand] = &[
     },
 ];
 
-/// The settings of a hub: its participants, for what each has room, its times, its largest amount, its first moment.
-const HUB: &'static [Choice] = &[
-    Choice {
+/// The settings of a hub: its participants, for what each has room, its times, its largest amount,
+/// its first moment.
+const HUB: &'static [OptionRow] = &[
+    OptionRow {
         name: "participants",
         kind: Kind::Text,
         required: true,
@@ -163,7 +167,7 @@ const HUB: &'static [Choice] = &[
         defaults: &[],
         help: texts::PARTICIPANTS,
     },
-    Choice {
+    OptionRow {
         name: "places",
         kind: Kind::Number,
         required: false,
@@ -171,7 +175,7 @@ const HUB: &'static [Choice] = &[
         defaults: &["256"],
         help: "Submissions of each originator that have places, 1 to 1024",
     },
-    Choice {
+    OptionRow {
         name: "fundings",
         kind: Kind::Number,
         required: false,
@@ -179,7 +183,7 @@ const HUB: &'static [Choice] = &[
         defaults: &["256"],
         help: "Fund and defund commands of each participant, 1 to 1024",
     },
-    Choice {
+    OptionRow {
         name: "limit",
         kind: Kind::Number,
         required: false,
@@ -187,7 +191,7 @@ const HUB: &'static [Choice] = &[
         defaults: &["10000"],
         help: "From time stamp to deadline, in milliseconds, 1 to 3600000",
     },
-    Choice {
+    OptionRow {
         name: "margin",
         kind: Kind::Number,
         required: false,
@@ -195,7 +199,7 @@ const HUB: &'static [Choice] = &[
         defaults: &["0"],
         help: "From the last acceptance to the deadline, in milliseconds, 0 to limit - 1",
     },
-    Choice {
+    OptionRow {
         name: "ahead",
         kind: Kind::Number,
         required: false,
@@ -203,7 +207,7 @@ const HUB: &'static [Choice] = &[
         defaults: &["1000"],
         help: "From the reading to a time stamp ahead of it, in milliseconds, 0 to 60000",
     },
-    Choice {
+    OptionRow {
         name: "ceiling",
         kind: Kind::Number,
         required: false,
@@ -211,7 +215,7 @@ const HUB: &'static [Choice] = &[
         defaults: &["99999999999"],
         help: "The largest amount of one command, in cents, 1 to 99999999999",
     },
-    Choice {
+    OptionRow {
         name: "base",
         kind: Kind::Number,
         required: false,
@@ -222,24 +226,26 @@ const HUB: &'static [Choice] = &[
 ];
 
 /// What else a run has: its log, and a summary.
-const RUN: &'static [Choice] = &[
-    Choice {
+const RUN: &'static [OptionRow] = &[
+    OptionRow {
         name: "log",
         kind: Kind::Text,
         required: false,
         value_names: &["FILE"],
         defaults: &[],
-        help: "Keeps each line in this file before its reply is written, and goes on behind the lines that it has",
+        help: "Keeps each line in this file before its reply is written, and goes on behind the \
+            lines that it has",
     },
-    Choice {
+    OptionRow {
         name: "told",
         kind: Kind::Number,
         required: false,
         value_names: &["COUNT"],
         defaults: &[],
-        help: "How many replies of the log's lines are there already, if not all; the others are written first",
+        help: "How many replies of the log's lines are there already, if not all; the others are \
+            written first",
     },
-    Choice {
+    OptionRow {
         name: "resume",
         kind: Kind::Flag,
         required: false,
@@ -247,7 +253,7 @@ const RUN: &'static [Choice] = &[
         defaults: &[],
         help: "Refuses to make a new log; --digest and a --told above 0 imply it",
     },
-    Choice {
+    OptionRow {
         name: "digest",
         kind: Kind::Text,
         required: false,
@@ -255,19 +261,20 @@ const RUN: &'static [Choice] = &[
         defaults: &[],
         help: "A digest that the log must contain, 64 hexadecimal digits in lower case",
     },
-    Choice {
+    OptionRow {
         name: "summary",
         kind: Kind::Flag,
         required: false,
         value_names: &[],
         defaults: &[],
-        help: "Tells on standard error, at the end, how many lines there were, and each participant's money",
+        help: "Tells on standard error, at the end, how many lines there were, and each \
+            participant's money",
     },
 ];
 
 /// What else a drill has.
-const DRILL: &'static [Choice] = &[
-    Choice {
+const DRILL: &'static [OptionRow] = &[
+    OptionRow {
         name: "transfers",
         kind: Kind::Number,
         required: false,
@@ -275,7 +282,7 @@ const DRILL: &'static [Choice] = &[
         defaults: &["200"],
         help: "Transfers in each opening, 1 to 1024 and at most the places",
     },
-    Choice {
+    OptionRow {
         name: "openings",
         kind: Kind::Number,
         required: false,
@@ -283,18 +290,19 @@ const DRILL: &'static [Choice] = &[
         defaults: &["1"],
         help: "Openings, each from the books of the one before, 1 to 10",
     },
-    Choice {
+    OptionRow {
         name: "script",
         kind: Kind::Text,
         required: false,
         value_names: &["FILE"],
         defaults: &[],
-        help: "Writes lines for play to this new or empty file, which leave the books of the first opening",
+        help: "Writes lines for play to this new or empty file, which leave the books of the \
+            first opening",
     },
 ];
 
 /// What the subcommand `log` reads.
-const LOG: &'static [Choice] = &[Choice {
+const LOG: &'static [OptionRow] = &[OptionRow {
     name: "file",
     kind: Kind::Word,
     required: true,
@@ -304,8 +312,8 @@ const LOG: &'static [Choice] = &[Choice {
 }];
 
 /// The two files of the subcommand `next`.
-const NEXT: &'static [Choice] = &[
-    Choice {
+const NEXT: &'static [OptionRow] = &[
+    OptionRow {
         name: "log",
         kind: Kind::Text,
         required: true,
@@ -313,7 +321,7 @@ const NEXT: &'static [Choice] = &[
         defaults: &[],
         help: "The log of the hub that is closed; it is left as it is",
     },
-    Choice {
+    OptionRow {
         name: "to",
         kind: Kind::Text,
         required: true,
@@ -321,7 +329,7 @@ const NEXT: &'static [Choice] = &[
         defaults: &[],
         help: "The log that begins with its books; the file is made",
     },
-    Choice {
+    OptionRow {
         name: "digest",
         kind: Kind::Text,
         required: false,
@@ -332,7 +340,7 @@ const NEXT: &'static [Choice] = &[
 ];
 
 /// What the subcommand `explain` explains.
-const EXPLAIN: &'static [Choice] = &[Choice {
+const EXPLAIN: &'static [OptionRow] = &[OptionRow {
     name: "fault",
     kind: Kind::Word,
     required: true,

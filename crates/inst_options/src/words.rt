@@ -7,18 +7,19 @@ ghost use Rattle.inst_options.specs.inner.Asking.{IsAsked, IsOfKind, IsRefusedBy
 use crate::bad_option::bad_option;
 use crate::command_line::command_line;
 use crate::error::WordsError;
+use crate::invocation::Invocation;
 use crate::options::wish;
-use crate::wish::Wish;
 use clap::error::ErrorKind;
 use clap::{ArgMatches, Error};
 use inst_base::Fault;
 use std::alloc::Global;
 
-/// What the words ask for, the program's name first. `WordsError::Words` has the text to show, which says what is wrong
-/// with them, or is the help or the version that they ask for; `WordsError::Option` comes where an option is out of its
-/// range or has a wrong form, and where `--told` stands without `--log`, and `Memory` where there is none. Its time is
-/// in the bytes of the words, and in the square of the number of participants.
-pub fn wished<'a>(alloc: Global, words: &'a [String]) -> Result<Wish<'a>, WordsError<'a>>
+/// What the words ask for, the program's name first. `WordsError::Words` has the text to show,
+/// which says what is wrong with them, or is the help or the version that they ask for;
+/// `WordsError::Option` comes where an option is out of its range or has a wrong form, and where
+/// `--told` stands without `--log`, and `Memory` where there is none. Its time is in the bytes of
+/// the words, and in the square of the number of participants.
+pub fn wished<'a>(alloc: Global, words: &'a [String]) -> Result<Invocation<'a>, WordsError<'a>>
     ensures ok { IfOk result (IsWished (map string_bytes words.now)) }
     ensures err { IfErr result (IsNoWish (map string_bytes words.now)) }
 {
@@ -30,7 +31,7 @@ pub fn wished<'a>(alloc: Global, words: &'a [String]) -> Result<Wish<'a>, WordsE
 }
 
 /// What a subcommand and its options ask for, as they were found.
-fn asked<'a>(alloc: Global, matches: &ArgMatches<'a>) -> Result<Wish<'a>, WordsError<'a>>
+fn asked<'a>(alloc: Global, matches: &ArgMatches<'a>) -> Result<Invocation<'a>, WordsError<'a>>
     ensures wish { IfOk result (IsAsked (subcommand_rows_of matches.now)) }
     ensures none { IfErr result (IsUnasked (subcommand_rows_of matches.now)) }
 {

@@ -1,1 +1,1 @@
-pub mod Explaining
+pub mod StepsExplainJournals

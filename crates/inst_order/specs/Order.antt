@@ -1,8 +1,9 @@
--- Steps that explain closed books: a hub in one thread that runs them from the opening leaves exactly these books. So what
--- each run promises holds for these books, however they were made: one outcome for each transfer, its money settled or
--- released at most once, positions that sum to the net funding and what is untold, and nobody overdrawn after any first
--- part of the steps. The order and the clock readings are one choice that explains the books, not what was observed. This
--- hub's own choice.
+-- Steps that explain closed books: a hub in one thread that runs them from the opening leaves
+-- exactly these books. So what each run promises holds for these books, however they were made: one
+-- outcome for each transfer, its money settled or released at most once, positions that sum to the
+-- net funding and what is untold, and nobody overdrawn after any first part of the steps. The order
+-- and the clock readings are one choice that explains the books, not what was observed. This hub's
+-- own choice.
 use Rattle.std.specs.Prelude.{◌≡◌, ℕ, List, reverse, length}
 use Rattle.inst_settings.specs.Settings.{HubSettings, participants}
 use Rattle.inst_command.specs.declared.step.Step.{Step}
@@ -13,12 +14,13 @@ use Rattle.inst_model.specs.Trace.{trace}
 use Rattle.inst_world.specs.Headline.{run_of, KeepsTheHeadline}
 use Rattle.inst_world.specs.NextOpening.{books_of}
 
--- the headline is kept by a run of these steps from this opening whose journals are the books; by `is_run` each step fits,
--- and the books are the model's histories, event by event
+-- the headline is kept by a run of these steps from this opening whose journals are the books; by
+-- `is_run` each step fits, and the books are the model's histories, event by event
 abbrev pub Explains : HubSettings → Opening → List Step → (ℕ → List Event) → Type 0
 Explains s O steps books = KeepsTheHeadline s (run_of O steps books (trace s O (reverse steps)))
 
 -- the same of journals, one for each participant by number
-pub record ExplainsJournals (s : HubSettings) (O : Opening) (steps : List Step) (journals : List History) : Type 0 where
+pub record ExplainsJournals (s : HubSettings) (O : Opening) (steps : List Step)
+    (journals : List History) : Type 0 where
   pub one_each : length journals ≡ participants s
   pub headline : Explains s O steps (books_of journals)

@@ -7,14 +7,14 @@ pub(crate) fn ask_at(who: u8, command: Command, at: Moment) -> Step {
     Step::Ask(Ask { who, command, at })
 }
 
-/// Returns the step in which it asks this at the first moment. No deadline is reached then, so an answer is in time, with
-/// the margin to spare.
+/// Returns the step in which it asks this at the first moment. No deadline is reached then, so an
+/// answer is in time, with the margin to spare.
 pub(crate) fn ask_first(who: u8, command: Command) -> Step {
     ask_at(who, command, Moment::new(0, 0).unwrap())
 }
 
-/// Returns the step in which it asks this at the last moment. Each deadline has passed then, so a pending transfer times
-/// out.
+/// Returns the step in which it asks this at the last moment. Each deadline has passed then, so a
+/// pending transfer times out.
 pub(crate) fn ask_last(who: u8, command: Command) -> Step {
     ask_at(who, command, Moment::new(0, (1 << 41) - 1).unwrap())
 }
@@ -25,8 +25,8 @@ pub(crate) fn submit(who: u8, submission: Submission) -> Step {
     ask_at(who, Command::Submit(submission), at)
 }
 
-/// Returns the step in which the beneficiary `who` books this outcome. A confirmation at the last moment books a time-out,
-/// whether or not the transfer has timed out before.
+/// Returns the step in which the beneficiary `who` books this outcome. A confirmation at the last
+/// moment books a time-out, whether or not the transfer has timed out before.
 pub(crate) fn answer(who: u8, from: u8, id: Ident, outcome: Outcome) -> Step {
     match outcome {
         Outcome::Accepted => ask_first(who, Command::Confirm { from, id }),

@@ -1,4 +1,5 @@
-//! Rebuilds, from closed books, one order of events that explains them: steps of a hub in one thread that leave these books.
+//! Rebuilds, from closed books, one order of events that explains them: steps of a hub in one
+//! thread that leave these books.
 #![tactic(auto)]
 
 mod asking;

@@ -1,9 +1,10 @@
 //! Puts the events of all journals in one order, and finds the step that keeps each.
 //!
-//! Two kinds of event wait for one in another journal. A transfer is delivered after it was taken. Its originator books an
-//! acceptance or a rejection after its beneficiary, and a time-out after the delivery, if there is one. Each participant's
-//! events are visited in order up to the first that waits, and from there on once the event that it waits for has its
-//! step. So each event is visited a few times, with one look at a table each time.
+//! Two kinds of event wait for one in another journal. A transfer is delivered after it was taken.
+//! Its originator books an acceptance or a rejection after its beneficiary, and a time-out after
+//! the delivery, if there is one. Each participant's events are visited in order up to the first
+//! that waits, and from there on once the event that it waits for has its step. So each event is
+//! visited a few times, with one look at a table each time.
 //!
 //! No contract rests on the steps: they are run, and the journals of that run are compared.
 ghost use Rattle.std.specs.Prelude.{◌≤◌, length};
@@ -18,7 +19,8 @@ use inst_settings::MOST_PARTICIPANTS;
 use std::alloc::{AllocError, Global};
 use std::collections::HashMap;
 
-/// Returns how many events precede the current opening: those up to the last `Opened`, or none at a first opening.
+/// Returns how many events precede the current opening: those up to the last `Opened`, or none at a
+/// first opening.
 fn carried_count(events: &[Event]) -> usize
     ensures { result ≤ length events.now }
 {
@@ -57,8 +59,8 @@ impl Merge {
         }
     }
 
-    /// Adds the journal of the participant `who`, and returns its events that are to have steps: those of the current
-    /// opening.
+    /// Adds the journal of the participant `who`, and returns its events that are to have steps:
+    /// those of the current opening.
     fn add<'a>(&mut self, who: u8, events: &'a [Event]) -> Result<&'a [Event], AllocError> {
         let (carried, current) = events.split_at(carried_count(events));
         self.note_settled(who, carried)?;
@@ -101,7 +103,8 @@ impl Merge {
         Ok(())
     }
 
-    /// Finds the steps of the participant's next events, up to one that waits, and returns those that are left.
+    /// Finds the steps of the participant's next events, up to one that waits, and returns those
+    /// that are left.
     fn advance<'a>(&mut self, who: u8, events: &'a [Event]) -> Result<&'a [Event], AllocError> {
         mention::<(Ask, Command)>();
         for (index, event) in events.iter().enumerate() {
@@ -129,12 +132,8 @@ impl Merge {
     /// Returns the step that keeps this event, or `None` if the event waits for another.
     fn step_of(&mut self, who: u8, event: &Event) -> Result<Option<Step>, AllocError> {
         Ok(match *event {
-            Event::Funded { reference, cents } => {
-                Some(ask_first(who, Command::Fund { reference, cents }))
-            }
-            Event::Defunded { reference, cents } => {
-                Some(ask_first(who, Command::Defund { reference, cents }))
-            }
+            Event::Funded(funding) => Some(ask_first(who, Command::Fund(funding))),
+            Event::Defunded(funding) => Some(ask_first(who, Command::Defund(funding))),
             Event::Taken {
                 id,
                 to,
@@ -172,7 +171,8 @@ impl Merge {
         self.wake(waiting)
     }
 
-    /// Returns the step that delivers the transfer to its beneficiary, or `None` if it wasn't taken yet.
+    /// Returns the step that delivers the transfer to its beneficiary, or `None` if it wasn't taken
+    /// yet.
     fn deliver(&mut self, from: u8, id: Ident, to: u8) -> Result<Option<Step>, AllocError> {
         let progress = self.progress(from, id)?;
         let Some(index) = progress.place else {
@@ -200,8 +200,8 @@ impl Merge {
         Ok(Some(answer(who, from, id, outcome)))
     }
 
-    /// Returns the step in which the originator books the outcome, or `None` if it may not yet. An investigation at the
-    /// last moment books the outcome that there is, or else a time-out.
+    /// Returns the step in which the originator books the outcome, or `None` if it may not yet. An
+    /// investigation at the last moment books the outcome that there is, or else a time-out.
     fn investigate(
         &mut self,
         who: u8,
@@ -217,8 +217,8 @@ impl Merge {
     }
 }
 
-/// Returns a step for each event of the current opening, in an order in which no event precedes one that it waits for, or
-/// `None` if there is no such order. It visits each event a few times.
+/// Returns a step for each event of the current opening, in an order in which no event precedes one
+/// that it waits for, or `None` if there is no such order. It visits each event a few times.
 pub(crate) fn find_steps(
     alloc: Global,
     journals: &[Journal],

@@ -27,8 +27,10 @@ fn fitting_steps(
     settings: &Settings,
     journals: &[Journal],
 ) -> Result<Option<Vec<Step>>, AllocError>
-    ensures one_each { IfOk result (λ found. OnSome found (length journals.now ≡ participants settings.now)) }
-    ensures fit { IfOk result (λ found. IfSome found (λ steps. IsInterleaving settings.now steps.items)) }
+    ensures one_each { IfOk result (λ found.
+        OnSome found (length journals.now ≡ participants settings.now)) }
+    ensures fit { IfOk result (λ found.
+        IfSome found (λ steps. IsInterleaving settings.now steps.items)) }
 {
     if journals.len() != usize::from(settings.participants()) {
         return Ok(None);
@@ -50,7 +52,8 @@ fn are_equal(one: &Journal, other: &Journal) -> bool
 /// Returns `true` if these are the journals of the hub, by participant.
 fn has_journals(world: &World, journals: &[Journal]) -> bool
     requires { length journals.now ≡ participants world.now.board.settings }
-    ensures { IsTrue result ↔ AreJournalsOf world.now.board.settings (journal_of world.now) journals.now }
+    ensures { IsTrue result ↔
+        AreJournalsOf world.now.board.settings (journal_of world.now) journals.now }
 {
     for who in 0..world.settings().participants() {
         if !are_equal(world.journal(who as u8), &journals[usize::from(who)]) {
@@ -60,12 +63,13 @@ fn has_journals(world: &World, journals: &[Journal]) -> bool
     true
 }
 
-/// Returns steps of a hub in one thread that leave exactly these journals after a first opening, if it finds some. There is
-/// one journal for each participant, by number. The steps' clock readings are not those of the calls that were made.
+/// Returns steps of a hub in one thread that leave exactly these journals after a first opening, if
+/// it finds some. There is one journal for each participant, by number. The steps' clock readings
+/// are not those of the calls that were made.
 ///
-/// `None` promises nothing. It is the answer for journals that no hub can leave, such as those of participants that pay
-/// each other with money that each has only from the other. Takes time linear in the number of events, and memory for the
-/// steps and the hub that runs them.
+/// `None` promises nothing. It is the answer for journals that no hub can leave, such as those of
+/// participants that pay each other with money that each has only from the other. Takes time linear
+/// in the number of events, and memory for the steps and the hub that runs them.
 ///
 /// # Errors
 ///
@@ -75,7 +79,9 @@ pub fn interleaving(
     settings: &Settings,
     journals: &[Journal],
 ) -> Result<Option<Vec<Step>>, AllocError>
-    ensures headline { IfOk result (λ found. IfSome found (λ steps. ExplainsJournals settings.now Opening.First steps.items journals.now)) }
+    ensures headline { IfOk result (λ found.
+        IfSome found (λ steps.
+        ExplainsJournals settings.now Opening.First steps.items journals.now)) }
 {
     let Some(steps) = fitting_steps(alloc, settings, journals)? else {
         return Ok(None);
@@ -84,8 +90,8 @@ pub fn interleaving(
     Ok(has_journals(&world, journals).then_some(steps))
 }
 
-/// Returns such steps of a hub that opens again from the journals of `opening`. Each journal of `journals` begins with the
-/// participant's journal of `opening`, followed by `Opened`.
+/// Returns such steps of a hub that opens again from the journals of `opening`. Each journal of
+/// `journals` begins with the participant's journal of `opening`, followed by `Opened`.
 ///
 /// # Errors
 ///
@@ -97,7 +103,9 @@ pub fn interleaving_from(
     journals: &[Journal],
 ) -> Result<Option<Vec<Step>>, AllocError>
     requires opening { CanOpenFrom settings.now opening.now }
-    ensures headline { IfOk result (λ found. IfSome found (λ steps. ExplainsJournals settings.now (opening_from opening.now) steps.items journals.now)) }
+    ensures headline { IfOk result (λ found.
+        IfSome found (λ steps.
+        ExplainsJournals settings.now (opening_from opening.now) steps.items journals.now)) }
 {
     let Some(steps) = fitting_steps(alloc, settings, journals)? else {
         return Ok(None);

@@ -11,7 +11,8 @@ pub(crate) struct Progress {
     pub(crate) awaits_delivery: bool,
     /// `true` once its beneficiary has booked its outcome.
     pub(crate) is_answered: bool,
-    /// The participant whose next event waits for this transfer. There is at most one if the books fit.
+    /// The participant whose next event waits for this transfer. There is at most one if the books
+    /// fit.
     pub(crate) waiting: Option<u8>,
 }
 
@@ -25,8 +26,9 @@ impl Progress {
         waiting: None,
     };
 
-    /// Returns `true` if the originator may book this outcome next. Only the beneficiary accepts or rejects a transfer, and
-    /// it books that first. A transfer that has timed out is delivered no more.
+    /// Returns `true` if the originator may book this outcome next. Only the beneficiary accepts or
+    /// rejects a transfer, and it books that first. A transfer that has timed out is delivered no
+    /// more.
     pub(crate) fn may_book(&self, outcome: &Outcome) -> bool {
         match outcome {
             Outcome::Accepted | Outcome::Rejected(_) => self.is_answered,

@@ -1,18 +1,20 @@
--- What a participant's ask is answered in a hub of many threads: what the model replies on its history for what the ask
--- finds, with a ticket for the transfer that the reply tells of. That there are tickets is this hub's own choice.
+-- What a participant's ask is answered in a hub of many threads: what the model replies on its
+-- history for what the ask finds, with a ticket for the transfer that the reply tells of. That
+-- there are tickets is this hub's own choice.
 use Rattle.std.specs.Prelude.{◌≡◌, ◌≢◌, ℕ, true, false, List, ◌++◌, Option, Some, None, Contains}
 use Rattle.inst_base.specs.TimeLimit.{deadline_of}
 use Rattle.inst_settings.specs.Settings.{HubSettings}
 use Rattle.inst_command.specs.declared.ask.Ask.{Ask}
 use Rattle.inst_command.specs.declared.command.Command.{Command}
-use Rattle.inst_command.specs.declared.command.Command.TheVariants.{Submit, Confirm, Reject, Investigate}
+use Rattle.inst_command.specs.declared.command.Command.TheVariants.{Submit, Confirm, Reject}
+use Rattle.inst_command.specs.declared.command.Command.TheVariants.{Investigate}
 use Rattle.inst_command.specs.declared.outcome.Outcome.{Outcome}
 use Rattle.inst_command.specs.declared.outcome.State.{State as StateValue}
 use Rattle.inst_command.specs.declared.outcome.State.TheVariants.{Decided as IsDecided}
 use Rattle.inst_command.specs.declared.reply.Reply.{Reply}
 use Rattle.inst_command.specs.declared.reply.Reply.TheVariants.{Taken as TakenReply, State}
 use Rattle.inst_terms.specs.declared.terms.Terms.{Terms}
-use Rattle.inst_board.specs.declared.place.Place.{Place}
+use Rattle.inst_command.specs.declared.place.Place.{Place}
 use Rattle.inst_board.specs.declared.wish.Wish.{Wish}
 use Rattle.inst_board.specs.declared.wish.Wish.TheVariants.{Accept, Reject as WishReject, Expire}
 use Rattle.inst_board.specs.declared.about.About.TheVariants.{Opened, HasTerms, Due, Decided}
@@ -28,53 +30,65 @@ use Rattle.inst_journal.specs.Reply.{handle, told, kept_events}
 use Rattle.inst_model.specs.Trace.{as_reply}
 use Rattle.inst_slot.specs.Book.{terms_to}
 
--- the command decides a transfer that is due at this deadline, of which the history has nothing booked: it confirms or
--- rejects one that was forwarded, or investigates one that was taken
+-- the command decides a transfer that is due at this deadline, of which the history has nothing
+-- booked: it confirms or rejects one that was forwarded, or investigates one that was taken
 abbrev pub DecidesUntil : HubSettings → ℕ → List Event → Command → Wish → ℕ → Type 0
 DecidesUntil s who J (Confirm from id) wish deadline = (wish ≡ Accept) × (booked from id J ≡ None)
     × ((cents : ℕ) × Contains J (Forwarded from id cents deadline))
-DecidesUntil s who J (Reject from id reason) wish deadline = (wish ≡ WishReject reason) × (booked from id J ≡ None)
+DecidesUntil s who J (Reject from id reason) wish deadline =
+    (wish ≡ WishReject reason) × (booked from id J ≡ None)
     × ((cents : ℕ) × Contains J (Forwarded from id cents deadline))
 DecidesUntil s who J (Investigate id) wish deadline = (wish ≡ Expire) × (booked who id J ≡ None)
-    × ((to : ℕ) × (cents : ℕ) × (stamp : ℕ) × Contains J (Taken id to cents stamp) × (deadline ≡ deadline_of s.limit stamp))
+    × ((to : ℕ) × (cents : ℕ) × (stamp : ℕ) × Contains J (Taken id to cents stamp)
+    × (deadline ≡ deadline_of s.limit stamp))
 DecidesUntil s who J _ wish deadline = ⊥
 
--- On the history J the ask of `who` is answered by this reply, and the history is then K
--- reply_is, kept: it is the model's reply for what the ask finds, and the model's event is kept and nothing else
--- none: it finds nothing only where its wish leaves the transfer pending
--- own: a confirmation or rejection finds an acceptance or rejection only where it wants that at its reading
--- other: an ask that decides no transfer finds nothing
-pub record Answered (s : HubSettings) (who : ℕ) (J : List Event) (ask : Ask) (reply : Reply) (K : List Event) : Type 0 where
+-- On the history J the ask of `who` is answered by this reply, and the history is then K reply_is,
+-- kept: it is the model's reply for what the ask finds, and the model's event is kept and nothing
+-- else none: it finds nothing only where its wish leaves the transfer pending own: a confirmation
+-- or rejection finds an acceptance or rejection only where it wants that at its reading other: an
+-- ask that decides no transfer finds nothing
+pub record Answered (s : HubSettings) (who : ℕ) (J : List Event) (ask : Ask) (reply : Reply)
+    (K : List Event) : Type 0 where
   pub found : Option Outcome
   pub reply_is : reply ≡ as_reply (told (handle s who J ask.command ask.at found))
   pub kept : K ≡ J ++ kept_events (handle s who J ask.command ask.at found)
-  pub none : (wish : Wish) (deadline : ℕ) → DecidesUntil s who J ask.command wish deadline → found ≡ None →
+  pub none : (wish : Wish) (deadline : ℕ) → DecidesUntil s who J ask.command wish deadline →
+      found ≡ None →
       wanted s.margin wish deadline ask.at ≡ None
-  pub own : (wish : Wish) (deadline : ℕ) → DecidesUntil s who J ask.command wish deadline → wish ≢ Expire → (o : Outcome) →
+  pub own : (wish : Wish) (deadline : ℕ) → DecidesUntil s who J ask.command wish deadline →
+      wish ≢ Expire → (o : Outcome) →
       IsAnswer o → found ≡ Some o → wanted s.margin wish deadline ask.at ≡ Some o
-  pub other : ((wish : Wish) (deadline : ℕ) → ¬ DecidesUntil s who J ask.command wish deadline) → found ≡ None
+  pub other : ((wish : Wish) (deadline : ℕ) → ¬ DecidesUntil s who J ask.command wish deadline) →
+      found ≡ None
 
 -- the place is known opened as the command submits it
 abbrev pub IsSubmitted : (Fact → Type 0) → HubSettings → Command → Place → Type 0
-IsSubmitted sees s (Submit x) k = sees (about k Opened) × sees (about k (HasTerms (terms_to x.to x.cents x.id)))
+IsSubmitted sees s (Submit x) k =
+    sees (about k Opened) × sees (about k (HasTerms (terms_to x.to x.cents x.id)))
     × sees (about k (Due (deadline_of s.limit x.stamp)))
 IsSubmitted sees s _ k = ⊥
 
--- the place is known opened with terms of this identifier, and the outcome is known if the state has one
-pub record IsInState (sees : Fact → Type 0) (id : List ℕ) (state : StateValue) (k : Place) : Type 0 where
+-- the place is known opened with terms of this identifier, and the outcome is known if the state
+-- has one
+pub record IsInState (sees : Fact →
+    Type 0) (id : List ℕ) (state : StateValue) (k : Place) : Type 0 where
   pub terms : Terms
   pub id_is : terms.id ≡ id
   pub opened : sees (about k Opened)
   pub has_terms : sees (about k (HasTerms terms))
   pub outcome : (o : Outcome) → state ≡ IsDecided o → sees (about k (Decided o))
 
--- The ticket that goes with the reply, where the history is then K: it names the place of the transfer that the reply
--- tells of, and there is none where that transfer isn't live
-abbrev pub IsTicket : (Fact → Type 0) → HubSettings → ℕ → Command → List Event → Reply → Option Place → Type 0
-IsTicket sees s who command K (TakenReply id deadline) (Some k) = (k.owner ≡ who) × (is_live who id K ≡ true)
+-- The ticket that goes with the reply, where the history is then K: it names the place of the
+-- transfer that the reply tells of, and there is none where that transfer isn't live
+abbrev pub IsTicket : (Fact → Type 0) → HubSettings → ℕ → Command → List Event → Reply →
+    Option Place → Type 0
+IsTicket sees s who command K (TakenReply id deadline) (Some k) =
+    (k.owner ≡ who) × (is_live who id K ≡ true)
     × IsSubmitted sees s command k
 IsTicket sees s who command K (TakenReply id deadline) None = is_live who id K ≡ false
-IsTicket sees s who command K (State from id state) (Some k) = (k.owner ≡ from) × (is_live from id K ≡ true)
+IsTicket sees s who command K (State from id state) (Some k) =
+    (k.owner ≡ from) × (is_live from id K ≡ true)
     × IsInState sees id state k
 IsTicket sees s who command K (State from id state) None = is_live from id K ≡ false
 IsTicket sees s who command K _ ticket = ticket ≡ None

@@ -17,7 +17,8 @@ pub record IsPartsOf (O : Opening) (p : Parts) : Type 0 where
 -- the same parts later: nothing happened but that transfers came and outcomes were booked
 pub record AreLater (p q : Parts) : Type 0 where
   pub settings_are : q.settings ≡ p.settings
-  pub books : AreLaterParts settings_of knows has_role Stays p.board p.slots.items q.board q.slots.items
+  pub books : AreLaterParts settings_of knows has_role Stays p.board p.slots.items q.board
+      q.slots.items
   pub parts : (O : Opening) → IsPartsOf O p → IsPartsOf O q
 
 -- the histories of the participants, by number

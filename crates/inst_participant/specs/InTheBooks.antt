@@ -1,13 +1,15 @@
--- What the closed books tell of a place: what its originator has booked of the transfer that it took there. Whatever was
--- seen before is in it. That a caller may ask by a place is this hub's own choice.
+-- What the closed books tell of a place: what its originator has booked of the transfer that it
+-- took there. Whatever was seen before is in it. That a caller may ask by a place is this hub's own
+-- choice.
 use Rattle.std.specs.Prelude.{◌≡◌, ◌≢◌, ℕ, ◌<◌, List, slice_get, Some}
 use Rattle.inst_settings.specs.Settings.{HubSettings, participants}
 use Rattle.inst_command.specs.declared.outcome.Outcome.{Outcome}
 use Rattle.inst_command.specs.declared.outcome.State.{State}
 use Rattle.inst_command.specs.declared.outcome.State.TheVariants.{Unused, Decided}
 use Rattle.inst_terms.specs.declared.terms.Terms.{Terms}
-use Rattle.inst_board.specs.declared.place.Place.{Place}
-use Rattle.inst_board.specs.declared.about.About.TheVariants.{Opened, HasTerms, Decided as IsDecided}
+use Rattle.inst_command.specs.declared.place.Place.{Place}
+use Rattle.inst_board.specs.declared.about.About.TheVariants.{Opened, HasTerms}
+use Rattle.inst_board.specs.declared.about.About.TheVariants.{Decided as IsDecided}
 use Rattle.inst_board.specs.declared.about.Fact.{Fact}
 use Rattle.inst_board.specs.Standing.{about}
 use Rattle.inst_journal.specs.declared.event.Event.{Event}
@@ -19,8 +21,8 @@ use Rattle.inst_slot.specs.OwnState.{own_state}
 use Rattle.inst_participant.specs.Together.{histories, AreTogether, AllAreSettled}
 
 -- what the books tell of the place
-abbrev pub told : (ℕ → List Event) → Place → State
-told J k = own_state k.owner (J k.owner) k.index
+abbrev pub state_in_books : (ℕ → List Event) → Place → State
+state_in_books J k = own_state k.owner (J k.owner) k.index
 
 -- the terms are those of a transfer that was taken at the place
 abbrev pub IsTakenWith : (ℕ → List Event) → Place → Terms → Type 0
@@ -28,12 +30,16 @@ IsTakenWith J k t = (stamp : ℕ) ×
     (slice_get (live_taken k.owner (J k.owner)) k.index ≡ Some (Taken t.id t.to t.cents stamp))
 
 -- what is known of a place that is known opened is in the books
-pub record IsInTheBooks {B : Type 0} (knows : B → Fact → Type 0) (b : B) (J : ℕ → List Event) (k : Place) : Type 0 where
-  pub used : told J k ≢ Unused
+pub record IsInTheBooks {B : Type 0} (knows : B → Fact → Type 0) (b : B) (J : ℕ →
+    List Event) (k : Place) : Type 0 where
+  pub used : state_in_books J k ≢ Unused
   pub terms : (t : Terms) → knows b (about k (HasTerms t)) → IsTakenWith J k t
-  pub outcome : (o : Outcome) → knows b (about k (IsDecided o)) → told J k ≡ Decided o
+  pub outcome : (o : Outcome) → knows b (about k (IsDecided o)) → state_in_books J k ≡ Decided o
 
-abbrev pub WhatIsKnownIsTold : {B : Type 0} → (B → HubSettings) → (B → Fact → Type 0) → (B → ℕ → Type 0) → Type 0
-WhatIsKnownIsTold {B} settings knows has_role = (b : B) (s : HubSettings) (O : Opening) (books : List Book) → IsOpening s O →
-    AreTogether settings knows has_role b s O books → AllAreSettled knows b books → (k : Place) → k.owner < participants s →
+abbrev pub WhatIsKnownIsTold : {B : Type 0} → (B → HubSettings) → (B → Fact → Type 0) →
+    (B → ℕ → Type 0) → Type 0
+WhatIsKnownIsTold {B} settings knows has_role =
+    (b : B) (s : HubSettings) (O : Opening) (books : List Book) → IsOpening s O →
+    AreTogether settings knows has_role b s O books → AllAreSettled knows b books → (k : Place) →
+    k.owner < participants s →
     knows b (about k Opened) → IsInTheBooks knows b (histories books) k

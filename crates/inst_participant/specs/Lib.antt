@@ -1,5 +1,5 @@
 -- Public contracts cite these.
-pub mod Behind
+pub mod LockLaw
 pub mod Answers
 pub mod Telling
 pub mod Following

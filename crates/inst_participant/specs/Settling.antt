@@ -1,11 +1,11 @@
--- A participant's book is settled over a board whose holder has all roles: the outcomes of its own live transfers and of
--- those that came to it are booked, and what is pending for it comes. Nothing is decided, and nothing new is known. No
--- clause says in which order.
+-- A participant's book is settled over a board whose holder has all roles: the outcomes of its own
+-- live transfers and of those that came to it are booked, and what is pending for it comes. Nothing
+-- is decided, and nothing new is known. No clause says in which order.
 use Rattle.std.specs.Prelude.{◌≡◌, ◌⊎◌, ℕ, ◌<◌, Contains, Some}
 use Rattle.inst_settings.specs.Settings.{HubSettings, participants}
 use Rattle.inst_command.specs.declared.outcome.Outcome.{Outcome}
 use Rattle.inst_terms.specs.declared.terms.Terms.{Terms}
-use Rattle.inst_board.specs.declared.place.Place.{Place}
+use Rattle.inst_command.specs.declared.place.Place.{Place}
 use Rattle.inst_board.specs.declared.about.About.TheVariants.{Opened, HasTerms, Decided}
 use Rattle.inst_board.specs.declared.about.Fact.{Fact}
 use Rattle.inst_board.specs.Standing.{about}
@@ -16,13 +16,17 @@ use Rattle.inst_slot.specs.declared.arrival.Arrival.{Arrival}
 use Rattle.inst_slot.specs.Book.{Book, place_at}
 use Rattle.inst_slot.specs.LawfulBoard.{IsLawfulBoard, KeepsOthers, AllAreAdopted}
 
--- The board's holder has the roles of all participants, and what it knows opened is addressed to one whose role it has
-pub record HasAll {B : Type 0} (settings : B → HubSettings) (knows : B → Fact → Type 0) (has_role : B → ℕ → Type 0) (b : B) : Type 0 where
+-- The board's holder has the roles of all participants, and what it knows opened is addressed to
+-- one whose role it has
+pub record HasAll {B : Type 0} (settings : B → HubSettings) (knows : B → Fact →
+    Type 0) (has_role : B → ℕ → Type 0) (b : B) : Type 0 where
   pub role : (p : ℕ) → p < participants (settings b) → has_role b p
-  pub addressed : (k : Place) (t : Terms) → knows b (about k Opened) → knows b (about k (HasTerms t)) → has_role b t.to
+  pub addressed : (k : Place) (t : Terms) → knows b (about k Opened) →
+      knows b (about k (HasTerms t)) → has_role b t.to
 
 -- the book is a participant's, over such a board, which is lawful for it
-pub record IsReady {B : Type 0} (settings : B → HubSettings) (knows : B → Fact → Type 0) (has_role : B → ℕ → Type 0)
+pub record IsReadyToSettle {B : Type 0} (settings : B → HubSettings) (knows : B → Fact →
+    Type 0) (has_role : B → ℕ → Type 0)
     (b : B) (x : Book) : Type 0 where
   pub participant : x.who < participants (settings b)
   pub lawful : IsLawfulBoard settings knows has_role b x
@@ -35,7 +39,8 @@ pub record IsReady {B : Type 0} (settings : B → HubSettings) (knows : B → Fa
 -- still, since: its own live transfers are those that they were, and what it carries
 -- came: what came besides isn't decided
 -- others: the books of the others stay lawful
-pub record IsLater {B : Type 0} (settings : B → HubSettings) (knows : B → Fact → Type 0) (has_role : B → ℕ → Type 0)
+pub record IsLater {B : Type 0} (settings : B → HubSettings) (knows : B → Fact →
+    Type 0) (has_role : B → ℕ → Type 0)
     (stays : B → B → Type 0) (b : B) (x : Book) (c : B) (y : Book) : Type 0 where
   pub settings_are : y.settings ≡ x.settings
   pub who_is : y.who ≡ x.who
@@ -44,6 +49,7 @@ pub record IsLater {B : Type 0} (settings : B → HubSettings) (knows : B → Fa
   pub still : live_taken x.who y.events ≡ live_taken x.who x.events
   pub since : carried y.events ≡ carried x.events
   pub came : (z : Arrival) → Contains y.arrivals z → Contains x.arrivals z
-      ⊎ ((index : ℕ) (o : Outcome) → z.index ≡ Some index → ¬ knows b (about (place_at z.entry.from index) (Decided o)))
+      ⊎ ((index : ℕ) (o : Outcome) → z.index ≡ Some index →
+      ¬ knows b (about (place_at z.entry.from index) (Decided o)))
   pub others : KeepsOthers settings knows has_role b x.who c
   pub stays_on : stays b c

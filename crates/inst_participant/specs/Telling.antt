@@ -1,4 +1,5 @@
--- What a teller of a hub sees more than before. That callers may know what a slot's board knows is this hub's own choice.
+-- What a teller of a hub sees more than before. That callers may know what a slot's board knows is
+-- this hub's own choice.
 use Rattle.inst_board.specs.declared.about.Fact.{Fact}
 use Rattle.inst_cell.specs.declared.sight.Sight.{Sight}
 use Rattle.inst_cell.specs.Held.{Stays}

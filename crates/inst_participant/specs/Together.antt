@@ -1,11 +1,12 @@
--- The books of all participants of a hub, over one board whose holder has all roles, as a closing finds them and leaves
--- them: each goes on from what the hub was opened with, and what there is to book and to get was booked and came. This
--- hub's own choice.
-use Rattle.std.specs.Prelude.{◌≡◌, ◌≢◌, ◌⊎◌, ℕ, true, is_some, List, length, slice_get, Contains, Some}
+-- The books of all participants of a hub, over one board whose holder has all roles, as a closing
+-- finds them and leaves them: each goes on from what the hub was opened with, and what there is to
+-- book and to get was booked and came. This hub's own choice.
+use Rattle.std.specs.Prelude.{◌≡◌, ◌≢◌, ◌⊎◌, ℕ, true, is_some, List, length, slice_get, Contains}
+use Rattle.std.specs.Prelude.{Some}
 use Rattle.inst_settings.specs.Settings.{HubSettings, participants}
 use Rattle.inst_command.specs.declared.outcome.Outcome.{Outcome}
 use Rattle.inst_terms.specs.declared.terms.Terms.{Terms}
-use Rattle.inst_board.specs.declared.place.Place.{Place}
+use Rattle.inst_command.specs.declared.place.Place.{Place}
 use Rattle.inst_board.specs.declared.about.About.TheVariants.{Opened, HasTerms, Decided}
 use Rattle.inst_board.specs.declared.about.Fact.{Fact}
 use Rattle.inst_board.specs.Standing.{about}
@@ -29,7 +30,8 @@ histories books p = events_of (slice_get books p)
 -- sound: its history is one that a participant can have
 -- since: what it carries is what the hub began with
 -- lawful, adopted: its board is lawful for it, and the places of what it carries were found
-pub record IsMember {B : Type 0} (settings : B → HubSettings) (knows : B → Fact → Type 0) (has_role : B → ℕ → Type 0)
+pub record IsMember {B : Type 0} (settings : B → HubSettings) (knows : B → Fact →
+    Type 0) (has_role : B → ℕ → Type 0)
     (b : B) (s : HubSettings) (O : Opening) (p : ℕ) (book : Book) : Type 0 where
   pub settings_are : book.settings ≡ s
   pub who_is : book.who ≡ p
@@ -39,10 +41,12 @@ pub record IsMember {B : Type 0} (settings : B → HubSettings) (knows : B → F
   pub adopted : AllAreAdopted book
 
 -- the books of all participants, by number
-pub record AreTogether {B : Type 0} (settings : B → HubSettings) (knows : B → Fact → Type 0) (has_role : B → ℕ → Type 0)
+pub record AreTogether {B : Type 0} (settings : B → HubSettings) (knows : B → Fact →
+    Type 0) (has_role : B → ℕ → Type 0)
     (b : B) (s : HubSettings) (O : Opening) (books : List Book) : Type 0 where
   pub one_each : length books ≡ participants s
-  pub member : (p : ℕ) (book : Book) → slice_get books p ≡ Some book → IsMember settings knows has_role b s O p book
+  pub member : (p : ℕ) (book : Book) → slice_get books p ≡ Some book →
+      IsMember settings knows has_role b s O p book
 
 -- The participant has booked and got what there is for it
 -- own: a live transfer of its own is booked, where its outcome is known
@@ -51,22 +55,33 @@ pub record AreTogether {B : Type 0} (settings : B → HubSettings) (knows : B �
 pub record IsSettled {B : Type 0} (knows : B → Fact → Type 0) (b : B) (book : Book) : Type 0 where
   pub own : (index : ℕ) (id : List ℕ) (to cents stamp : ℕ) (o : Outcome) →
       slice_get (live_taken book.who book.events) index ≡ Some (Taken id to cents stamp) →
-      knows b (about (place_at book.who index) (Decided o)) → is_some (booked book.who id book.events) ≡ true
-  pub arrived : (x : Arrival) (index : ℕ) (o : Outcome) → Contains book.arrivals x → x.index ≡ Some index →
-      knows b (about (place_at x.entry.from index) (Decided o)) → is_some (booked x.entry.from x.entry.id book.events) ≡ true
-  pub come : (k : Place) (t : Terms) → k.owner ≢ book.who → t.to ≡ book.who → knows b (about k Opened) →
+      knows b (about (place_at book.who index) (Decided o)) →
+      is_some (booked book.who id book.events) ≡ true
+  pub arrived : (x : Arrival) (index : ℕ) (o : Outcome) → Contains book.arrivals x →
+      x.index ≡ Some index →
+      knows b (about (place_at x.entry.from index) (Decided o)) →
+      is_some (booked x.entry.from x.entry.id book.events) ≡ true
+  pub come : (k : Place) (t : Terms) → k.owner ≢ book.who → t.to ≡ book.who →
+      knows b (about k Opened) →
       knows b (about k (HasTerms t)) →
-      (is_forwarded k.owner t.id book.events ≡ true) ⊎ ((o : Outcome) × knows b (about k (Decided o)))
+      (is_forwarded k.owner t.id book.events ≡ true)
+      ⊎ ((o : Outcome) × knows b (about k (Decided o)))
 
 abbrev pub AllAreSettled : {B : Type 0} → (B → Fact → Type 0) → B → List Book → Type 0
-AllAreSettled knows b books = (p : ℕ) (book : Book) → slice_get books p ≡ Some book → IsSettled knows b book
+AllAreSettled knows b books =
+    (p : ℕ) (book : Book) → slice_get books p ≡ Some book → IsSettled knows b book
 
 -- the books of one hub over one board fit
-abbrev pub TogetherTheyFit : {B : Type 0} → (B → HubSettings) → (B → Fact → Type 0) → (B → ℕ → Type 0) → Type 0
-TogetherTheyFit {B} settings knows has_role = (b : B) (s : HubSettings) (O : Opening) (books : List Book) → IsOpening s O →
+abbrev pub TogetherTheyFit : {B : Type 0} → (B → HubSettings) → (B → Fact → Type 0) →
+    (B → ℕ → Type 0) → Type 0
+TogetherTheyFit {B} settings knows has_role =
+    (b : B) (s : HubSettings) (O : Opening) (books : List Book) → IsOpening s O →
     AreTogether settings knows has_role b s O books → BooksFit s (histories books)
 
 -- and where all are settled they are closed
-abbrev pub SettledBooksAreClosed : {B : Type 0} → (B → HubSettings) → (B → Fact → Type 0) → (B → ℕ → Type 0) → Type 0
-SettledBooksAreClosed {B} settings knows has_role = (b : B) (s : HubSettings) (O : Opening) (books : List Book) → IsOpening s O →
-    AreTogether settings knows has_role b s O books → AllAreSettled knows b books → AreClosed s (histories books)
+abbrev pub SettledBooksAreClosed : {B : Type 0} → (B → HubSettings) → (B → Fact → Type 0) →
+    (B → ℕ → Type 0) → Type 0
+SettledBooksAreClosed {B} settings knows has_role =
+    (b : B) (s : HubSettings) (O : Opening) (books : List Book) → IsOpening s O →
+    AreTogether settings knows has_role b s O books → AllAreSettled knows b books →
+    AreClosed s (histories books)

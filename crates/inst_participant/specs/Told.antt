@@ -1,5 +1,5 @@
--- What a participant is told by others: that a transfer came to it, or how one ended. That what follows and what is swept
--- adds no other events is this hub's own choice.
+-- What a participant is told by others: that a transfer came to it, or how one ended. That what
+-- follows and what is swept adds no other events is this hub's own choice.
 use Rattle.std.specs.Prelude.{◌≡◌, ◌⊎◌, List, [], ◌∷◌, ◌++◌, Contains}
 use Rattle.inst_journal.specs.declared.event.Event.{Event}
 use Rattle.inst_journal.specs.declared.event.Event.TheVariants.{Forwarded, Booked}

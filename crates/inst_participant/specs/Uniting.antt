@@ -1,5 +1,5 @@
--- The participants of a hub with a board each, over one and the same words, and what the boards make when they are joined
--- to one. This hub's own choice.
+-- The participants of a hub with a board each, over one and the same words, and what the boards
+-- make when they are joined to one. This hub's own choice.
 use Rattle.std.specs.Prelude.{◌≡◌, ℕ, List, length, slice_get, Some}
 use Rattle.inst_settings.specs.Settings.{HubSettings, participants}
 use Rattle.inst_board.specs.declared.about.Fact.{Fact}
@@ -11,29 +11,35 @@ use Rattle.inst_model.specs.Opening.{Opening, IsOpening}
 use Rattle.inst_slot.specs.Book.{Book}
 use Rattle.inst_participant.specs.Together.{IsMember}
 
--- a board is over these words, and lawful for the book of the participant p of a hub that was opened so
-pub record IsSeparate (words : SharedBoard) (O : Opening) (s : HubSettings) (p : ℕ) (x : Book) (b : SharedBoard) : Type 0 where
+-- a board is over these words, and lawful for the book of the participant p of a hub that was
+-- opened so
+pub record IsSeparate (words : SharedBoard) (O : Opening) (s : HubSettings) (p : ℕ) (x : Book)
+    (b : SharedBoard) : Type 0 where
   pub one : AtOneTable words b
   pub member : IsMember settings_of knows has_role b s O p x
 
 -- such a board for each participant, by number
-pub record AreSeparate (words : SharedBoard) (O : Opening) (s : HubSettings) (slots : List Book) (boards : List SharedBoard) : Type 0 where
+pub record AreSeparate (words : SharedBoard) (O : Opening) (s : HubSettings) (slots : List Book)
+    (boards : List SharedBoard) : Type 0 where
   pub settings_are : settings_of words ≡ s
   pub opening : IsOpening s O
   pub one_each : length slots ≡ participants s
   pub enough : length boards ≡ participants s
-  pub each : (p : ℕ) (x : Book) (b : SharedBoard) → slice_get slots p ≡ Some x → slice_get boards p ≡ Some b →
+  pub each : (p : ℕ) (x : Book) (b : SharedBoard) → slice_get slots p ≡ Some x →
+      slice_get boards p ≡ Some b →
       IsSeparate words O s p x b
 
 -- a board over these words for each participant
-pub record AreAtOne (words : SharedBoard) (s : HubSettings) (slots : List Book) (boards : List SharedBoard) : Type 0 where
+pub record AreAtOne (words : SharedBoard) (s : HubSettings) (slots : List Book)
+    (boards : List SharedBoard) : Type 0 where
   pub one_each : length slots ≡ participants s
   pub enough : length boards ≡ participants s
   pub each : (p : ℕ) (b : SharedBoard) → slice_get boards p ≡ Some b → AtOneTable words b
 
 -- tellers that see these words
 abbrev pub AreSights : SharedBoard → List Sight → Type 0
-AreSights words sights = (i : ℕ) (t : Sight) → slice_get sights i ≡ Some t → AtOneTable words (board_of t)
+AreSights words sights =
+    (i : ℕ) (t : Sight) → slice_get sights i ≡ Some t → AtOneTable words (board_of t)
 
 -- one of these boards knows it
 abbrev pub OneKnows : List SharedBoard → Fact → Type 0

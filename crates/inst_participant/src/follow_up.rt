@@ -1,8 +1,8 @@
-use inst_board::Place;
+use inst_command::Place;
 
 /// What a side does once the other side's command was answered.
 #[derive(Clone, Copy)]
-pub enum Errand {
+pub enum FollowUpKind {
     /// The beneficiary gets the transfer that was taken.
     Deliver,
     /// The other side learns the outcome.
@@ -13,6 +13,6 @@ pub enum Errand {
 #[derive(Clone, Copy)]
 pub struct FollowUp {
     pub who: u8,
-    pub errand: Errand,
+    pub kind: FollowUpKind,
     pub place: Place,
 }

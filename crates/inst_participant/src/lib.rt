@@ -1,6 +1,6 @@
-//! A participant behind its lock in a hub of many threads: what a call and a sweep do to it. And all participants of
-//! a hub that was taken apart: how their books are settled, and the laws of these books. No lock and no thread is in
-//! here.
+//! A participant behind its lock in a hub of many threads: what a call and a sweep do to it. And
+//! all participants of a hub that was taken apart: how their books are settled, and the laws of
+//! these books. No lock and no thread is in here.
 #![tactic(auto)]
 
 mod follow_up;
@@ -11,7 +11,7 @@ mod settled;
 mod settling;
 mod uniting;
 
-pub use follow_up::{Errand, FollowUp};
+pub use follow_up::{FollowUp, FollowUpKind};
 pub use participant::Participant;
 pub use parts::Parts;
 pub use settled::{settle_each, settle_one};

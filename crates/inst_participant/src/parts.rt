@@ -1,6 +1,6 @@
 ghost use Rattle.std.specs.Prelude.{◌≡◌, ◌<◌, IfOk};
 ghost use Rattle.inst_board.specs.declared.about.About.TheVariants.{Opened};
-ghost use Rattle.inst_board.specs.declared.place.Place.{Place};
+ghost use Rattle.inst_command.specs.declared.place.Place.{Place};
 ghost use Rattle.inst_board.specs.Standing.{about};
 ghost use Rattle.inst_cell.specs.Held.{knows};
 ghost use Rattle.inst_model.specs.Closing.{AreClosed};
@@ -18,7 +18,8 @@ use inst_settings::Settings;
 use inst_slot::Slot;
 use std::alloc::AllocError;
 
-/// What a hub is taken apart into: the slots of its participants, by number, and one board with the roles of all of them.
+/// What a hub is taken apart into: the slots of its participants, by number, and one board with the
+/// roles of all of them.
 #[derive(Drop)]
 pub struct Parts {
     pub(crate) settings: Settings,
@@ -40,25 +41,30 @@ impl Parts {
         }
     }
 
-    /// Books what is decided of the transfers in the book of `who`, its own by place and then those that came in order of
-    /// arrival, and gets what is pending for it, by originator and place. How many of these were new. Refused
-    /// memory ends it, and what was done before stands.
+    /// Books what is decided of the transfers in the book of `who`, its own by place and then those
+    /// that came in order of arrival, and gets what is pending for it, by originator and place. How
+    /// many of these were new. Refused memory ends it, and what was done before stands.
     pub fn settle(&mut self, who: u8) -> Result<u32, AllocError>
         requires parts { (O : Opening) × IsPartsOf O self.old }
         requires participant { who < participants self.old.settings }
         ensures later { AreLater self.old self.new }
-        ensures settled { IfOk result (λ _. IsSettledAt knows self.new.board who self.new.slots.items) }
-        ensures count { IfOk result (λ count. count ≡ new_events (histories_of self.old who) (histories_of self.new who)) }
+        ensures settled { IfOk result (λ _.
+            IsSettledAt knows self.new.board who self.new.slots.items) }
+        ensures count { IfOk result (λ count.
+            count ≡ new_events (histories_of self.old who) (histories_of self.new who)) }
     {
         settle_one(&mut self.slots, &mut self.board, who)
     }
 
-    /// Settles each participant by number: then the books are closed, and all that the board knew is in them.
+    /// Settles each participant by number: then the books are closed, and all that the board knew
+    /// is in them.
     pub fn settle_all(&mut self) -> Result<(), AllocError>
         requires parts { (O : Opening) × IsPartsOf O self.old }
         ensures later { AreLater self.old self.new }
-        ensures closed { IfOk result (λ _. AreClosed self.old.settings (histories self.new.slots.items)) }
-        ensures told { IfOk result (λ _. (k : Place) → knows self.old.board (about k Opened) → IsInTheBooks knows self.old.board (histories self.new.slots.items) k) }
+        ensures closed { IfOk result (λ _.
+            AreClosed self.old.settings (histories self.new.slots.items)) }
+        ensures told { IfOk result (λ _. (k : Place) → knows self.old.board (about k Opened) →
+            IsInTheBooks knows self.old.board (histories self.new.slots.items) k) }
     {
         settle_each(&self.settings, &mut self.slots, &mut self.board)
     }

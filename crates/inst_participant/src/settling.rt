@@ -4,23 +4,26 @@ ghost use Rattle.inst_settings.specs.Settings.{participants};
 ghost use Rattle.inst_journal.specs.Sound.{IsSound};
 ghost use Rattle.inst_participant.specs.Sweeping.{new_events};
 ghost use Rattle.inst_participant.specs.Together.{IsSettled};
-ghost use Rattle.inst_participant.specs.Settling.{IsReady, IsLater};
-ghost use Rattle.inst_participant.specs.inner.Settling.{IsBookedAt, HasCome, OwnAreBooked, ArrivedAreBooked, HaveCome};
+ghost use Rattle.inst_participant.specs.Settling.{IsReadyToSettle, IsLater};
+ghost use Rattle.inst_participant.specs.inner.Settling.{IsBookedAt, HasCome, OwnAreBooked};
+ghost use Rattle.inst_participant.specs.inner.Settling.{ArrivedAreBooked, HaveCome};
 
-use inst_board::{Board, Place};
+use inst_board::Board;
+use inst_command::Place;
 use inst_slot::Slot;
 use std::alloc::AllocError;
 
-/// Books what is decided of the participant's live transfers, its own and those that came to it, and gets what is pending
-/// for it from each other originator. Returns how many of these were new.
+/// Books what is decided of the participant's live transfers, its own and those that came to it,
+/// and gets what is pending for it from each other originator. Returns how many of these were new.
 ///
 /// # Errors
 ///
 /// An allocation failed. What was done before stands.
 pub fn settle<B: Board>(slot: &mut Slot, board: &mut B) -> Result<u32, AllocError>
-    requires ready { IsReady B.settings B.knows B.has_role board.old slot.old }
-    ensures ready { IsReady B.settings B.knows B.has_role board.new slot.new }
-    ensures later { IsLater B.settings B.knows B.has_role B.stays board.old slot.old board.new slot.new }
+    requires ready { IsReadyToSettle B.settings B.knows B.has_role board.old slot.old }
+    ensures ready { IsReadyToSettle B.settings B.knows B.has_role board.new slot.new }
+    ensures later { IsLater B.settings B.knows B.has_role B.stays board.old slot.old board.new
+        slot.new }
     ensures settled { IfOk result (λ _. IsSettled B.knows board.new slot.new) }
     ensures count { IfOk result (λ count. count ≡ new_events slot.old.events slot.new.events) }
     ensures sound { IsSound slot.new.settings slot.new.who slot.new.events }
@@ -33,9 +36,10 @@ pub fn settle<B: Board>(slot: &mut Slot, board: &mut B) -> Result<u32, AllocErro
 }
 
 fn settle_all<B: Board>(slot: &mut Slot, board: &mut B) -> Result<(), AllocError>
-    requires ready { IsReady B.settings B.knows B.has_role board.old slot.old }
-    ensures ready { IsReady B.settings B.knows B.has_role board.new slot.new }
-    ensures later { IsLater B.settings B.knows B.has_role B.stays board.old slot.old board.new slot.new }
+    requires ready { IsReadyToSettle B.settings B.knows B.has_role board.old slot.old }
+    ensures ready { IsReadyToSettle B.settings B.knows B.has_role board.new slot.new }
+    ensures later { IsLater B.settings B.knows B.has_role B.stays board.old slot.old board.new
+        slot.new }
     ensures settled { IfOk result (λ _. IsSettled B.knows board.old slot.new) }
 {
     learn_own(slot, board)?;
@@ -45,10 +49,11 @@ fn settle_all<B: Board>(slot: &mut Slot, board: &mut B) -> Result<(), AllocError
 
 /// Books the outcome of the place, if it is decided and not yet booked.
 fn learn_at<B: Board>(slot: &mut Slot, board: &mut B, place: Place) -> Result<(), AllocError>
-    requires ready { IsReady B.settings B.knows B.has_role board.old slot.old }
+    requires ready { IsReadyToSettle B.settings B.knows B.has_role board.old slot.old }
     requires owner { place.owner < participants (B.settings board.old) }
-    ensures ready { IsReady B.settings B.knows B.has_role board.new slot.new }
-    ensures later { IsLater B.settings B.knows B.has_role B.stays board.old slot.old board.new slot.new }
+    ensures ready { IsReadyToSettle B.settings B.knows B.has_role board.new slot.new }
+    ensures later { IsLater B.settings B.knows B.has_role B.stays board.old slot.old board.new
+        slot.new }
     ensures arrivals { slot.new.arrivals ≡ slot.old.arrivals }
     ensures booked { IfOk result (λ _. IsBookedAt B.knows board.old slot.old place slot.new) }
 {
@@ -58,10 +63,11 @@ fn learn_at<B: Board>(slot: &mut Slot, board: &mut B, place: Place) -> Result<()
 
 /// Gets what is pending at the place, if it is for the participant and new to it.
 fn deliver_at<B: Board>(slot: &mut Slot, board: &mut B, place: Place) -> Result<(), AllocError>
-    requires ready { IsReady B.settings B.knows B.has_role board.old slot.old }
+    requires ready { IsReadyToSettle B.settings B.knows B.has_role board.old slot.old }
     requires owner { place.owner < participants (B.settings board.old) }
-    ensures ready { IsReady B.settings B.knows B.has_role board.new slot.new }
-    ensures later { IsLater B.settings B.knows B.has_role B.stays board.old slot.old board.new slot.new }
+    ensures ready { IsReadyToSettle B.settings B.knows B.has_role board.new slot.new }
+    ensures later { IsLater B.settings B.knows B.has_role B.stays board.old slot.old board.new
+        slot.new }
     ensures come { IfOk result (λ _. HasCome B.knows board.old place slot.new) }
 {
     slot.deliver(board, place)?;
@@ -70,9 +76,10 @@ fn deliver_at<B: Board>(slot: &mut Slot, board: &mut B, place: Place) -> Result<
 
 /// Books what is decided of the participant's own live transfers.
 fn learn_own<B: Board>(slot: &mut Slot, board: &mut B) -> Result<(), AllocError>
-    requires ready { IsReady B.settings B.knows B.has_role board.old slot.old }
-    ensures ready { IsReady B.settings B.knows B.has_role board.new slot.new }
-    ensures later { IsLater B.settings B.knows B.has_role B.stays board.old slot.old board.new slot.new }
+    requires ready { IsReadyToSettle B.settings B.knows B.has_role board.old slot.old }
+    ensures ready { IsReadyToSettle B.settings B.knows B.has_role board.new slot.new }
+    ensures later { IsLater B.settings B.knows B.has_role B.stays board.old slot.old board.new
+        slot.new }
     ensures booked { IfOk result (λ _. OwnAreBooked B.knows board.old slot.new) }
 {
     let owner = slot.who();
@@ -85,9 +92,10 @@ fn learn_own<B: Board>(slot: &mut Slot, board: &mut B) -> Result<(), AllocError>
 
 /// Books what is decided of what came to the participant.
 fn learn_arrived<B: Board>(slot: &mut Slot, board: &mut B) -> Result<(), AllocError>
-    requires ready { IsReady B.settings B.knows B.has_role board.old slot.old }
-    ensures ready { IsReady B.settings B.knows B.has_role board.new slot.new }
-    ensures later { IsLater B.settings B.knows B.has_role B.stays board.old slot.old board.new slot.new }
+    requires ready { IsReadyToSettle B.settings B.knows B.has_role board.old slot.old }
+    ensures ready { IsReadyToSettle B.settings B.knows B.has_role board.new slot.new }
+    ensures later { IsLater B.settings B.knows B.has_role B.stays board.old slot.old board.new
+        slot.new }
     ensures booked { IfOk result (λ _. ArrivedAreBooked B.knows board.old slot.new) }
 {
     let mut from = 0;
@@ -102,10 +110,12 @@ fn learn_arrived<B: Board>(slot: &mut Slot, board: &mut B) -> Result<(), AllocEr
 
 /// Gets what all other originators have for the participant.
 fn deliver_all<B: Board>(slot: &mut Slot, board: &mut B) -> Result<(), AllocError>
-    requires ready { IsReady B.settings B.knows B.has_role board.old slot.old }
-    ensures ready { IsReady B.settings B.knows B.has_role board.new slot.new }
-    ensures later { IsLater B.settings B.knows B.has_role B.stays board.old slot.old board.new slot.new }
-    ensures come { IfOk result (λ _. (owner : ℕ) → owner ≢ slot.new.who → HaveCome B.knows board.old owner slot.new) }
+    requires ready { IsReadyToSettle B.settings B.knows B.has_role board.old slot.old }
+    ensures ready { IsReadyToSettle B.settings B.knows B.has_role board.new slot.new }
+    ensures later { IsLater B.settings B.knows B.has_role B.stays board.old slot.old board.new
+        slot.new }
+    ensures come { IfOk result (λ _. (owner : ℕ) → owner ≢ slot.new.who →
+        HaveCome B.knows board.old owner slot.new) }
 {
     let own = u16::from(slot.who());
     let participants = slot.settings().participants();
@@ -119,10 +129,11 @@ fn deliver_all<B: Board>(slot: &mut Slot, board: &mut B) -> Result<(), AllocErro
 
 /// Gets what this other originator has for the participant.
 fn deliver_from<B: Board>(slot: &mut Slot, board: &mut B, owner: u8) -> Result<(), AllocError>
-    requires ready { IsReady B.settings B.knows B.has_role board.old slot.old }
+    requires ready { IsReadyToSettle B.settings B.knows B.has_role board.old slot.old }
     requires owner { owner < participants (B.settings board.old) }
-    ensures ready { IsReady B.settings B.knows B.has_role board.new slot.new }
-    ensures later { IsLater B.settings B.knows B.has_role B.stays board.old slot.old board.new slot.new }
+    ensures ready { IsReadyToSettle B.settings B.knows B.has_role board.new slot.new }
+    ensures later { IsLater B.settings B.knows B.has_role B.stays board.old slot.old board.new
+        slot.new }
     ensures come { IfOk result (λ _. HaveCome B.knows board.old owner slot.new) }
 {
     let places = slot.settings().places();

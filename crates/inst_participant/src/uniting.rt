@@ -5,7 +5,8 @@ ghost use Rattle.inst_cell.specs.declared.shared_board.SharedBoard.{SharedBoard}
 ghost use Rattle.inst_cell.specs.Held.{knows, AtOneTable};
 ghost use Rattle.inst_model.specs.Opening.{Opening};
 ghost use Rattle.inst_participant.specs.Apart.{IsPartsOf};
-ghost use Rattle.inst_participant.specs.Uniting.{AreSeparate, AreAtOne, AreSights, OneKnows, OneSees};
+ghost use Rattle.inst_participant.specs.Uniting.{AreSeparate, AreAtOne, AreSights, OneKnows};
+ghost use Rattle.inst_participant.specs.Uniting.{OneSees};
 ghost use Rattle.inst_participant.specs.inner.Uniting.{AreJoined, IsToldMore};
 
 use crate::Parts;
@@ -14,19 +15,23 @@ use inst_settings::Settings;
 use inst_slot::Slot;
 
 impl Parts {
-    /// The parts of a hub whose participants have these slots and boards, by number, and that these tellers saw: one board
-    /// with the roles of all, that knows exactly what one of the boards or of the tellers knew. It takes no memory.
+    /// The parts of a hub whose participants have these slots and boards, by number, and that these
+    /// tellers saw: one board with the roles of all, that knows exactly what one of the boards or
+    /// of the tellers knew. It takes no memory.
     pub fn unite(
         settings: Settings,
         slots: Vec<Slot>,
         boards: Vec<SharedBoard>,
         sights: Vec<Sight>,
     ) -> Parts
-        requires one { (words : SharedBoard) × AreAtOne words settings slots.items boards.items × AreSights words sights.items }
+        requires one { (words : SharedBoard) × AreAtOne words settings slots.items boards.items
+            × AreSights words sights.items }
         ensures settings { result.settings ≡ settings }
         ensures slots { result.slots.items ≡ slots.items }
-        ensures parts { (words : SharedBoard) (O : Opening) → AreSeparate words O settings slots.items boards.items → IsPartsOf O result }
-        ensures known { (f : Fact) → knows result.board f ↔ (OneKnows boards.items f ⊎ OneSees sights.items f) }
+        ensures parts { (words : SharedBoard) (O : Opening) →
+            AreSeparate words O settings slots.items boards.items → IsPartsOf O result }
+        ensures known { (f : Fact) → knows result.board f ↔
+            (OneKnows boards.items f ⊎ OneSees sights.items f) }
     {
         let board = tell_all(join_all(&settings, &slots, boards), sights);
         Parts {
@@ -40,8 +45,11 @@ impl Parts {
 /// One board with the roles of all these, that knows exactly what one of them knew.
 fn join_all(settings: &Settings, slots: &[Slot], boards: Vec<SharedBoard>) -> SharedBoard
     requires one { (words : SharedBoard) × AreAtOne words settings.now slots.now boards.items }
-    ensures one { (words : SharedBoard) → AreAtOne words settings.now slots.now boards.items → AtOneTable words result }
-    ensures joined { (words : SharedBoard) (O : Opening) → AreSeparate words O settings.now slots.now boards.items → AreJoined words O settings.now slots.now boards.items result }
+    ensures one { (words : SharedBoard) → AreAtOne words settings.now slots.now boards.items →
+        AtOneTable words result }
+    ensures joined { (words : SharedBoard) (O : Opening) →
+        AreSeparate words O settings.now slots.now boards.items →
+        AreJoined words O settings.now slots.now boards.items result }
     ensures known { (f : Fact) → knows result f ↔ OneKnows boards.items f }
 {
     // The check is told that there are participants only by a call.

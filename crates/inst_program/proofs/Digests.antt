@@ -1,7 +1,7 @@
 -- Which logs have the digest that is asked for.
 use Rattle.std.proofs.Common.{◌≡◌, ◌∙◌, ◌∷◌, ◌||◌, ℕ, Bool, List, [], Option, None, Some, refl, ap, sym, subst}
 use Rattle.std.specs.Prelude.{bytes_eq}
-use Rattle.inst_log.specs.Layout.{recovered}
+use Rattle.inst_log.specs.Layout.{recovered_lines}
 use Rattle.inst_chain.specs.Chain.{has_digest, mark_with}
 use Rattle.inst_chain.specs.declared.digest.Digest.{Digest}
 use Rattle.inst_logged.specs.Refused.{HasWanted, IsTaken}
@@ -18,7 +18,7 @@ has_same d e same (line ∷ lines) =
 
 wanted_so : (version : Version) (file : List ℕ) (d e : Digest) → d.text ≡ e.text → HasWanted version (Some d) file → HasWanted version (Some e) file
 wanted_so One file d e same has = absurd (cc has)
-wanted_so Two file d e same has = sym (has_same d e same (recovered file)) ∙ has
+wanted_so Two file d e same has = sym (has_same d e same (recovered_lines file)) ∙ has
 
 pub wanted_same : (digest : Option (List ℕ)) (w v : Option Digest) → AsksFor digest w → AsksFor digest v → (version : Version) (file : List ℕ) → HasWanted version w file → HasWanted version v file
 wanted_same None w v is same version file has = subst (λ (o : Option Digest). HasWanted version o file) (is ∙ sym same) has

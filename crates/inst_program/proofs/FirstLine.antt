@@ -2,7 +2,7 @@
 use Rattle.std.proofs.Common.{◌≡◌, ◌<◌, ◌==◌, ℕ, zero, suc, Bool, true, false, List, [], ◌∷◌, ◌++◌, length, take, MatchBool, MatchResult, Result, Ok, Err, is_ok, IfOk, refl, sym, ◌∙◌, ap, subst, arith, length-append}
 use Rattle.std.proofs.lemmas.Bool.Decides.{nat_tests}
 use Rattle.inst_base.specs.Newline.{newline}
-use Rattle.inst_log.specs.Layout.{blocks, recovered}
+use Rattle.inst_log.specs.Layout.{blocks, recovered_lines}
 use Rattle.inst_program.specs.Keeping.{IsUntaken, KeptRun}
 use Rattle.inst_program.specs.Keeping.IsUntaken.{Foreign}
 
@@ -30,7 +30,7 @@ absent_if_empty must lines (x ∷ xs) b asked is same =
 -- a log that must be there and has no byte isn't taken
 pub absent_untaken : (run : KeptRun) (file now : List ℕ) → now ≡ file → now ≡ [] → run.resume ≡ true → IsUntaken run file
 absent_untaken run file now same none resume = Foreign (λ version first is.
-    let empty : recovered file ≡ recovered [] = ap recovered (sym same ∙ none) in
+    let empty : recovered_lines file ≡ recovered_lines [] = ap recovered_lines (sym same ∙ none) in
     omega (arith, is.there resume, ap length empty))
 
 pub none_if_empty : (n : ℕ) (b : Bool) → b ≡ (n == 0) → b ≡ true → n ≡ 0

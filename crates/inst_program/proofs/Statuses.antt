@@ -11,9 +11,9 @@ use Rattle.inst_program.specs.Program.{status_of}
 use Rattle.inst_program.specs.Logs.{IsLogsError}
 use Rattle.inst_program.specs.declared.logs.LogsError.{LogsError}
 use Rattle.inst_program.specs.declared.logs.LogsError.TheVariants as opening
-use Rattle.inst_program.specs.inner.Ending.{ending_of_error, status_of_ending}
-use Rattle.inst_program.specs.declared.ending.Ending.{Ending}
-use Rattle.inst_program.specs.declared.ending.Ending.TheVariants as ending
+use Rattle.inst_program.specs.inner.ExitReason.{ending_of_error, status_of_ending}
+use Rattle.inst_program.specs.declared.exit_reason.ExitReason.{ExitReason}
+use Rattle.inst_program.specs.declared.exit_reason.ExitReason.TheVariants as ending
 
 pub only_settings : (fault : Fault) → status_of fault ≡ 2 → fault ≡ BadSettings
 only_settings BadSettings is = refl
@@ -44,7 +44,7 @@ no_log_fault_is_zero ChangedLog is = three_is_not_zero is
 no_log_fault_is_zero _ is = two_is_not_zero is
 
 -- the status of a task that isn't done is not 0
-pub no_ending_is_zero : (e : Ending) → status_of_ending e ≡ 0 → ⊥
+pub no_ending_is_zero : (e : ExitReason) → status_of_ending e ≡ 0 → ⊥
 no_ending_is_zero (ending.Fault fault) is = no_fault_is_zero fault is
 no_ending_is_zero (ending.Log fault) is = no_log_fault_is_zero fault is
 no_ending_is_zero ending.Unexplained is = two_is_not_zero is
@@ -60,7 +60,7 @@ known_log_fault DiskFault = inr refl
 known_log_fault ChangedLog = inr refl
 known_log_fault _ = inl refl
 
-pub two_or_three : (e : Ending) → (status_of_ending e ≡ 2) ⊎ (status_of_ending e ≡ 3)
+pub two_or_three : (e : ExitReason) → (status_of_ending e ≡ 2) ⊎ (status_of_ending e ≡ 3)
 two_or_three (ending.Fault fault) = known_fault fault
 two_or_three (ending.Log fault) = known_log_fault fault
 two_or_three ending.Unexplained = inl refl
@@ -81,18 +81,18 @@ logs_refused in_use none (opening.Log DamagedLog) is two = absurd is
 logs_refused in_use none (opening.Log OtherDigest) is two = absurd is
 logs_refused in_use none (opening.Log ChangedLog) is two = absurd is
 
-pub refused_by : (in_use none : Type 0) (e : LogsError) (f : Ending) → f ≡ ending_of_error e → IsLogsError in_use none e → status_of_ending f ≡ 2 → in_use ⊎ none
-refused_by in_use none e f same is two = logs_refused in_use none e is (subst (λ (g : Ending). status_of_ending g ≡ 2) same two)
+pub refused_by : (in_use none : Type 0) (e : LogsError) (f : ExitReason) → f ≡ ending_of_error e → IsLogsError in_use none e → status_of_ending f ≡ 2 → in_use ⊎ none
+refused_by in_use none e f same is two = logs_refused in_use none e is (subst (λ (g : ExitReason). status_of_ending g ≡ 2) same two)
 
 only_in_use : (in_use : Type 0) → in_use ⊎ ⊥ → in_use
 only_in_use in_use (inl is) = is
 only_in_use in_use (inr never) = absurd never
 
-pub in_use_or : (in_use : Type 0) (e : LogsError) (f : Ending) → f ≡ ending_of_error e → IsLogsError in_use ⊥ e → status_of_ending f ≡ 2 → in_use
+pub in_use_or : (in_use : Type 0) (e : LogsError) (f : ExitReason) → f ≡ ending_of_error e → IsLogsError in_use ⊥ e → status_of_ending f ≡ 2 → in_use
 in_use_or in_use e f same is two = only_in_use in_use (refused_by in_use ⊥ e f same is two)
 
-pub no_refusal : (e : LogsError) (f : Ending) → f ≡ ending_of_error e → IsLogsError ⊥ ⊥ e → status_of_ending f ≡ 2 → ⊥
+pub no_refusal : (e : LogsError) (f : ExitReason) → f ≡ ending_of_error e → IsLogsError ⊥ ⊥ e → status_of_ending f ≡ 2 → ⊥
 no_refusal e f same is two = in_use_or ⊥ e f same is two
 
-pub memory_is_no_refusal : (e : Ending) → e ≡ ending.Fault Memory → status_of_ending e ≡ 2 → ⊥
-memory_is_no_refusal e is two = three_is_not_two (subst (λ (f : Ending). status_of_ending f ≡ 2) is two)
+pub memory_is_no_refusal : (e : ExitReason) → e ≡ ending.Fault Memory → status_of_ending e ≡ 2 → ⊥
+memory_is_no_refusal e is two = three_is_not_two (subst (λ (f : ExitReason). status_of_ending f ≡ 2) is two)

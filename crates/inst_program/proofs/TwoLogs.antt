@@ -9,8 +9,8 @@ use Rattle.inst_program.specs.Keeping.IsUncarried.{Bad, InUse, Last, Other}
 use Rattle.inst_program.specs.inner.Carrying.{IsUnbegun, IsUnclosed}
 use Rattle.inst_program.specs.inner.Visiting.{IsSameChange, IsVisited}
 use Rattle.inst_program.proofs.Digests.{taken_same}
-use Rattle.inst_program.proofs.Closing.{none_to_close}
-use Rattle.inst_program.proofs.Visiting.{begun, carries_books, safe_or, stays_behind}
+use Rattle.inst_program.proofs.CausesOfUnclosedHub.{none_to_close}
+use Rattle.inst_program.proofs.LogAfterVisit.{begun, carries_books, safe_or, stays_behind}
 
 -- a log that was closed has its lines
 closed_safe : (digest : Option (List ℕ)) (mixes : Type 0) (next : List ℕ) (c : Change) → CarriesBooks digest mixes next c → IsSparedLog mixes c

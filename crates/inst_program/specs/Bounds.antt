@@ -1,11 +1,14 @@
--- The bounds of a hub and of its lines as numbers. A bound that is changed in the code makes the law `the_bounds` false.
+-- The bounds of a hub and of its lines as numbers. A bound that is changed in the code makes the
+-- law `the_bounds` false.
 use Rattle.std.specs.Prelude.{◌≡◌, ◌-◌, ◌^◌}
 use Rattle.inst_base.specs.declared.cents.TheConstants.{MOST_CENTS}
 use Rattle.inst_base.specs.declared.code.TheConstants.{CODE_LENGTH, BRANCH_CODE_LENGTH}
 use Rattle.inst_base.specs.declared.ident.TheConstants.{MOST_IDENTIFIER_LENGTH}
 use Rattle.inst_base.specs.declared.moment.TheConstants.{LAST}
 use Rattle.inst_base.specs.declared.reason.TheConstants.{REASON_LENGTH}
-use Rattle.inst_settings.specs.declared.ranges.TheConstants.{MOST_PARTICIPANTS, MOST_PLACES, MOST_FUNDINGS, MOST_LIMIT, MOST_AHEAD, MOST_CEILING, MOST_BASE}
+use Rattle.inst_settings.specs.declared.ranges.TheConstants.{MOST_PARTICIPANTS, MOST_PLACES}
+use Rattle.inst_settings.specs.declared.ranges.TheConstants.{MOST_FUNDINGS, MOST_LIMIT, MOST_AHEAD}
+use Rattle.inst_settings.specs.declared.ranges.TheConstants.{MOST_CEILING, MOST_BASE}
 use Rattle.inst_command.specs.declared.count.TheConstants.{MOST_COUNT}
 use Rattle.inst_journal.specs.declared.opened.TheConstants.{MOST_OPENINGS}
 use Rattle.inst_lines.specs.declared.limits.TheConstants.{MOST_LINES, MOST_BYTES, MOST_LINE_BYTES}

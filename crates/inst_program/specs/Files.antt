@@ -2,11 +2,11 @@
 use Rattle.std.specs.Prelude.{◌≡◌, ◌≢◌, ◌⊎◌, ℕ, Bool, List, Option, None, Some, IsTrue}
 use Rattle.sqlite_disk.specs.declared.Disk.{Ghosts}
 
--- What each file has, by its name, and what a crash may leave of it; a file that isn't there has nothing. One at most is
--- out: it was opened as a disk, and wasn't closed again.
--- mixes: a crash leaves each byte of a torn write old or new
--- in_use: another program may have the file open
--- is_clean: each file that was opened was what it is said to be here, and no wrong answer of its disk was taken as true
+-- What each file has, by its name, and what a crash may leave of it; a file that isn't there has
+-- nothing. One at most is out: it was opened as a disk, and wasn't closed again. mixes: a crash
+-- leaves each byte of a torn write old or new in_use: another program may have the file open
+-- is_clean: each file that was opened was what it is said to be here, and no wrong answer of its
+-- disk was taken as true
 pub record Files : Type 1 where
   pub bytes : List ℕ → List ℕ
   pub may_leave : List ℕ → List ℕ → Type 0
@@ -29,12 +29,24 @@ pub record Change : Type 1 where
 -- what became of the file of this name
 abbrev pub change_of : Files → Files → List ℕ → Change
 change_of old new name =
-    record { was = old.bytes name; now = new.bytes name; could_leave = old.may_leave name; may_leave = new.may_leave name }
+    record {
+      was = old.bytes name;
+      now = new.bytes name;
+      could_leave =
+          old.may_leave name;
+      may_leave = new.may_leave name;
+    }
 
 -- what became of the file on a disk
 abbrev pub change_on : {D : Type 0} → Ghosts D → D → D → Change
 change_on disks old new =
-    record { was = disks.seen old; now = disks.seen new; could_leave = disks.may_leave old; may_leave = disks.may_leave new }
+    record {
+      was = disks.seen old;
+      now = disks.seen new;
+      could_leave =
+          disks.may_leave old;
+      may_leave = disks.may_leave new;
+    }
 
 -- what the file is, or a crash may make of it
 abbrev pub MayBe : Change → List ℕ → Type 0
@@ -51,7 +63,8 @@ Stay old new = IfKept new ((name : List ℕ) → IsAsItWas (change_of old new na
 
 -- with all but this one
 abbrev pub OthersStay : Files → Files → List ℕ → Type 0
-OthersStay old new name = IfKept new ((other : List ℕ) → other ≢ name → IsAsItWas (change_of old new other))
+OthersStay old new name =
+    IfKept new ((other : List ℕ) → other ≢ name → IsAsItWas (change_of old new other))
 
 -- with all but these two
 abbrev pub AllButTwoStay : Files → Files → List ℕ → List ℕ → Type 0
@@ -68,8 +81,10 @@ pub record IsUntouched (old new : Files) : Type 0 where
   pub all : Stay old new
   pub out : IfKept new (new.out ≡ old.out)
 
--- the file of this name was opened, as a disk that has these bytes, and of which a crash may leave this
-pub record IsOpened (old new : Files) (name bytes : List ℕ) (may_leave : List ℕ → Type 0) : Type 0 where
+-- the file of this name was opened, as a disk that has these bytes, and of which a crash may leave
+-- this
+pub record IsOpened (old new : Files) (name bytes : List ℕ) (may_leave : List ℕ →
+    Type 0) : Type 0 where
   pub clean : IfKept new (IsTrue old.is_clean)
   pub all : Stay old new
   pub same : IfKept new (bytes ≡ old.bytes name)
@@ -77,7 +92,8 @@ pub record IsOpened (old new : Files) (name bytes : List ℕ) (may_leave : List 
   pub out : IfKept new (new.out ≡ Some name)
 
 -- it was closed, when its disk had these bytes, and a crash may leave this of it
-pub record IsClosed (old new : Files) (name bytes : List ℕ) (may_leave : List ℕ → Type 0) : Type 0 where
+pub record IsClosed (old new : Files) (name bytes : List ℕ) (may_leave : List ℕ →
+    Type 0) : Type 0 where
   pub same : new.bytes name ≡ bytes
   pub crash : (file : List ℕ) → new.may_leave name file → may_leave file
   pub others : (other : List ℕ) → other ≢ name → IsAsItWas (change_of old new other)

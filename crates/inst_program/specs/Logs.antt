@@ -1,9 +1,14 @@
 -- Why a log isn't opened or read. This hub's own choice.
-use Rattle.inst_options.specs.declared.log_fault.LogFault.TheVariants.{DiskFault, OtherSettings, NoLog, ToldAhead, LogInUse, BadBooks, LastOpening, DamagedLog, OtherDigest, ChangedLog}
+use Rattle.inst_options.specs.declared.log_fault.LogFault.TheVariants.{DiskFault, OtherSettings}
+use Rattle.inst_options.specs.declared.log_fault.LogFault.TheVariants.{NoLog, ToldAhead, LogInUse}
+use Rattle.inst_options.specs.declared.log_fault.LogFault.TheVariants.{BadBooks, LastOpening}
+use Rattle.inst_options.specs.declared.log_fault.LogFault.TheVariants.{DamagedLog, OtherDigest}
+use Rattle.inst_options.specs.declared.log_fault.LogFault.TheVariants.{ChangedLog}
 use Rattle.inst_program.specs.declared.logs.LogsError.{LogsError}
 use Rattle.inst_program.specs.declared.logs.LogsError.TheVariants.{Memory, Log}
 
--- memory was wanting, the disk failed, another program has it open (`in_use`), or it isn't there (`none`)
+-- memory was wanting, the disk failed, another program has it open (`in_use`), or it isn't there
+-- (`none`)
 abbrev pub IsLogsError : Type 0 → Type 0 → LogsError → Type 0
 IsLogsError in_use none Memory = Unit {0}
 IsLogsError in_use none (Log DiskFault) = Unit {0}

@@ -1,6 +1,7 @@
--- What the program leaves, by its exit status: `t` is what its reader and its writer had and have, `old` and `new` are the
--- files before and after. Exit statuses are this hub's own choice.
-use Rattle.std.specs.Prelude.{◌≡◌, ◌≢◌, ◌⊎◌, ◌++◌, ◌∷◌, [], ℕ, List, Option, Some, IfSome, IsTrue, codes}
+-- What the program leaves, by its exit status: `t` is what its reader and its writer had and have,
+-- `old` and `new` are the files before and after. Exit statuses are this hub's own choice.
+use Rattle.std.specs.Prelude.{◌≡◌, ◌≢◌, ◌⊎◌, ◌++◌, ◌∷◌, [], ℕ, List, Option, Some, IfSome, IsTrue}
+use Rattle.std.specs.Prelude.{codes}
 use Rattle.std.specs.Fmt.{decimal}
 use Rattle.std.specs.Io.KnownBytes.{Appends, IsAtEnd}
 use Rattle.clap.specs.Words.{Row, subcommand_of}
@@ -9,8 +10,8 @@ use Rattle.inst_base.specs.declared.fault.Fault.TheVariants.{BadSettings}
 use Rattle.inst_settings.specs.Settings.{HubSettings}
 use Rattle.inst_settings.specs.Lawful.{AreOfAHub, IsSettings}
 use Rattle.inst_lines.specs.Answers.{output}
-use Rattle.inst_lines.specs.Answering.{answering, opened}
-use Rattle.inst_lines.specs.Check.{TellsPart, told_of}
+use Rattle.inst_lines.specs.Answering.{hub_answerer, opened}
+use Rattle.inst_lines.specs.Check.{TellsPart, check_report}
 use Rattle.inst_lines.specs.Headline.{LinesKeepTheHeadline}
 use Rattle.inst_lines.specs.Lines.{lines_of}
 use Rattle.inst_lines.specs.Session.{FailsAfter}
@@ -24,11 +25,14 @@ use Rattle.inst_options.specs.declared.any_fault.AnyFault.{AnyFault}
 use Rattle.inst_options.specs.CommandLine.{command_line}
 use Rattle.inst_options.specs.Options.{HasAHub, Task}
 use Rattle.inst_options.specs.Options.Task.{Run, Play, Drill, Check}
-use Rattle.inst_options.specs.Asking.{AreChosen, AreWhole, AreWrong, AskForHelp, AskForTheLog, AskForTheNext, AskToExplain, NameABadLog, NameNoLog, NameTheLog, NameTheScript}
+use Rattle.inst_options.specs.Asking.{AreChosen, AreWhole, AreWrong, AskForHelp, AskForTheLog}
+use Rattle.inst_options.specs.Asking.{AskForTheNext, AskToExplain, NameABadLog, NameNoLog}
+use Rattle.inst_options.specs.Asking.{NameTheLog, NameTheScript}
 use Rattle.inst_logged.specs.Streams.{Streams}
 use Rattle.inst_program.specs.Files.{Files, IfKept, OthersStay, Stay, change_of}
 use Rattle.inst_program.specs.Script.{CannotTakeTheScript, HasScript, SparesTheScript}
-use Rattle.inst_program.specs.Keeping.{Carries, IsGoodLog, IsUncarried, IsUntaken, KeepsAFront, KeepsLines, KeptRun, SparesBoth, TellsOfTheLog}
+use Rattle.inst_program.specs.Keeping.{Carries, IsGoodLog, IsUncarried, IsUntaken, KeepsAFront}
+use Rattle.inst_program.specs.Keeping.{KeepsLines, KeptRun, SparesBoth, TellsOfTheLog}
 
 -- the exit status for a fault
 abbrev pub status_of : Fault → ℕ
@@ -53,11 +57,14 @@ pub record AskForADrill (words : List (List ℕ)) : Type 0 where
   pub script : Option (List ℕ)
   pub named : NameTheScript words script
 
--- the words are a whole command line for a hub, and choose no settings that one can have and do the task with
+-- the words are a whole command line for a hub, and choose no settings that one can have and do the
+-- task with
 pub record AreRefused (words : List (List ℕ)) : Type 0 where
   pub whole : AreWhole words
-  pub hub : (name : List ℕ) (rows : List Row) → subcommand_of command_line words ≡ Some (name, rows) → HasAHub name
-  pub none : (task : Task) (s : HubSettings) → AreChosen words task s → ¬ (AreOfAHub s × MayDo s task)
+  pub hub : (name : List ℕ) (rows : List Row) →
+      subcommand_of command_line words ≡ Some (name, rows) → HasAHub name
+  pub none : (task : Task) (s : HubSettings) → AreChosen words task s →
+      ¬ (AreOfAHub s × MayDo s task)
 
 -- what answers lines in this way is called
 abbrev pub task_of : Mode → Task
@@ -66,13 +73,15 @@ task_of mode.Play = Play
 
 -- a hub of these settings answered all that the reader had left, and wrote the replies alone
 -- headline: the run that these lines stand for keeps it
-pub record Answers (mode : Mode) (settings : HubSettings) (t : Streams) : Type 0 where
+pub record AnswersInput (mode : Mode) (settings : HubSettings) (t : Streams) : Type 0 where
   pub at_end : IsAtEnd t.left'
-  pub answered : IfSome t.left (λ bytes. Appends t.held t.held' (output (answering mode) (opened settings) (lines_of bytes)))
-  pub headline : IfSome t.left (λ bytes. LinesKeepTheHeadline (answering mode) settings (lines_of bytes))
+  pub answered : IfSome t.left (λ bytes.
+      Appends t.held t.held' (output (hub_answerer mode) (opened settings) (lines_of bytes)))
+  pub headline : IfSome t.left (λ bytes.
+      LinesKeepTheHeadline (hub_answerer mode) settings (lines_of bytes))
 
--- a hub of the settings that the words choose answered, as the words ask for, all that the reader had left, and wrote
--- the replies alone; they name no log
+-- a hub of the settings that the words choose answered, as the words ask for, all that the reader
+-- had left, and wrote the replies alone; they name no log
 pub record Serves (words : List (List ℕ)) (t : Streams) : Type 0 where
   pub mode : Mode
   pub settings : HubSettings
@@ -80,7 +89,7 @@ pub record Serves (words : List (List ℕ)) (t : Streams) : Type 0 where
   pub whole : AreWhole words
   pub chosen : AreChosen words (task_of mode) settings
   pub unkept : NameNoLog words
-  pub answers : Answers mode settings t
+  pub answers : AnswersInput mode settings t
 
 -- it was ended by this fault, as it answered lines
 pub record Fails (words : List (List ℕ)) (t : Streams) (fault : Fault) : Type 0 where
@@ -90,11 +99,13 @@ pub record Fails (words : List (List ℕ)) (t : Streams) (fault : Fault) : Type 
   pub whole : AreWhole words
   pub chosen : AreChosen words (task_of mode) settings
   pub unkept : NameNoLog words
-  pub after : FailsAfter (answering mode) (opened settings) t.held t.held' t.left t.left' fault
+  pub after : FailsAfter (hub_answerer mode) (opened settings) t.held t.held' t.left t.left' fault
 
--- all that the reader had left was read, and told of each of its lines that no hub of these settings takes, and that alone
+-- all that the reader had left was read, and told of each of its lines that no hub of these
+-- settings takes, and that alone
 abbrev pub Checks : HubSettings → Streams → Type 0
-Checks s t = IsAtEnd t.left' × IfSome t.left (λ bytes. Appends t.held t.held' (told_of s bytes))
+Checks s t =
+    IsAtEnd t.left' × IfSome t.left (λ bytes. Appends t.held t.held' (check_report s bytes))
 
 -- so it was for the settings that the words choose
 pub record HasChecked (words : List (List ℕ)) (t : Streams) : Type 0 where
@@ -116,15 +127,20 @@ pub record FailsToCheck (words : List (List ℕ)) (t : Streams) : Type 0 where
 abbrev pub FailsAtLines : List (List ℕ) → Streams → Fault → Type 0
 FailsAtLines words t fault = Fails words t fault ⊎ ((fault ≢ BadSettings) × FailsToCheck words t)
 
--- a hub of these settings was drilled in so many openings, each of which a run in one thread explains, and wrote what each
--- came to, and that alone; the script of the first run was written to the file that is named, if one is
-abbrev pub Drills : HubSettings → ℕ → Option (List ℕ) → Option (List ℕ) → Option (List ℕ) → Files → Files → Type 0
+-- a hub of these settings was drilled in so many openings, each of which a run in one thread
+-- explains, and wrote what each came to, and that alone; the script of the first run was written to
+-- the file that is named, if one is
+abbrev pub Drills : HubSettings → ℕ → Option (List ℕ) → Option (List ℕ) → Option (List ℕ) → Files →
+    Files → Type 0
 Drills s openings script held held' old new =
-    (left : DrillResult) × HasDrilledAll s openings held held' left × HasScript s left.steps.items script old new
+    (left : DrillResult) × HasDrilledAll s openings held held' left
+    × HasScript s left.steps.items script old new
 
 -- so it was for the settings that the words choose
 abbrev pub HasDrilled : List (List ℕ) → Streams → Files → Files → Type 0
-HasDrilled words t old new = (asked : AskForADrill words) × Drills asked.settings asked.openings asked.script t.held t.held' old new
+HasDrilled words t old new =
+    (asked : AskForADrill words)
+    × Drills asked.settings asked.openings asked.script t.held t.held' old new
 
 -- or it failed
 abbrev pub FailsToDrill : List (List ℕ) → Files → Files → Type 0
@@ -158,17 +174,20 @@ AskForALog words = (name : List ℕ) × AskForTheLog words name
 -- and it was told
 abbrev pub HasShown : List (List ℕ) → Streams → Files → Files → Type 0
 HasShown words t old new =
-    (name : List ℕ) × AskForTheLog words name × IfKept new (TellsOfTheLog (old.bytes name) t.held t.held')
+    (name : List ℕ) × AskForTheLog words name
+    × IfKept new (TellsOfTheLog (old.bytes name) t.held t.held')
 
 -- they ask for a log that begins with the books of another, and it does
 abbrev pub HasCarried : List (List ℕ) → Files → Files → Type 0
 HasCarried words old new =
-    (from : List ℕ) × (to : List ℕ) × (digest : Option (List ℕ)) × AskForTheNext words from to digest × Carries from to digest old new
+    (from : List ℕ) × (to : List ℕ) × (digest : Option (List ℕ))
+    × AskForTheNext words from to digest × Carries from to digest old new
 
 -- or it doesn't
 abbrev pub HasSparedBoth : List (List ℕ) → Files → Files → Type 0
 HasSparedBoth words old new =
-    (from : List ℕ) × (to : List ℕ) × (digest : Option (List ℕ)) × AskForTheNext words from to digest × SparesBoth from to old new
+    (from : List ℕ) × (to : List ℕ) × (digest : Option (List ℕ))
+    × AskForTheNext words from to digest × SparesBoth from to old new
 
 -- a fault's number and name, what it usually means, and what to do
 abbrev pub explanation_text : ℕ → List ℕ → List ℕ → List ℕ → List ℕ
@@ -184,7 +203,8 @@ Explains word held held' =
 
 -- the words ask for the explanation of a fault that there is
 abbrev pub AskForAnExplanation : List (List ℕ) → Type 0
-AskForAnExplanation words = (word : List ℕ) × AskToExplain words word × ((fault : AnyFault) × IsNamed word fault)
+AskForAnExplanation words =
+    (word : List ℕ) × AskToExplain words word × ((fault : AnyFault) × IsNamed word fault)
 
 -- they ask for one, and the writer got it
 abbrev pub HasExplained : List (List ℕ) → Streams → Type 0
@@ -192,10 +212,12 @@ HasExplained words t = (word : List ℕ) × AskToExplain words word × Explains 
 
 -- the words ask for the fault of a number or a name that no fault has
 abbrev pub NameNoFault : List (List ℕ) → Type 0
-NameNoFault words = (word : List ℕ) × AskToExplain words word × ((fault : AnyFault) → ¬ (IsNamed word fault))
+NameNoFault words =
+    (word : List ℕ) × AskToExplain words word × ((fault : AnyFault) → ¬ (IsNamed word fault))
 
--- What the words ask for is done: lines were answered, without a log or with one, or checked, a hub was drilled, it was told
--- what a log has, the next one was made, a fault was explained, or help was given. Nothing else happened to a file.
+-- What the words ask for is done: lines were answered, without a log or with one, or checked, a hub
+-- was drilled, it was told what a log has, the next one was made, a fault was explained, or help
+-- was given. Nothing else happened to a file.
 pub data Done (words : List (List ℕ)) (t : Streams) (old new : Files) : Type 0 where
   Answered : Serves words t → Stay old new → Done words t old new
   Kept : HasKept words t old new → Done words t old new
@@ -206,20 +228,25 @@ pub data Done (words : List (List ℕ)) (t : Streams) (old new : Files) : Type 0
   Explained : t.unread → HasExplained words t → Stay old new → Done words t old new
   Helped : t.unread → AskForHelp words → Stay old new → Done words t old new
 
--- Why it isn't done: the words are wrong, or they are whole and choose no settings that a hub can have and do the task
--- with, or describe a log badly, or name a fault that there isn't. Or another program has the log open, or it is none that
--- the run takes, or none at all, or the file for a script isn't empty. Then no file changes; and where the next log isn't
--- made, the two are spared.
+-- Why it isn't done: the words are wrong, or they are whole and choose no settings that a hub can
+-- have and do the task with, or describe a log badly, or name a fault that there isn't. Or another
+-- program has the log open, or it is none that the run takes, or none at all, or the file for a
+-- script isn't empty. Then no file changes; and where the next log isn't made, the two are spared.
 pub data Refusal (words : List (List ℕ)) (old new : Files) : Type 0 where
   Wrong : AreWrong words → Stay old new → Refusal words old new
   Unfit : AreRefused words → Stay old new → Refusal words old new
   BadLog : NameABadLog words → Stay old new → Refusal words old new
   Unnamed : NameNoFault words → Stay old new → Refusal words old new
-  InUse : (run : KeptRun) → AskForAKeptRun words run → new.in_use run.name → Stay old new → Refusal words old new
-  Untaken : (run : KeptRun) → AskForAKeptRun words run → IfKept new (IsUntaken run (old.bytes run.name)) → Stay old new → Refusal words old new
-  Unshown : (name : List ℕ) → AskForTheLog words name → IfKept new (¬ (IsGoodLog (old.bytes name))) → Stay old new → Refusal words old new
-  Unscripted : (asked : AskForADrill words) (name : List ℕ) → asked.script ≡ Some name → CannotTakeTheScript name old new → Stay old new → Refusal words old new
-  Uncarried : (from to : List ℕ) (digest : Option (List ℕ)) → AskForTheNext words from to digest → IsUncarried from to digest old new
+  InUse : (run : KeptRun) → AskForAKeptRun words run → new.in_use run.name → Stay old new →
+      Refusal words old new
+  Untaken : (run : KeptRun) → AskForAKeptRun words run →
+      IfKept new (IsUntaken run (old.bytes run.name)) → Stay old new → Refusal words old new
+  Unshown : (name : List ℕ) → AskForTheLog words name →
+      IfKept new (¬ (IsGoodLog (old.bytes name))) → Stay old new → Refusal words old new
+  Unscripted : (asked : AskForADrill words) (name : List ℕ) → asked.script ≡ Some name →
+      CannotTakeTheScript name old new → Stay old new → Refusal words old new
+  Uncarried : (from to : List ℕ) (digest : Option (List ℕ)) → AskForTheNext words from to digest →
+      IsUncarried from to digest old new
       → SparesBoth from to old new → Refusal words old new
 
 -- nothing was read or written
@@ -228,8 +255,8 @@ pub record Refused (words : List (List ℕ)) (t : Streams) (old new : Files) : T
   pub unwritten : t.unwritten
   pub why : Refusal words old new
 
--- It failed: before it began, as lines were answered or told of, without a log or with one, in a drill or an explanation, as
--- it was told what a log has, the next one was made, or help was given.
+-- It failed: before it began, as lines were answered or told of, without a log or with one, in a
+-- drill or an explanation, as it was told what a log has, the next one was made, or help was given.
 pub data Failed (words : List (List ℕ)) (t : Streams) (old new : Files) : Type 0 where
   Unbegun : t.unread → t.unwritten → Stay old new → Failed words t old new
   AtLines : (fault : Fault) → FailsAtLines words t fault → Stay old new → Failed words t old new

@@ -1,5 +1,5 @@
--- The script of a drill: lines for `play`, which answers them as a hub in one thread that leaves the same books. This hub's
--- own choice.
+-- The script of a drill: lines for `play`, which answers them as a hub in one thread that leaves
+-- the same books. This hub's own choice.
 use Rattle.std.specs.Prelude.{◌≡◌, ◌≢◌, ◌⊎◌, ℕ, List, [], ◌∷◌, ◌++◌, Option, Some, None}
 use Rattle.std.specs.List.{flat_map}
 use Rattle.sqlite_disk.specs.Disk.{Only}
@@ -18,15 +18,18 @@ pub record IsWritten (text : List ℕ) (c : Change) : Type 0 where
   pub text_is : c.now ≡ text
   pub durable : Only c.now c.may_leave
 
--- the script of these steps was written to the file that is named, if one is, and nothing else happened to a file
+-- the script of these steps was written to the file that is named, if one is, and nothing else
+-- happened to a file
 abbrev pub HasScript : HubSettings → List Step → Option (List ℕ) → Files → Files → Type 0
 HasScript s steps None old new = Stay old new
-HasScript s steps (Some name) old new = IfKept new (IsWritten (script_of s steps) (change_of old new name)) × OthersStay old new name
+HasScript s steps (Some name) old new =
+    IfKept new (IsWritten (script_of s steps) (change_of old new name)) × OthersStay old new name
 
 -- a file for the script that had a byte is as it was, and so are all other files
 abbrev pub SparesTheScript : Option (List ℕ) → Files → Files → Type 0
 SparesTheScript None old new = Stay old new
-SparesTheScript (Some name) old new = IfKept new (old.bytes name ≢ [] → IsAsItWas (change_of old new name)) × OthersStay old new name
+SparesTheScript (Some name) old new =
+    IfKept new (old.bytes name ≢ [] → IsAsItWas (change_of old new name)) × OthersStay old new name
 
 -- another program may have the file for the script open, or it has a byte
 abbrev pub CannotTakeTheScript : List ℕ → Files → Files → Type 0

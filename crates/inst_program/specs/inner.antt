@@ -1,5 +1,5 @@
 pub mod Carrying
-pub mod Ending
+pub mod ExitReason
 pub mod Drilling
 pub mod Finding
 pub mod Showing

@@ -1,18 +1,21 @@
 //! The next opening: the log that begins with the books of another one.
-ghost use Rattle.std.specs.Prelude.{◌≡◌, ◌<◌, List, ℕ, Option, option_map, length, IsTrue, IfErr, IfOk, OnOk, OnErr};
-ghost use Rattle.inst_log.specs.Layout.{recovered};
-ghost use Rattle.inst_world.specs.HasRun.{settings_of};
+ghost use Rattle.std.specs.Prelude.{◌≡◌, ◌<◌, List, ℕ, Option, option_map, length, IsTrue, IfErr};
+ghost use Rattle.std.specs.Prelude.{IfOk, OnOk, OnErr};
+ghost use Rattle.inst_log.specs.Layout.{recovered_lines};
+ghost use Rattle.inst_world.specs.HasRun.{world_settings};
 ghost use Rattle.inst_world.specs.NextOpening.{CanOpenFrom};
 ghost use Rattle.inst_logged.specs.Header.{header_from};
 ghost use Rattle.inst_logged.specs.Running.{HasKeptFaith, IsJustOpened, IsOnlyRead};
 ghost use Rattle.inst_logged.specs.declared.version.Version.TheVariants.{Two};
 ghost use Rattle.inst_program.specs.Files.{AllAreIn, IfKept, change_of, change_on};
-ghost use Rattle.inst_program.specs.Keeping.{AsksFor, Carries, CarriesBooks, IsBegun, IsSafe, IsUncarried, SparesBoth};
-ghost use Rattle.inst_program.specs.inner.Carrying.{IsHubClosed, IsRead, IsUnbegun, IsUnclosed, ReadsBeginning};
-ghost use Rattle.inst_program.specs.inner.Ending.{status_of_ending};
+ghost use Rattle.inst_program.specs.Keeping.{AsksFor, Carries, CarriesBooks, IsBegun, IsSafe};
+ghost use Rattle.inst_program.specs.Keeping.{IsUncarried, SparesBoth};
+ghost use Rattle.inst_program.specs.inner.Carrying.{IsHubClosed, IsRead, IsUnbegun, IsUnclosed};
+ghost use Rattle.inst_program.specs.inner.Carrying.{ReadsBeginning};
+ghost use Rattle.inst_program.specs.inner.ExitReason.{status_of_ending};
 ghost use Rattle.inst_program.specs.inner.Visiting.{IsVisited};
 
-use crate::ending::{Ending, ending_of, or_ending, told_ending};
+use crate::exit_reason::{ExitReason, ending_of, or_ending, told_ending};
 use crate::keeping::wanted_of;
 use crate::logs::Logs;
 use inst_agenda::Runner;
@@ -21,7 +24,7 @@ use inst_chain::Digest;
 use inst_journal::Journal;
 use inst_lines::Mode;
 use inst_log::read_lines;
-use inst_logged::{Beginning, LoggedError, NewHub, Version, read_beginning};
+use inst_logged::{LogHeader, LoggedError, NewHub, Version, read_beginning};
 use inst_options::LogFault;
 use inst_settings::Settings;
 use sqlite_disk::Disk;
@@ -36,9 +39,9 @@ struct Closed {
     journals: Vec<Journal>,
 }
 
-/// Closes the hub of the log of the first name, and makes the log of the second name, which begins with its books. One
-/// that begins so already is left as it is. The first log must have the mark with the digest, if one is given. Where it is
-/// damaged, `errors` gets how far it is right.
+/// Closes the hub of the log of the first name, and makes the log of the second name, which begins
+/// with its books. One that begins so already is left as it is. The first log must have the mark
+/// with the digest, if one is given. Where it is damaged, `errors` gets how far it is right.
 pub(crate) fn next<L: Logs, E: Write>(
     logs: &mut L,
     alloc: Global,
@@ -46,20 +49,23 @@ pub(crate) fn next<L: Logs, E: Write>(
     to: &str,
     digest: Option<&str>,
     errors: &mut E,
-) -> Result<(), Ending>
+) -> Result<(), ExitReason>
     requires none_out { AllAreIn (L.files logs.old) }
-    ensures ok { OnOk result (Carries from.now to.now (option_map (λ d. d.now) digest.entry) (L.files logs.old) (L.files logs.new)) }
+    ensures ok { OnOk result
+        (Carries from.now to.now (option_map (λ d.
+        d.now) digest.entry) (L.files logs.old) (L.files logs.new)) }
     ensures err { OnErr result (SparesBoth from.now to.now (L.files logs.old) (L.files logs.new)) }
     ensures refused { IfErr result (λ ending. status_of_ending ending ≡ 2
-        → IsUncarried from.now to.now (option_map (λ d. d.now) digest.entry) (L.files logs.old) (L.files logs.new)) }
+        → IsUncarried from.now to.now (option_map (λ d.
+        d.now) digest.entry) (L.files logs.old) (L.files logs.new)) }
     ensures all_in { AllAreIn (L.files logs.new) }
 {
     if !logs.has(from)? {
-        return Err(Ending::Log(LogFault::NoLog));
+        return Err(ExitReason::Log(LogFault::NoLog));
     }
     let wanted = wanted_of(digest)?;
     if from == to {
-        return Err(Ending::Log(LogFault::LogInUse));
+        return Err(ExitReason::Log(LogFault::LogInUse));
     }
     let closed = close(logs, alloc, from, wanted, errors)?;
     begin(logs, alloc, &closed, to)
@@ -72,16 +78,20 @@ fn close<L: Logs, E: Write>(
     from: &str,
     wanted: Option<Digest>,
     errors: &mut E,
-) -> Result<Closed, Ending>
+) -> Result<Closed, ExitReason>
     requires none_out { AllAreIn (L.files logs.old) }
-    ensures ok { IfOk result (λ closed. IfKept (L.files logs.new) ((digest : Option (List ℕ)) → AsksFor digest wanted
+    ensures ok { IfOk result (λ closed.
+        IfKept (L.files logs.new) ((digest : Option (List ℕ)) → AsksFor digest wanted
         → CarriesBooks digest ((d : L.Log) → IsTrue (L.Log.Disk.is_mixing d))
-        (header_from Two closed.mode (settings_of closed.runner.world) closed.journals.items)
+        (header_from Two closed.mode (world_settings closed.runner.world) closed.journals.items)
         (change_of (L.files logs.old) (L.files logs.new) from.now))) }
-    ensures can { IfOk result (λ closed. CanOpenFrom (settings_of closed.runner.world) closed.journals.items) }
-    ensures err { OnErr result (IsSafe ((d : L.Log) → IsTrue (L.Log.Disk.is_mixing d)) (IsTrue (L.files logs.new).is_clean)
+    ensures can { IfOk result (λ closed.
+        CanOpenFrom (world_settings closed.runner.world) closed.journals.items) }
+    ensures err { OnErr result (IsSafe ((d : L.Log) →
+        IsTrue (L.Log.Disk.is_mixing d)) (IsTrue (L.files logs.new).is_clean)
         (change_of (L.files logs.old) (L.files logs.new) from.now)) }
-    ensures refused { IfErr result (λ ending. status_of_ending ending ≡ 2 → IsUnclosed ((L.files logs.new).in_use from.now)
+    ensures refused { IfErr result (λ ending. status_of_ending ending ≡ 2 →
+        IsUnclosed ((L.files logs.new).in_use from.now)
         (IsTrue (L.files logs.new).is_clean) wanted ((L.files logs.old).bytes from.now)) }
     ensures visited { IsVisited (L.files logs.old) (L.files logs.new) from.now }
 {
@@ -97,15 +107,15 @@ fn close_on<D: Disk + Drop, E: Write>(
     wanted: Option<Digest>,
     mut disk: D,
     errors: &mut E,
-) -> (Result<Closed, Ending>, D)
+) -> (Result<Closed, ExitReason>, D)
     requires opened { IsJustOpened D.Disk disk }
     ensures { IsHubClosed D.Disk wanted disk result.1 result.0 }
 {
     match beginning_of(alloc, &mut disk) {
-        Ok(Some(Beginning { mode, settings, .. })) => {
+        Ok(Some(LogHeader { mode, settings, .. })) => {
             close_hub(alloc, mode, &settings, wanted, disk, errors)
         }
-        Ok(None) => (Err(Ending::Log(LogFault::NoLog)), disk),
+        Ok(None) => (Err(ExitReason::Log(LogFault::NoLog)), disk),
         Err(ending) => (Err(ending), disk),
     }
 }
@@ -118,7 +128,7 @@ fn close_hub<D: Disk + Drop, E: Write>(
     wanted: Option<Digest>,
     mut disk: D,
     errors: &mut E,
-) -> (Result<Closed, Ending>, D)
+) -> (Result<Closed, ExitReason>, D)
     requires opened { IsJustOpened D.Disk disk }
     requires read { HasKeptFaith D.Disk disk → IsRead mode settings.now (D.Disk.seen disk) }
     ensures { IsHubClosed D.Disk wanted disk result.1 result.0 }
@@ -139,23 +149,27 @@ fn close_hub<D: Disk + Drop, E: Write>(
             }),
             disk,
         ),
-        Ok(None) => (Err(Ending::Log(LogFault::LastOpening)), disk),
+        Ok(None) => (Err(ExitReason::Log(LogFault::LastOpening)), disk),
         Err(error) => (Err(told_ending(error, errors)), disk),
     }
 }
 
 /// Makes the log of this name, of a hub that opens with the books of the closed one.
-fn begin<L: Logs>(logs: &mut L, alloc: Global, closed: &Closed, to: &str) -> Result<(), Ending>
+fn begin<L: Logs>(logs: &mut L, alloc: Global, closed: &Closed, to: &str) -> Result<(), ExitReason>
     requires none_out { AllAreIn (L.files logs.old) }
-    requires can { CanOpenFrom (settings_of closed.now.runner.world) closed.now.journals.items }
+    requires can { CanOpenFrom (world_settings closed.now.runner.world) closed.now.journals.items }
     ensures ok { OnOk result (IfKept (L.files logs.new) (IsBegun
-        (header_from Two closed.now.mode (settings_of closed.now.runner.world) closed.now.journals.items)
+        (header_from Two closed.now.mode (world_settings closed.now.runner.world)
+        closed.now.journals.items)
         (change_of (L.files logs.old) (L.files logs.new) to.now))) }
-    ensures err { OnErr result (IsSafe ((d : L.Log) → IsTrue (L.Log.Disk.is_mixing d)) (IsTrue (L.files logs.new).is_clean)
+    ensures err { OnErr result (IsSafe ((d : L.Log) →
+        IsTrue (L.Log.Disk.is_mixing d)) (IsTrue (L.files logs.new).is_clean)
         (change_of (L.files logs.old) (L.files logs.new) to.now)) }
-    ensures refused { IfErr result (λ ending. status_of_ending ending ≡ 2 → IsUnbegun ((L.files logs.new).in_use to.now)
+    ensures refused { IfErr result (λ ending. status_of_ending ending ≡ 2 →
+        IsUnbegun ((L.files logs.new).in_use to.now)
         (IsTrue (L.files logs.new).is_clean)
-        (header_from Two closed.now.mode (settings_of closed.now.runner.world) closed.now.journals.items)
+        (header_from Two closed.now.mode (world_settings closed.now.runner.world)
+        closed.now.journals.items)
         ((L.files logs.old).bytes to.now)) }
     ensures visited { IsVisited (L.files logs.old) (L.files logs.new) to.now }
 {
@@ -178,18 +192,20 @@ fn begin_on<D: Disk + Drop>(
     settings: &Settings,
     journals: &[Journal],
     disk: D,
-) -> (Result<(), Ending>, D)
+) -> (Result<(), ExitReason>, D)
     requires journals { CanOpenFrom settings.now journals.now }
     requires opened { IsJustOpened D.Disk disk }
     ensures ok { OnOk result.0 (HasKeptFaith D.Disk result.1
         → IsBegun (header_from Two mode settings.now journals.now) (change_on D.Disk disk result.1)) }
-    ensures err { OnErr result.0 (IsSafe ((d : D) → IsTrue (D.Disk.is_mixing d)) (HasKeptFaith D.Disk result.1)
+    ensures err { OnErr result.0 (IsSafe ((d : D) →
+        IsTrue (D.Disk.is_mixing d)) (HasKeptFaith D.Disk result.1)
         (change_on D.Disk disk result.1)) }
-    ensures refused { IfErr result.0 (λ ending. status_of_ending ending ≡ 2 → IsUnbegun ⊥ (HasKeptFaith D.Disk result.1)
+    ensures refused { IfErr result.0 (λ ending. status_of_ending ending ≡ 2 →
+        IsUnbegun ⊥ (HasKeptFaith D.Disk result.1)
         (header_from Two mode settings.now journals.now) (D.Disk.seen disk)) }
 {
     let Ok(hub) = NewHub::open_from(alloc, Version::Two, mode, settings, journals) else {
-        return (Err(Ending::Fault(Fault::Memory)), disk);
+        return (Err(ExitReason::Fault(Fault::Memory)), disk);
     };
     let mut hub = hub.with_disk(alloc, disk);
     let outcome = or_ending(hub.open(alloc, None));
@@ -198,15 +214,16 @@ fn begin_on<D: Disk + Drop>(
 }
 
 /// What the first line of a log says. The log is left as it is.
-fn beginning_of<D: Disk>(alloc: Global, disk: &mut D) -> Result<Option<Beginning>, Ending>
+fn beginning_of<D: Disk>(alloc: Global, disk: &mut D) -> Result<Option<LogHeader>, ExitReason>
     requires usable { IsTrue (D.Disk.is_usable disk.old) }
-    ensures there { IfOk result (λ beginning. HasKeptFaith D.Disk disk.new → 0 < length (recovered (D.Disk.seen disk.old))) }
+    ensures there { IfOk result (λ beginning. HasKeptFaith D.Disk disk.new →
+        0 < length (recovered_lines (D.Disk.seen disk.old))) }
     ensures found { HasKeptFaith D.Disk disk.new → ReadsBeginning (D.Disk.seen disk.old) result }
     ensures read { IsOnlyRead D.Disk disk.old disk.new }
 {
     let first = read_lines(alloc, disk, 1).map_err(|error| ending_of(LoggedError::Log(error)))?;
     if first.is_empty() {
-        return Err(Ending::Log(LogFault::NoLog));
+        return Err(ExitReason::Log(LogFault::NoLog));
     }
     Ok(read_beginning(alloc, &first)?)
 }

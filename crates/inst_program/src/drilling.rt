@@ -1,5 +1,6 @@
 //! A drill, and the script of the run that explains its first opening.
-ghost use Rattle.std.specs.Prelude.{◌≡◌, ◌≢◌, [], true, false, IfErr, IfOk, OnOk, IsTrue, option_map};
+ghost use Rattle.std.specs.Prelude.{◌≡◌, ◌≢◌, [], true, false, IfErr, IfOk, OnOk, IsTrue};
+ghost use Rattle.std.specs.Prelude.{option_map};
 ghost use Rattle.sqlite_disk.specs.Disk.{Only};
 ghost use Rattle.inst_logged.specs.Running.{HasKeptFaith, IsOnlyRead};
 ghost use Rattle.inst_model.specs.Interleaving.{IsInterleaving};
@@ -8,9 +9,9 @@ ghost use Rattle.inst_program.specs.Files.{AllAreIn};
 ghost use Rattle.inst_program.specs.Program.{Drills};
 ghost use Rattle.inst_program.specs.Script.{script_of};
 ghost use Rattle.inst_program.specs.inner.Drilling.{IsDrillStopped, IsScripted, IsUndrilled};
-ghost use Rattle.inst_program.specs.inner.Ending.{status_of_ending};
+ghost use Rattle.inst_program.specs.inner.ExitReason.{status_of_ending};
 
-use crate::ending::Ending;
+use crate::exit_reason::ExitReason;
 use crate::logs::Logs;
 use inst_command::Step;
 use inst_drill::{DrillResult, Ungated, drill};
@@ -34,7 +35,8 @@ pub(crate) struct DrillTask {
     pub(crate) is_watched: bool,
 }
 
-/// Drills a hub, and writes the script to the file of this name, if one is named. The file must be new or empty.
+/// Drills a hub, and writes the script to the file of this name, if one is named. The file must be
+/// new or empty.
 pub(crate) fn drill_hub<H: Threads + Wait + Sync, L: Logs, W: Write, E: Write>(
     rt: &H,
     logs: &mut L,
@@ -43,11 +45,13 @@ pub(crate) fn drill_hub<H: Threads + Wait + Sync, L: Logs, W: Write, E: Write>(
     script: Option<&str>,
     writer: &mut W,
     errors: &mut E,
-) -> Result<(), Ending>
+) -> Result<(), ExitReason>
     requires none_out { AllAreIn (L.files logs.old) }
-    ensures ok { OnOk result (Drills asked.settings asked.openings (option_map (λ file. file.now) script.entry)
+    ensures ok { OnOk result
+        (Drills asked.settings asked.openings (option_map (λ file. file.now) script.entry)
         (W.contents writer.old) (W.contents writer.new) (L.files logs.old) (L.files logs.new)) }
-    ensures err { IfErr result (IsUndrilled asked (option_map (λ file. file.now) script.entry) (writer.new ≡ writer.old)
+    ensures err { IfErr result
+        (IsUndrilled asked (option_map (λ file. file.now) script.entry) (writer.new ≡ writer.old)
         (L.files logs.old) (L.files logs.new)) }
     ensures all_in { AllAreIn (L.files logs.new) }
 {
@@ -67,8 +71,10 @@ fn run_drill<H: Threads + Wait + Sync, W: Write, E: Write>(
     asked: DrillTask,
     writer: &mut W,
     errors: &mut E,
-) -> Result<DrillResult, Ending>
-    ensures ok { IfOk result (HasDrilledAll asked.settings asked.openings (W.contents writer.old) (W.contents writer.new)) }
+) -> Result<DrillResult, ExitReason>
+    ensures ok { IfOk result
+        (HasDrilledAll asked.settings asked.openings (W.contents writer.old)
+        (W.contents writer.new)) }
     ensures err { IfErr result (IsDrillStopped asked (writer.new ≡ writer.old)) }
 {
     let DrillTask {
@@ -82,7 +88,7 @@ fn run_drill<H: Threads + Wait + Sync, W: Write, E: Write>(
         rt, alloc, settings, transfers, openings, gate, writer, errors, is_watched,
     ) {
         Ok(left) => Ok(left),
-        Err(error) => Err(Ending::from(error)),
+        Err(error) => Err(ExitReason::from(error)),
     }
 }
 
@@ -95,7 +101,7 @@ fn drill_to_file<H: Threads + Wait + Sync, L: Logs, W: Write, E: Write>(
     path: &str,
     writer: &mut W,
     errors: &mut E,
-) -> Result<(), Ending>
+) -> Result<(), ExitReason>
     requires none_out { AllAreIn (L.files logs.old) }
     ensures ok { OnOk result (Drills asked.settings asked.openings (Some path.now)
         (W.contents writer.old) (W.contents writer.new) (L.files logs.old) (L.files logs.new)) }
@@ -117,15 +123,16 @@ fn drill_to<H: Threads + Wait + Sync, D: Disk + Drop, W: Write, E: Write>(
     mut disk: D,
     writer: &mut W,
     errors: &mut E,
-) -> (Result<(), Ending>, D)
+) -> (Result<(), ExitReason>, D)
     requires usable { IsTrue (D.Disk.is_usable disk) }
-    ensures { IsScripted D.Disk asked (W.contents writer.old) (W.contents writer.new) (writer.new ≡ writer.old)
+    ensures { IsScripted D.Disk asked (W.contents writer.old) (W.contents writer.new) (writer.new
+        ≡ writer.old)
         disk result.1 result.0 }
 {
     match is_empty(&mut disk) {
         Ok(true) => {}
-        Ok(false) => return (Err(Ending::ScriptNotEmpty), disk),
-        Err(_) => return (Err(Ending::Log(LogFault::DiskFault)), disk),
+        Ok(false) => return (Err(ExitReason::ScriptNotEmpty), disk),
+        Err(_) => return (Err(ExitReason::Log(LogFault::DiskFault)), disk),
     }
     match run_drill(rt, alloc, asked, writer, errors) {
         Ok(left) => {
@@ -139,8 +146,10 @@ fn drill_to<H: Threads + Wait + Sync, D: Disk + Drop, W: Write, E: Write>(
 /// Returns `true` if the file has no byte.
 fn is_empty<D: Disk>(disk: &mut D) -> io::Result<bool>
     requires usable { IsTrue (D.Disk.is_usable disk.old) }
-    ensures empty { IfOk result (λ yes. HasKeptFaith D.Disk disk.new → yes ≡ true → D.Disk.seen disk.old ≡ []) }
-    ensures some { IfOk result (λ yes. HasKeptFaith D.Disk disk.new → yes ≡ false → D.Disk.seen disk.old ≢ []) }
+    ensures empty { IfOk result (λ yes. HasKeptFaith D.Disk disk.new → yes ≡ true →
+        D.Disk.seen disk.old ≡ []) }
+    ensures some { IfOk result (λ yes. HasKeptFaith D.Disk disk.new → yes ≡ false →
+        D.Disk.seen disk.old ≢ []) }
     ensures read { IsOnlyRead D.Disk disk.old disk.new }
 {
     let len = disk.len()?;
@@ -148,7 +157,7 @@ fn is_empty<D: Disk>(disk: &mut D) -> io::Result<bool>
 }
 
 /// Writes the script of what a drill left to an empty file.
-fn write_script<D: Disk>(alloc: Global, disk: &mut D, left: &DrillResult) -> Result<(), Ending>
+fn write_script<D: Disk>(alloc: Global, disk: &mut D, left: &DrillResult) -> Result<(), ExitReason>
     requires usable { IsTrue (D.Disk.is_usable disk.old) }
     requires steps { IsInterleaving left.now.books.settings left.now.steps.items }
     ensures written { OnOk result (D.Disk.seen disk.old ≡ []
@@ -160,7 +169,7 @@ fn write_script<D: Disk>(alloc: Global, disk: &mut D, left: &DrillResult) -> Res
     let text = script_text(alloc, left.books.settings(), &left.steps)?;
     match write_synced(disk, &text) {
         Ok(()) => Ok(()),
-        Err(_) => Err(Ending::Log(LogFault::DiskFault)),
+        Err(_) => Err(ExitReason::Log(LogFault::DiskFault)),
     }
 }
 

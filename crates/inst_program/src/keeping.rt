@@ -1,19 +1,21 @@
 //! Runs with a log.
-ghost use Rattle.std.specs.Prelude.{◌≡◌, ◌<◌, [], true, length, option_map, IsTrue, IfOk, OnOk, IfErr, MatchBool};
-ghost use Rattle.inst_log.specs.Layout.{recovered};
+ghost use Rattle.std.specs.Prelude.{◌≡◌, ◌<◌, [], true, length, option_map, IsTrue, IfOk, OnOk};
+ghost use Rattle.std.specs.Prelude.{IfErr, MatchBool};
+ghost use Rattle.inst_log.specs.Layout.{recovered_lines};
 ghost use Rattle.inst_logged.specs.Header.{header};
 ghost use Rattle.inst_logged.specs.Logged.{HasBegun, IsUnbegun};
 ghost use Rattle.inst_logged.specs.Refused.{IsRefused};
-ghost use Rattle.inst_logged.specs.Running.{HasKeptFaith, IsJustOpened, IsLeft, IsOnlyRead};
+ghost use Rattle.inst_logged.specs.Running.{HasKeptFaith, IsJustOpened, HasSameFile, IsOnlyRead};
 ghost use Rattle.inst_logged.specs.Streams.{streams};
 ghost use Rattle.inst_logged.specs.declared.version.Version.TheVariants.{Two};
-ghost use Rattle.inst_program.specs.Files.{AllAreIn, IfKept, IsUntouched, OthersStay, change_of, change_on};
+ghost use Rattle.inst_program.specs.Files.{AllAreIn, IfKept, IsUntouched, OthersStay, change_of};
+ghost use Rattle.inst_program.specs.Files.{change_on};
 ghost use Rattle.inst_program.specs.Logs.{IsLogsError};
 ghost use Rattle.inst_program.specs.Keeping.{AsksFor, KeepsLines, kept_run};
-ghost use Rattle.inst_program.specs.inner.Ending.{status_of_ending, IsUnkept};
+ghost use Rattle.inst_program.specs.inner.ExitReason.{status_of_ending, IsUnkept};
 ghost use Rattle.inst_program.specs.inner.Finding.{FindsGood};
 
-use crate::ending::{Ending, told_ending};
+use crate::exit_reason::{ExitReason, told_ending};
 use crate::logs::{Logs, LogsError};
 use crate::summary::sum_up;
 use inst_agenda::Runner;
@@ -27,12 +29,14 @@ use sqlite_disk::Disk;
 use std::alloc::{AllocError, Global};
 use std::io::{Read, Write};
 
-/// Answers the lines of `reader`, each once it is in the log, and sums up where `sums` says so. Where the log begins with
-/// other settings, `errors` gets those and the ones that are given; where the log is damaged, how far it is right.
+/// Answers the lines of `reader`, each once it is in the log, and sums up where `sums` says so.
+/// Where the log begins with other settings, `errors` gets those and the ones that are given; where
+/// the log is damaged, how far it is right.
 ///
 /// # Errors
 ///
-/// `NoLog` if the log must be there and no file of that name is, or an empty one; none is made then.
+/// `NoLog` if the log must be there and no file of that name is, or an empty one; none is made
+/// then.
 pub(crate) fn keep<L: Logs, R: Read, W: Write, E: Write>(
     logs: &mut L,
     alloc: Global,
@@ -43,20 +47,23 @@ pub(crate) fn keep<L: Logs, R: Read, W: Write, E: Write>(
     reader: &mut R,
     writer: &mut W,
     errors: &mut E,
-) -> Result<(), Ending>
+) -> Result<(), ExitReason>
     requires none_out { AllAreIn (L.files logs.old) }
     ensures ok { OnOk result (KeepsLines (kept_run mode settings.now log.entry)
         (streams R.Read W.Write reader.old reader.new writer.old writer.new)
-        (IsTrue (L.files logs.new).is_clean) (change_of (L.files logs.old) (L.files logs.new) log.entry.path.now)) }
+        (IsTrue (L.files logs.new).is_clean)
+        (change_of (L.files logs.old) (L.files logs.new) log.entry.path.now)) }
     ensures err { IfErr result (λ ending. IsUnkept (kept_run mode settings.now log.entry)
-        (streams R.Read W.Write reader.old reader.new writer.old writer.new) (L.files logs.old).mixes
-        ((L.files logs.new).in_use log.entry.path.now) (IsTrue (L.files logs.new).is_clean) (change_of (L.files logs.old) (L.files logs.new) log.entry.path.now)
+        (streams R.Read W.Write reader.old reader.new writer.old writer.new)
+        (L.files logs.old).mixes
+        ((L.files logs.new).in_use log.entry.path.now) (IsTrue (L.files logs.new).is_clean)
+        (change_of (L.files logs.old) (L.files logs.new) log.entry.path.now)
         (status_of_ending ending)) }
     ensures others { OthersStay (L.files logs.old) (L.files logs.new) log.entry.path.now }
     ensures all_in { AllAreIn (L.files logs.new) }
 {
     if is_missing(logs, log)? {
-        return Err(Ending::Log(LogFault::NoLog));
+        return Err(ExitReason::Log(LogFault::NoLog));
     }
     let wanted = wanted_of(log.digest)?;
     let disk = logs.open(log.path)?;
@@ -96,14 +103,15 @@ fn keep_on<D: Disk + Drop, R: Read, W: Write, E: Write>(
     reader: &mut R,
     writer: &mut W,
     errors: &mut E,
-) -> (Result<Runner, Ending>, D)
+) -> (Result<Runner, ExitReason>, D)
     requires wanted { AsksFor (option_map (λ d. d.now) log.digest) wanted }
     requires opened { IsJustOpened D.Disk disk }
     ensures ok { OnOk result.0 (KeepsLines (kept_run mode settings.now log.entry)
         (streams R.Read W.Write reader.old reader.new writer.old writer.new)
         (HasKeptFaith D.Disk result.1) (change_on D.Disk disk result.1)) }
     ensures err { IfErr result.0 (λ ending. IsUnkept (kept_run mode settings.now log.entry)
-        (streams R.Read W.Write reader.old reader.new writer.old writer.new) ((d : D) → IsTrue (D.Disk.is_mixing d))
+        (streams R.Read W.Write reader.old reader.new writer.old writer.new) ((d : D) →
+        IsTrue (D.Disk.is_mixing d))
         ⊥ (HasKeptFaith D.Disk result.1) (change_on D.Disk disk result.1) (status_of_ending ending)) }
 {
     let hub = match find_hub(alloc, mode, settings, log.resume, &mut disk) {
@@ -133,12 +141,16 @@ fn find_hub<D: Disk>(
     disk: &mut D,
 ) -> Result<NewHub, LoggedError>
     requires usable { IsTrue (D.Disk.is_usable disk.old) }
-    ensures begun { IfOk result (λ hub. HasBegun hub.version mode settings.now hub.heading.batch.items hub.answers
+    ensures begun { IfOk result (λ hub.
+        HasBegun hub.version mode settings.now hub.heading.batch.items hub.answers
         × IsUnbegun hub.version hub.heading.batch.items hub.heading.marker hub.intake) }
-    ensures first { IfOk result (λ hub. HasKeptFaith D.Disk disk.new → recovered (D.Disk.seen disk.old) ≡ []
+    ensures first { IfOk result (λ hub. HasKeptFaith D.Disk disk.new →
+        recovered_lines (D.Disk.seen disk.old) ≡ []
         → (hub.version ≡ Two) × (hub.heading.batch.items ≡ header Two mode settings.now)) }
-    ensures there { OnOk result (HasKeptFaith D.Disk disk.new → must_be_there ≡ true → 0 < length (recovered (D.Disk.seen disk.old))) }
-    ensures found { HasKeptFaith D.Disk disk.new → FindsGood mode settings.now must_be_there (D.Disk.seen disk.old) result }
+    ensures there { OnOk result (HasKeptFaith D.Disk disk.new → must_be_there ≡ true →
+        0 < length (recovered_lines (D.Disk.seen disk.old))) }
+    ensures found { HasKeptFaith D.Disk disk.new →
+        FindsGood mode settings.now must_be_there (D.Disk.seen disk.old) result }
     ensures read { IsOnlyRead D.Disk disk.old disk.new }
 {
     if is_absent(alloc, must_be_there, disk)? {
@@ -151,8 +163,8 @@ fn find_hub<D: Disk>(
 fn is_absent<D: Disk>(alloc: Global, must_be_there: bool, disk: &mut D) -> Result<bool, LoggedError>
     requires usable { IsTrue (D.Disk.is_usable disk.old) }
     ensures absent { IfOk result (λ absent. HasKeptFaith D.Disk disk.new
-        → MatchBool absent ((must_be_there ≡ true) × (recovered (D.Disk.seen disk.old) ≡ []))
-        (must_be_there ≡ true → 0 < length (recovered (D.Disk.seen disk.old)))) }
+        → MatchBool absent ((must_be_there ≡ true) × (recovered_lines (D.Disk.seen disk.old) ≡ []))
+        (must_be_there ≡ true → 0 < length (recovered_lines (D.Disk.seen disk.old)))) }
     ensures unrefused { IfErr result (λ error. ¬ IsRefused error) }
     ensures read { IsOnlyRead D.Disk disk.old disk.new }
 {
@@ -177,7 +189,8 @@ pub(crate) fn wanted_of(digest: Option<&str>) -> Result<Option<Digest>, AllocErr
     }
 }
 
-/// Tells what this error of a run is about: the settings, where its log begins with others. The log is left as it is.
+/// Tells what this error of a run is about: the settings, where its log begins with others. The log
+/// is left as it is.
 fn tell_failure<D: Disk, E: Write>(
     alloc: Global,
     mode: Mode,
@@ -186,7 +199,7 @@ fn tell_failure<D: Disk, E: Write>(
     disk: &mut D,
     errors: &mut E,
 )
-    ensures left { IsLeft D.Disk disk.old disk.new }
+    ensures left { HasSameFile D.Disk disk.old disk.new }
     ensures clean { HasKeptFaith D.Disk disk.new → HasKeptFaith D.Disk disk.old }
 {
     if let LoggedError::Log(LogError::OtherSettings) = error {
@@ -194,7 +207,8 @@ fn tell_failure<D: Disk, E: Write>(
     }
 }
 
-/// Tells with which settings a log begins, and which are given. Nothing is told where that can't be read.
+/// Tells with which settings a log begins, and which are given. Nothing is told where that can't be
+/// read.
 fn tell_settings<D: Disk, E: Write>(
     alloc: Global,
     mode: Mode,
@@ -202,7 +216,7 @@ fn tell_settings<D: Disk, E: Write>(
     disk: &mut D,
     errors: &mut E,
 )
-    ensures left { IsLeft D.Disk disk.old disk.new }
+    ensures left { HasSameFile D.Disk disk.old disk.new }
     ensures clean { HasKeptFaith D.Disk disk.new → HasKeptFaith D.Disk disk.old }
 {
     if !disk.may_be_used() {
@@ -219,8 +233,8 @@ fn tell_settings<D: Disk, E: Write>(
     }
 }
 
-/// Returns the first line of a log, which is given with its newline, as it is told: whole if a log can begin so and each
-/// byte is printable.
+/// Returns the first line of a log, which is given with its newline, as it is told: whole if a log
+/// can begin so and each byte is printable.
 fn shown_line(alloc: Global, first: &[u8]) -> Result<String, AllocError> {
     let line = first.strip_suffix(b"\n").unwrap_or(first);
     match read_beginning(alloc, line)? {

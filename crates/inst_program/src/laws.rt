@@ -1,5 +1,6 @@
 //! What holds of any log and any run. A law is a function without a body whose contract says it.
-ghost use Rattle.inst_program.specs.Bounds.{AreBoundsOfRuns, AreBoundsOfSettings, AreBoundsOfValues};
+ghost use Rattle.inst_program.specs.Bounds.{AreBoundsOfRuns, AreBoundsOfSettings};
+ghost use Rattle.inst_program.specs.Bounds.{AreBoundsOfValues};
 ghost use Rattle.inst_program.specs.Keeping.{AnUntakenLogIsNotGood};
 
 /// No log that a run refuses is one that is good for it: a good log is never refused.

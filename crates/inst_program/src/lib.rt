@@ -1,10 +1,10 @@
-//! The program but for the machine's files and streams: what the words ask for is done, with a log or without, and comes
-//! to an exit status.
+//! The program but for the machine's files and streams: what the words ask for is done, with a log
+//! or without, and comes to an exit status.
 #![tactic(auto)]
 
 mod carrying;
 mod drilling;
-mod ending;
+mod exit_reason;
 mod keeping;
 mod laws;
 mod logs;

@@ -1,7 +1,9 @@
 //! Where the logs of runs are.
-ghost use Rattle.std.specs.Prelude.{◌≡◌, Some, false, [], List, ℕ, IsTrue, IfErr, IfOk, MatchResult};
+ghost use Rattle.std.specs.Prelude.{◌≡◌, Some, false, [], List, ℕ, IsTrue, IfErr, IfOk};
+ghost use Rattle.std.specs.Prelude.{MatchResult};
 ghost use Rattle.sqlite_disk.specs.Disk.{Only};
-ghost use Rattle.inst_program.specs.Files.{AllAreIn, Files, IfKept, IsClosed, IsOpened, IsUntouched};
+ghost use Rattle.inst_program.specs.Files.{AllAreIn, Files, IfKept, IsClosed, IsOpened};
+ghost use Rattle.inst_program.specs.Files.{IsUntouched};
 ghost use Rattle.inst_program.specs.Logs.{IsLogsError};
 
 use inst_options::LogFault;
@@ -17,8 +19,8 @@ pub enum LogsError {
     Log(LogFault),
 }
 
-/// The files of the machine. Logs are opened by their names, one after another: what a log has when it is closed is what
-/// its file has from then on.
+/// The files of the machine. Logs are opened by their names, one after another: what a log has when
+/// it is closed is what its file has from then on.
 pub trait Logs {
     type Log: Disk + Drop;
 
@@ -27,12 +29,14 @@ pub trait Logs {
     /// What the files have, and which one is out.
     ghost files: { Self → Files };
 
-    /// Opens the log of this name for this program alone, and makes the file if it isn't there. What is read then is
-    /// what is on the disk. Close it before the next is opened.
+    /// Opens the log of this name for this program alone, and makes the file if it isn't there.
+    /// What is read then is what is on the disk. Close it before the next is opened.
     fn open(&mut self, path: &str) -> Result<Self::Log, LogsError>
         requires { AllAreIn (files self.old) }
-        ensures opened { MatchResult result (λ log. IsOpened (files self.old) (files self.new) path.now
-            (Self.Log.Disk.seen log) (Self.Log.Disk.may_leave log)) (λ _. IsUntouched (files self.old) (files self.new)) }
+        ensures opened { MatchResult result (λ log.
+            IsOpened (files self.old) (files self.new) path.now
+            (Self.Log.Disk.seen log) (Self.Log.Disk.may_leave log)) (λ _.
+            IsUntouched (files self.old) (files self.new)) }
         ensures cause { IfErr result (IsLogsError ((files self.new).in_use path.now) ⊥) }
         ensures usable { IfOk result (λ log. IsTrue (Self.Log.Disk.is_usable log)) }
         ensures known { IfOk result (λ log. IsTrue (Self.Log.Disk.is_clean log)
@@ -41,10 +45,13 @@ pub trait Logs {
     /// Closes the log that is open.
     fn close(&mut self, log: Self::Log)
         ensures closed { IfKept (files self.new) ((name : List ℕ) → (files self.old).out ≡ Some name
-            → IsClosed (files self.old) (files self.new) name (Self.Log.Disk.seen log) (Self.Log.Disk.may_leave log)) }
-        ensures clean { IfKept (files self.new) (IsTrue (files self.old).is_clean × IsTrue (Self.Log.Disk.is_clean log)) };
+            → IsClosed (files self.old) (files self.new) name (Self.Log.Disk.seen log)
+            (Self.Log.Disk.may_leave log)) }
+        ensures clean { IfKept (files self.new) (IsTrue (files self.old).is_clean
+            × IsTrue (Self.Log.Disk.is_clean log)) };
 
-    /// Returns a reader of the log of this name. It takes no lock, writes nothing and makes no file.
+    /// Returns a reader of the log of this name. It takes no lock, writes nothing and makes no
+    /// file.
     ///
     /// # Errors
     ///
@@ -52,15 +59,18 @@ pub trait Logs {
     fn read(&mut self, path: &str) -> Result<Self::Reader, LogsError>
         ensures bytes { IfOk result (λ reader. IfKept (files self.new)
             (Self.Reader.Read.remaining reader ≡ Some ((files self.new).bytes path.now))) }
-        ensures cause { IfErr result (IsLogsError ⊥ (IfKept (files self.new) ((files self.new).bytes path.now ≡ []))) }
+        ensures cause { IfErr result
+            (IsLogsError ⊥ (IfKept (files self.new) ((files self.new).bytes path.now ≡ []))) }
         ensures untouched { IsUntouched (files self.old) (files self.new) };
 
     /// Returns `true` if a file of this name is there.
     fn has(&mut self, path: &str) -> Result<bool, LogsError>
-        ensures none { IfOk result (λ there. IfKept (files self.new) (there ≡ false → (files self.new).bytes path.now ≡ [])) }
+        ensures none { IfOk result (λ there.
+            IfKept (files self.new) (there ≡ false → (files self.new).bytes path.now ≡ [])) }
         ensures cause { IfErr result (IsLogsError ⊥ ⊥) }
         ensures untouched { IsUntouched (files self.old) (files self.new) };
 
     /// Where this is so, a log's disk leaves each byte of a torn write old or new.
-    ghost mixing: { (logs : Self) → (files logs).mixes → (log : Self.Log) → IsTrue (Self.Log.Disk.is_mixing log) };
+    ghost mixing: { (logs : Self) → (files logs).mixes → (log : Self.Log) →
+        IsTrue (Self.Log.Disk.is_mixing log) };
 }

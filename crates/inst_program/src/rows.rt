@@ -1,5 +1,5 @@
-//! A worked drill, computed from the definitions. A function without a body has the row for its contract, so that the
-//! check computes it.
+//! A worked drill, computed from the definitions. A function without a body has the row for its
+//! contract, so that the check computes it.
 ghost use Rattle.inst_options.specs.Rows.{small_settings};
 ghost use Rattle.inst_options.specs.Options.Task.{Drill};
 ghost use Rattle.inst_program.specs.Program.{MayDo};

@@ -4,10 +4,10 @@ ghost use Rattle.std.specs.Io.KnownBytes.{Appends};
 ghost use Rattle.inst_logged.specs.declared.version.Version.TheVariants.{Two};
 ghost use Rattle.inst_program.specs.Files.{IfKept, IsUntouched};
 ghost use Rattle.inst_program.specs.Keeping.{IsGoodLog, TellsOfTheLog, digest_line, log_text};
-ghost use Rattle.inst_program.specs.inner.Ending.{status_of_ending};
+ghost use Rattle.inst_program.specs.inner.ExitReason.{status_of_ending};
 ghost use Rattle.inst_program.specs.inner.Showing.{HasDigest};
 
-use crate::ending::{Ending, ending_of, tell_damage};
+use crate::exit_reason::{ExitReason, ending_of, tell_damage};
 use crate::logs::Logs;
 use inst_base::Fault;
 use inst_chain::{Digest, Prefix, Summary, summarize};
@@ -16,18 +16,19 @@ use inst_options::LogFault;
 use std::alloc::{AllocError, Global};
 use std::io::Write;
 
-/// Tells with which settings the log of this name begins, how many lines it has behind them and its books, and the digest
-/// of its last mark, if it has marks. The log is only read, also while a hub runs on it. Where it is damaged, `errors`
-/// gets how far it is right.
+/// Tells with which settings the log of this name begins, how many lines it has behind them and its
+/// books, and the digest of its last mark, if it has marks. The log is only read, also while a hub
+/// runs on it. Where it is damaged, `errors` gets how far it is right.
 pub(crate) fn show<L: Logs, W: Write, E: Write>(
     logs: &mut L,
     alloc: Global,
     path: &str,
     writer: &mut W,
     errors: &mut E,
-) -> Result<(), Ending>
+) -> Result<(), ExitReason>
     ensures ok { OnOk result (IfKept (L.files logs.new)
-        (TellsOfTheLog ((L.files logs.old).bytes path.now) (W.contents writer.old) (W.contents writer.new))) }
+        (TellsOfTheLog ((L.files logs.old).bytes path.now) (W.contents writer.old)
+        (W.contents writer.new))) }
     ensures err { IfErr result (λ ending. status_of_ending ending ≡ 2 → (writer.new ≡ writer.old)
         × IfKept (L.files logs.new) (¬ (IsGoodLog ((L.files logs.old).bytes path.now)))) }
     ensures untouched { IsUntouched (L.files logs.old) (L.files logs.new) }
@@ -38,14 +39,14 @@ pub(crate) fn show<L: Logs, W: Write, E: Write>(
         Err(error) => return Err(ending_of(LoggedError::Log(error))),
     };
     let Some(beginning) = read_beginning(alloc, &summary.first)? else {
-        return Err(Ending::Log(LogFault::NoLog));
+        return Err(ExitReason::Log(LogFault::NoLog));
     };
     let version = version_of(alloc, &summary.first)?.unwrap_or(Version::Two);
     let digest = match digest_of(version, &summary.chain) {
         Ok(digest) => digest,
         Err(right) => {
             tell_damage(right, errors);
-            return Err(Ending::Log(LogFault::DamagedLog));
+            return Err(ExitReason::Log(LogFault::DamagedLog));
         }
     };
     let lines = summary
@@ -78,15 +79,16 @@ fn tell<W: Write>(
     lines: u64,
     digest: Option<Digest>,
     writer: &mut W,
-) -> Result<(), Ending>
-    ensures ok { OnOk result (Appends (W.contents writer.old) (W.contents writer.new) (log_text first.now lines digest)) }
+) -> Result<(), ExitReason>
+    ensures ok { OnOk result
+        (Appends (W.contents writer.old) (W.contents writer.new) (log_text first.now lines digest)) }
     ensures err { IfErr result (λ ending. status_of_ending ending ≢ 2) }
 {
     let first = String::from_utf8_lossy(alloc, first)?;
     let digest = digest_line(alloc, digest)?;
     match write!(writer, "settings {first}\nlines {lines}\n{digest}") {
         Ok(()) => Ok(()),
-        Err(_) => Err(Ending::Fault(Fault::WriteFault)),
+        Err(_) => Err(ExitReason::Fault(Fault::WriteFault)),
     }
 }
 

@@ -4,12 +4,12 @@ ghost use Rattle.inst_settings.specs.Settings.{is_participant};
 
 use inst_agenda::Runner;
 use inst_base::Moment;
-use inst_command::{Answer, Ask, Command, Reply, Step};
+use inst_command::{Answer, Ask, Command, Query, Reply, Step};
 use inst_lines::Counts;
 use std::io::Write;
 
-/// Tells how many lines there were, where they were counted, and what each participant would be answered that asks for
-/// its position, in cents. What `errors` doesn't take is lost.
+/// Tells how many lines there were, where they were counted, and what each participant would be
+/// answered that asks for its position, in cents. What `errors` doesn't take is lost.
 pub(crate) fn sum_up<E: Write>(runner: &mut Runner, counts: Option<Counts>, errors: &mut E) {
     if let Some(counts) = counts {
         let _ = writeln!(errors, "lines {} refused {}", counts.lines, counts.refused);
@@ -30,7 +30,7 @@ fn tell_position<E: Write>(runner: &mut Runner, who: u8, errors: &mut E)
     let Ok(at) = Moment::new(base, base) else {
         return;
     };
-    let command = Command::Position;
+    let command = Command::Query(Query::Position);
     let answer = runner.step(&Step::Ask(Ask { who, command, at }));
     let (
         Some(code),

@@ -1,18 +1,20 @@
 //! What the program does with the words of its command line, and which exit status that comes to.
 ghost use Rattle.std.specs.Prelude.{◌≡◌, ◌≢◌, ◌⊎◌, ℕ, List, map, string_bytes, OnOk, IfErr};
 ghost use Rattle.std.specs.IoError.{error_kind};
-ghost use Rattle.inst_lines.specs.Answering.{answering, opened};
+ghost use Rattle.inst_lines.specs.Answering.{hub_answerer, opened};
 ghost use Rattle.inst_lines.specs.Session.{FailsAfter};
 ghost use Rattle.inst_logged.specs.Streams.{streams};
 ghost use Rattle.inst_options.specs.Asking.{IsWished};
 ghost use Rattle.inst_program.specs.Files.{AllAreIn};
-ghost use Rattle.inst_program.specs.Program.{status_of, Answers, Checks, Done, Ends, Explains};
-ghost use Rattle.inst_program.specs.inner.Ending.{IsErrorStatus, status_of_error, status_of_ending};
-ghost use Rattle.inst_program.specs.inner.Ending.{IsAnswered, IsUnanswered, IsUnchecked, IsUndone, IsUnexplained};
+ghost use Rattle.inst_program.specs.Program.{status_of, AnswersInput, Checks, Done, Ends, Explains};
+ghost use Rattle.inst_program.specs.inner.ExitReason.{IsErrorStatus, status_of_error};
+ghost use Rattle.inst_program.specs.inner.ExitReason.{status_of_ending};
+ghost use Rattle.inst_program.specs.inner.ExitReason.{IsAnswered, IsUnanswered, IsUnchecked};
+ghost use Rattle.inst_program.specs.inner.ExitReason.{IsUndone, IsUnexplained};
 
 use crate::carrying::next;
 use crate::drilling::{DrillTask, drill_hub};
-use crate::ending::Ending;
+use crate::exit_reason::ExitReason;
 use crate::keeping::keep;
 use crate::logs::Logs;
 use crate::showing::show;
@@ -20,25 +22,28 @@ use crate::summary::sum_up;
 use clap::error::ErrorKind;
 use inst_base::Fault;
 use inst_lines::{Mode, check_lines, serve_lines};
-use inst_options::{AnyFault, BadOption, LogOptions, Wish, WordsError, excerpt, fault_of, wished};
+use inst_options::{
+    AnyFault, BadOption, Invocation, LogOptions, WordsError, excerpt, fault_of, wished,
+};
 use inst_settings::Settings;
 use std::alloc::Global;
 use std::io::{self, ErrorKind as IoErrorKind, Read, Write};
 use std::sync::Wait;
 use std::thread::Threads;
 
-/// Does what the words of the command line say, the program's name first. `run` answers each line of
-/// `reader`, a command, by one line to `writer`, and follows up all transfers after it; `play` does the
-/// same for a script, where each line is one step and nothing happens by itself. They have the same options; with a
-/// log, each line is in it before its reply is written, and the lines that it has come first. `log` tells what one has,
-/// and `next` begins one with the books of another.
+/// Does what the words of the command line say, the program's name first. `run` answers each line
+/// of `reader`, a command, by one line to `writer`, and follows up all transfers after it; `play`
+/// does the same for a script, where each line is one step and nothing happens by itself. They have
+/// the same options; with a log, each line is in it before its reply is written, and the lines that
+/// it has come first. `log` tells what one has, and `next` begins one with the books of another.
 /// `check` tells which command lines of `reader` no hub of these settings takes, and answers none.
-/// `drill` reads nothing, and drills a hub of these settings by threads: `writer` gets what each opening came to, and
-/// `errors` how far it is, where `is_watched`. `explain` tells what a fault usually means.
-/// Answers the exit status: 0 where what was asked for is done, 2 for words or settings that are wrong and for a log
-/// that isn't taken, 3 for what failed, also for a help text that can't be written, and where memory was wanting before it
-/// began. What is wrong is told on `errors`: a text, or one line `fault <number> <name>`. What `errors` doesn't take is
-/// lost. Its time is in the bytes of the input and of the log.
+/// `drill` reads nothing, and drills a hub of these settings by threads: `writer` gets what each
+/// opening came to, and `errors` how far it is, where `is_watched`. `explain` tells what a fault
+/// usually means. Answers the exit status: 0 where what was asked for is done, 2 for words or
+/// settings that are wrong and for a log that isn't taken, 3 for what failed, also for a help text
+/// that can't be written, and where memory was wanting before it began. What is wrong is told on
+/// `errors`: a text, or one line `fault <number> <name>`. What `errors` doesn't take is lost. Its
+/// time is in the bytes of the input and of the log.
 pub fn program<H: Threads + Wait + Sync, L: Logs, R: Read, W: Write, E: Write>(
     rt: &H,
     logs: &mut L,
@@ -51,7 +56,8 @@ pub fn program<H: Threads + Wait + Sync, L: Logs, R: Read, W: Write, E: Write>(
 ) -> u8
     requires none_out { AllAreIn (L.files logs.old) }
     // What the words ask for is done, is refused, or has failed.
-    ensures ends { Ends (map string_bytes words.items) (streams R.Read W.Write reader.old reader.new writer.old writer.new)
+    ensures ends { Ends (map string_bytes words.items)
+        (streams R.Read W.Write reader.old reader.new writer.old writer.new)
         (L.files logs.old) (L.files logs.new) result }
     // Each log that was opened is closed.
     ensures all_in { AllAreIn (L.files logs.new) }
@@ -65,7 +71,8 @@ pub fn program<H: Threads + Wait + Sync, L: Logs, R: Read, W: Write, E: Write>(
     }
 }
 
-/// Tells why the words ask for nothing, and answers the exit status. A text that they ask for goes to `writer`.
+/// Tells why the words ask for nothing, and answers the exit status. A text that they ask for goes
+/// to `writer`.
 fn tell_error<W: Write, E: Write>(
     alloc: Global,
     error: WordsError<'_>,
@@ -106,10 +113,11 @@ fn tell_option<E: Write>(alloc: Global, bad: BadOption<'_>, errors: &mut E) {
     }
 }
 
-/// Tells that the words of the command line can't be read, and answers the exit status: 3 where memory
-/// was wanting, and 2 for a word that is no text.
+/// Tells that the words of the command line can't be read, and answers the exit status: 3 where
+/// memory was wanting, and 2 for a word that is no text.
 pub fn words_failed<E: Write>(error: &io::Error, errors: &mut E) -> u8
-    ensures memory { error_kind error.now ≡ IoErrorKind.OutOfMemory → result ≡ status_of Fault.Memory }
+    ensures memory { error_kind error.now ≡ IoErrorKind.OutOfMemory →
+        result ≡ status_of Fault.Memory }
     ensures no_text { error_kind error.now ≢ IoErrorKind.OutOfMemory → result ≡ 2 }
 {
     match error.kind() {
@@ -127,11 +135,11 @@ const DRILL: &str = "\
     the ceiling, and 1 to 10 openings";
 
 /// Tells why the program ends, and answers the exit status.
-fn tell_ending<E: Write>(ending: Ending, errors: &mut E) -> u8
+fn tell_ending<E: Write>(ending: ExitReason, errors: &mut E) -> u8
     ensures { result ≡ status_of_ending ending }
 {
     match ending {
-        Ending::Fault(fault) => {
+        ExitReason::Fault(fault) => {
             let status = tell(fault, errors);
             // Words that choose settings are refused by a drill alone.
             if fault == Fault::BadSettings {
@@ -139,25 +147,25 @@ fn tell_ending<E: Write>(ending: Ending, errors: &mut E) -> u8
             }
             status
         }
-        Ending::Log(fault) => {
+        ExitReason::Log(fault) => {
             let _ = writeln!(errors, "fault {} {}", fault.number(), fault.name());
             fault.status()
         }
-        Ending::Unexplained => {
+        ExitReason::Unexplained => {
             let _ = writeln!(
                 errors,
                 "error: no fault has this number or name; the numbers are 1 to 29"
             );
             2
         }
-        Ending::ScriptNotEmpty => {
+        ExitReason::ScriptNotEmpty => {
             let _ = writeln!(
                 errors,
                 "error: the file that --script names is not empty; name a new one"
             );
             2
         }
-        Ending::NoInterleaving => {
+        ExitReason::NoInterleaving => {
             let fault = AnyFault::NoInterleaving;
             let _ = writeln!(errors, "fault {} {}", fault.number(), fault.name());
             3
@@ -178,22 +186,25 @@ fn serve<H: Threads + Wait + Sync, L: Logs, R: Read, W: Write, E: Write>(
     rt: &H,
     logs: &mut L,
     alloc: Global,
-    wish: Wish<'_>,
+    wish: Invocation<'_>,
     reader: &mut R,
     writer: &mut W,
     errors: &mut E,
     is_watched: bool,
-) -> Result<(), Ending>
+) -> Result<(), ExitReason>
     requires none_out { AllAreIn (L.files logs.old) }
     ensures ok { (words : List (List ℕ)) → IsWished words wish.entry → OnOk result (Done words
-        (streams R.Read W.Write reader.old reader.new writer.old writer.new) (L.files logs.old) (L.files logs.new)) }
-    ensures err { (words : List (List ℕ)) → IsWished words wish.entry → IfErr result (λ ending. IsUndone words
-        (streams R.Read W.Write reader.old reader.new writer.old writer.new) (L.files logs.old) (L.files logs.new)
+        (streams R.Read W.Write reader.old reader.new writer.old writer.new) (L.files logs.old)
+        (L.files logs.new)) }
+    ensures err { (words : List (List ℕ)) → IsWished words wish.entry →
+        IfErr result (λ ending. IsUndone words
+        (streams R.Read W.Write reader.old reader.new writer.old writer.new) (L.files logs.old)
+        (L.files logs.new)
         (status_of_ending ending)) }
     ensures all_in { AllAreIn (L.files logs.new) }
 {
     match wish {
-        Wish::Run(settings, log, sums) => answer(
+        Invocation::Run(settings, log, sums) => answer(
             logs,
             alloc,
             Mode::Run,
@@ -204,7 +215,7 @@ fn serve<H: Threads + Wait + Sync, L: Logs, R: Read, W: Write, E: Write>(
             writer,
             errors,
         ),
-        Wish::Play(settings, log, sums) => answer(
+        Invocation::Play(settings, log, sums) => answer(
             logs,
             alloc,
             Mode::Play,
@@ -215,7 +226,7 @@ fn serve<H: Threads + Wait + Sync, L: Logs, R: Read, W: Write, E: Write>(
             writer,
             errors,
         ),
-        Wish::Drill(settings, transfers, openings, script) => {
+        Invocation::Drill(settings, transfers, openings, script) => {
             let asked = DrillTask {
                 settings,
                 transfers,
@@ -224,14 +235,15 @@ fn serve<H: Threads + Wait + Sync, L: Logs, R: Read, W: Write, E: Write>(
             };
             drill_hub(rt, logs, alloc, asked, script, writer, errors)
         }
-        Wish::Check(settings) => check(alloc, &settings, reader, writer),
-        Wish::Log(path) => show(logs, alloc, path, writer, errors),
-        Wish::Next(from, to, digest) => next(logs, alloc, from, to, digest, errors),
-        Wish::Explain(word) => explain(word, writer),
+        Invocation::Check(settings) => check(alloc, &settings, reader, writer),
+        Invocation::Log(path) => show(logs, alloc, path, writer, errors),
+        Invocation::Next(from, to, digest) => next(logs, alloc, from, to, digest, errors),
+        Invocation::Explain(word) => explain(word, writer),
     }
 }
 
-/// Answers the lines of `reader` at a hub of these settings, with a log or without, and sums up what `sums` asks for.
+/// Answers the lines of `reader` at a hub of these settings, with a log or without, and sums up
+/// what `sums` asks for.
 fn answer<L: Logs, R: Read, W: Write, E: Write>(
     logs: &mut L,
     alloc: Global,
@@ -242,12 +254,14 @@ fn answer<L: Logs, R: Read, W: Write, E: Write>(
     reader: &mut R,
     writer: &mut W,
     errors: &mut E,
-) -> Result<(), Ending>
+) -> Result<(), ExitReason>
     requires none_out { AllAreIn (L.files logs.old) }
     ensures ok { OnOk result (IsAnswered mode settings.now log.entry
-        (streams R.Read W.Write reader.old reader.new writer.old writer.new) (L.files logs.old) (L.files logs.new)) }
+        (streams R.Read W.Write reader.old reader.new writer.old writer.new) (L.files logs.old)
+        (L.files logs.new)) }
     ensures err { IfErr result (IsUnanswered mode settings.now log.entry
-        (streams R.Read W.Write reader.old reader.new writer.old writer.new) (L.files logs.old) (L.files logs.new)) }
+        (streams R.Read W.Write reader.old reader.new writer.old writer.new) (L.files logs.old)
+        (L.files logs.new)) }
     ensures all_in { AllAreIn (L.files logs.new) }
 {
     match log {
@@ -271,10 +285,11 @@ fn answer_unkept<R: Read, W: Write, E: Write>(
     writer: &mut W,
     errors: &mut E,
 ) -> Result<(), Fault>
-    ensures ok { OnOk result (Answers mode settings.now
+    ensures ok { OnOk result (AnswersInput mode settings.now
         (streams R.Read W.Write reader.old reader.new writer.old writer.new)) }
-    ensures err { IfErr result (FailsAfter (answering mode) (opened settings.now)
-        (W.contents writer.old) (W.contents writer.new) (R.remaining reader.old) (R.remaining reader.new)) }
+    ensures err { IfErr result (FailsAfter (hub_answerer mode) (opened settings.now)
+        (W.contents writer.old) (W.contents writer.new) (R.remaining reader.old)
+        (R.remaining reader.new)) }
 {
     let mut served = serve_lines(alloc, mode, settings, reader, writer)?;
     if sums {
@@ -289,7 +304,7 @@ fn check<R: Read, W: Write>(
     settings: &Settings,
     reader: &mut R,
     writer: &mut W,
-) -> Result<(), Ending>
+) -> Result<(), ExitReason>
     ensures ok { OnOk result (Checks settings.now
         (streams R.Read W.Write reader.old reader.new writer.old writer.new)) }
     ensures err { IfErr result (IsUnchecked settings.now
@@ -300,12 +315,12 @@ fn check<R: Read, W: Write>(
 }
 
 /// Tells what the fault of this number or name usually means, and what to do.
-fn explain<W: Write>(word: &str, writer: &mut W) -> Result<(), Ending>
+fn explain<W: Write>(word: &str, writer: &mut W) -> Result<(), ExitReason>
     ensures ok { OnOk result (Explains word.now (W.contents writer.old) (W.contents writer.new)) }
     ensures err { IfErr result (IsUnexplained word.now (writer.new ≡ writer.old)) }
 {
     let Some(fault) = fault_of(word) else {
-        return Err(Ending::Unexplained);
+        return Err(ExitReason::Unexplained);
     };
     match writeln!(
         writer,
@@ -316,6 +331,6 @@ fn explain<W: Write>(word: &str, writer: &mut W) -> Result<(), Ending>
         fault.advice()
     ) {
         Ok(()) => Ok(()),
-        Err(_) => Err(Ending::Fault(Fault::WriteFault)),
+        Err(_) => Err(ExitReason::Fault(Fault::WriteFault)),
     }
 }

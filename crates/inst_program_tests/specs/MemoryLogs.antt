@@ -1,5 +1,6 @@
 -- Two files in memory.
-use Rattle.std.specs.Prelude.{◌≡◌, ℕ, true, cond, List, [], Option, Some, None, IsTrue, IfSome, option_map, bytes_eq, codes}
+use Rattle.std.specs.Prelude.{◌≡◌, ℕ, true, cond, List, [], Option, Some, None, IsTrue, IfSome}
+use Rattle.std.specs.Prelude.{option_map, bytes_eq, codes}
 use Rattle.std.specs.Option.{option_map_or}
 use Rattle.sqlite_disk.specs.Disk.{Only}
 use Rattle.sqlite_disk.specs.declared.Disk.{Ghosts}
@@ -12,7 +13,9 @@ use Rattle.inst_program_tests.specs.declared.memory_logs.Which.TheVariants.{Firs
 
 -- the file of this name
 abbrev pub which_of : List ℕ → Option Which
-which_of name = cond (bytes_eq name (codes "a")) (Some First) (cond (bytes_eq name (codes "b")) (Some Second) None)
+which_of name =
+    cond (bytes_eq name (codes "a")) (Some First)
+    (cond (bytes_eq name (codes "b")) (Some Second) None)
 
 -- its name
 abbrev pub name_of : Which → List ℕ
@@ -27,7 +30,8 @@ file_at first second Second = second
 -- Each file has what its disk has. A file of another name has nothing.
 abbrev pub memory_files : Ghosts (Fuse Memory) → MemoryFile → MemoryFile → Option Which → Files
 memory_files disks first second out =
-    let file_of : List ℕ → Option MemoryFile = λ name. option_map (file_at first second) (which_of name) in
+    let file_of : List ℕ → Option MemoryFile =
+    λ name. option_map (file_at first second) (which_of name) in
     record {
       bytes = λ name. option_map_or (λ file. disks.seen file.disk) (file_of name) [];
       may_leave = λ name left. IfSome (file_of name) (λ file. disks.may_leave file.disk left);

@@ -1,5 +1,5 @@
-//! Tests of the whole program with its logs in memory: one task after another, a machine that stops at each call,
-//! logs that are refused, and the script of a drill.
+//! Tests of the whole program with its logs in memory: one task after another, a machine that stops
+//! at each call, logs that are refused, and the script of a drill.
 #![tactic(auto)]
 
 mod memory_logs;

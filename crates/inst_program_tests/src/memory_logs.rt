@@ -164,7 +164,8 @@ impl MemoryLogs {
         Ok(())
     }
 
-    /// Lets so many of these calls succeed, and each one after them fail. Those of a disk count from when it is opened.
+    /// Lets so many of these calls succeed, and each one after them fail. Those of a disk count
+    /// from when it is opened.
     pub(crate) fn stop_after(&mut self, calls: Calls, count: u64)
         ensures { self.new.out ≡ self.old.out }
     {
@@ -175,7 +176,8 @@ impl MemoryLogs {
         }
     }
 
-    /// Stops the machine and brings it back. Each file loses the bytes that weren't synced, and all calls succeed again.
+    /// Stops the machine and brings it back. Each file loses the bytes that weren't synced, and all
+    /// calls succeed again.
     pub(crate) fn crash(&mut self)
         ensures { self.new.out ≡ None }
     {

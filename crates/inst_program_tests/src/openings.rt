@@ -1,10 +1,11 @@
-//! A run writes a log, the task `log` shows it, and the task `next` makes the log of the next opening.
+//! A run writes a log, the task `log` shows it, and the task `next` makes the log of the next
+//! opening.
 use crate::memory_logs::MemoryLogs;
 use crate::scene::{LINES, NEXT, REPLIES, RUN, run_to};
 use std::test::Fail;
 
-/// What the task `log` writes of the first log. `sha256sum` prints the digest for the bytes from the first mark up to the
-/// second one.
+/// What the task `log` writes of the first log. `sha256sum` prints the digest for the bytes from
+/// the first mark up to the second one.
 const SHOWN: &[u8] =
     b"settings {\"ahead\":1000,\"base\":0,\"ceiling\":99999999999,\"fundings\":256,\"limit\":10000,\
     \"log\":\"run\",\"margin\":0,\"participants\":[\"AAAADEFF\",\"BBBBFRPP\",\"CCCCITMM\"],\
@@ -15,7 +16,8 @@ const SHOWN: &[u8] =
 /// A run with its log in the second file.
 const RUN_SECOND: &str = "run --participants AAAADEFF,BBBBFRPP,CCCCITMM --log b";
 
-/// The lines of the second opening. The transfer is submitted and confirmed again, and gets the replies that it had.
+/// The lines of the second opening. The transfer is submitted and confirmed again, and gets the
+/// replies that it had.
 const SECOND_LINES: &[u8] =
     b"{\"at\":3000,\"cents\":20000,\"cmd\":\"submit\",\"id\":\"T1\",\"stamp\":1000,\"to\":\"BBBBFRPP\",\
     \"who\":\"AAAADEFF\"}\n\

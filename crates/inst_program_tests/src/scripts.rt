@@ -13,8 +13,8 @@ const DRILLED: &[u8] = b"jobs 4 answered 4\ndecided 2\ndisagree 0\nnet 200 sum 2
 
 const NOT_EMPTY: &[u8] = b"error: the file that --script names is not empty; name a new one\n";
 
-/// How many events the books have: a funding, and of each transfer one that it was taken, one that it came, and an outcome
-/// on both sides.
+/// How many events the books have: a funding, and of each transfer one that it was taken, one that
+/// it came, and an outcome on both sides.
 const EVENTS: usize = 9;
 
 #[test]

@@ -1,4 +1,5 @@
-//! A machine stops at each call of a disk or of the files in turn, and comes back without the bytes that weren't synced.
+//! A machine stops at each call of a disk or of the files in turn, and comes back without the bytes
+//! that weren't synced.
 ghost use Rattle.std.specs.Prelude.{◌≡◌, None};
 
 use crate::memory_logs::{Calls, MemoryLogs, Which};
@@ -13,7 +14,8 @@ use std::thread::Threads;
 /// More calls than a task makes.
 const MOST_CALLS: u64 = 100;
 
-/// Returns a reader of these lines, which gives at most 100 bytes a read, so that they come in several batches.
+/// Returns a reader of these lines, which gives at most 100 bytes a read, so that they come in
+/// several batches.
 fn in_pieces(bytes: &[u8]) -> Pieces<'_> {
     Pieces {
         bytes,
@@ -86,8 +88,8 @@ fn is_done<H: Abort>(rt: &H, calls: Calls, count: u64, ended: &Ended) -> bool {
     false
 }
 
-/// Resumes a run that was stopped, for a client that has these replies, with the lines that its log doesn't have. The
-/// client then has each reply once.
+/// Resumes a run that was stopped, for a client that has these replies, with the lines that its log
+/// doesn't have. The client then has each reply once.
 fn resume<H: Threads + Wait + Sync + AllocGlobal + Abort>(
     rt: &H,
     logs: &mut MemoryLogs,
@@ -110,8 +112,8 @@ fn resume<H: Threads + Wait + Sync + AllocGlobal + Abort>(
     Ok(())
 }
 
-/// Stops a run after so many of these calls, and resumes it. If the client `loses` replies, it has the first half of them.
-/// Returns whether the run was done, and how many replies the client had.
+/// Stops a run after so many of these calls, and resumes it. If the client `loses` replies, it has
+/// the first half of them. Returns whether the run was done, and how many replies the client had.
 fn stop_run<H: Threads + Wait + Sync + AllocGlobal + Abort>(
     rt: &H,
     calls: Calls,
@@ -129,8 +131,8 @@ fn stop_run<H: Threads + Wait + Sync + AllocGlobal + Abort>(
     Ok((is_done, told))
 }
 
-/// Stops a run at each of these calls in turn, and resumes it. Returns how many stops came after a reply, and how many
-/// there were.
+/// Stops a run at each of these calls in turn, and resumes it. Returns how many stops came after a
+/// reply, and how many there were.
 fn stop_runs<H: Threads + Wait + Sync + AllocGlobal + Abort>(
     rt: &H,
     calls: Calls,
@@ -162,8 +164,9 @@ fn a_run_resumes_after_each_stop(rt: HostRuntime) -> Result<(), Fail> {
     Ok(())
 }
 
-/// Stops the task `next` after so many of these calls, and runs it again. Both leave the first log as it is, and the
-/// second log gets the bytes that it gets without a stop. Returns `true` if the task was done the first time.
+/// Stops the task `next` after so many of these calls, and runs it again. Both leave the first log
+/// as it is, and the second log gets the bytes that it gets without a stop. Returns `true` if the
+/// task was done the first time.
 fn stop_next<H: Threads + Wait + Sync + AllocGlobal + Abort>(
     rt: &H,
     calls: Calls,

@@ -1,4 +1,4 @@
 pub mod Tally
 pub mod Locks
-pub mod Seeing
-pub mod Latest
+pub mod HistoriesSeenBySeats
+pub mod SeenHistoryStaysSeen

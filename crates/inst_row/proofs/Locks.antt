@@ -15,10 +15,10 @@ use Rattle.atomic_table.proofs.Lists.{at_set, at_snoc, set_here, set_else, set_a
 use Rattle.inst_row.specs.declared.view.Front.{Front}
 use Rattle.inst_row.specs.declared.view.View.{View}
 use Rattle.inst_row.specs.Place.{place}
-use Rattle.inst_row.specs.View.{front, count, held, fronts_of, first_view, took, behind, gave, told, left_of, parts, united, nobody}
+use Rattle.inst_row.specs.View.{front, count, held, fronts_of, first_view, took, fronts_below, gave, informed_row_view, left_of, parts, united_row_view, nobody}
 use Rattle.inst_row.specs.Rule.{Guarded, IsSeen, takers}
 use Rattle.inst_row.specs.Steps.{takes_lock, gives_lock, tells_nothing}
-use Rattle.inst_row.proofs.Latest.{seen_set, seen_told, seen_united, seen_here, first_seen}
+use Rattle.inst_row.proofs.SeenHistoryStaysSeen.{seen_set, seen_told, seen_united, seen_here, first_seen}
 use Rattle.inst_row.proofs.Tally.{count-append, held-set, held-snoc, held_one, parts-set, parts-snoc, parts_two, none_held}
 
 get_or-set_else : (l : List ℕ) (i j n : ℕ) → j ≢ i → get_or (set l i n) j 0 ≡ get_or l j 0
@@ -178,7 +178,7 @@ module _ {T E K : Type 0} (law : K → ℕ → T → Type 0) (history : T → Li
         let latest_here : (q : ℕ) → q ≡ p → latest q ≡ history y = λ q e. ap (λ (b : Bool). cond b (history y) (r.latest q)) (eq-eqb q p e) in
         let latest_else : (q : ℕ) → q ≢ p → latest q ≡ r.latest q = λ q ne. ap (λ (b : Bool). cond b (history y) (r.latest q)) (ne_eqb q p ne) in
         let before : (q : ℕ) → count q v.held ≡ is_at p q + count q hs = λ q. ap (λ (l : List (Front E)). count q l) mine in
-        let after : (q : ℕ) → count q w.held ≡ count q hs = λ q. ap (λ (l : List (Front E)). count q (behind l)) mine in
+        let after : (q : ℕ) → count q w.held ≡ count q hs = λ q. ap (λ (l : List (Front E)). count q (fronts_below l)) mine in
         let adds : (q : ℕ) → held q views + count q v.held ≡ held q s.views + count q w.held = λ q. held-set q s.views id v w at in
         let found : h ≡ r.latest p = r.mine id v at (front p h) (subst (λ (l : List (Front E)). Contains l (front p h)) (sym mine) (0, omega arith, refl)) in
         let mine_one : is_at p p ≡ 1 = at_one p p refl in
@@ -190,7 +190,7 @@ module _ {T E K : Type 0} (law : K → ℕ → T → Type 0) (history : T → Li
         (λ e. subst (λ l. IsPrefix m.history l) (sym (latest_here m.lock e)) (longer_prefix m.history h (history y) (subst (λ l. IsPrefix m.history l) (ap r.latest e ∙ sym found) pre) grows))
         (λ ne. subst (λ l. IsPrefix m.history l) (sym (latest_else m.lock ne)) pre) in
         let was_mine : (m : Front E) → Contains w.held m → m.history ≡ r.latest m.lock = λ m c. r.mine id v at m (subst (λ (l : List (Front E)). Contains l m) (sym mine)
-        (let in_hs : Contains hs m = subst (λ (l : List (Front E)). Contains (behind l) m) mine c in (suc in_hs.0, (let b = in_hs.1 in omega arith), in_hs.2))) in
+        (let in_hs : Contains hs m = subst (λ (l : List (Front E)). Contains (fronts_below l) m) mine c in (suc in_hs.0, (let b = in_hs.1 in omega arith), in_hs.2))) in
         record {
           latest = latest;
           sized = length-set s.homes (place p) (some (Some y)) ∙ (r.sized ∙ sym (length-set s.words (place p) 0));
@@ -214,7 +214,7 @@ module _ {T E K : Type 0} (law : K → ℕ → T → Type 0) (history : T → Li
               (λ i u e m c. seen m (r.known i u e m c));
           mine = λ i u e m c. each_set s.views id w (λ u. (m : Front E) → Contains u.held m → m.history ≡ r.latest m.lock) was_mine r.mine i u e m c ∙ sym (latest_else m.lock (not_p i u e m c));
           dealt = (let a = parts-set s.views id v w at in let b : parts s.views ≡ 16 = r.dealt in omega arith);
-          holder = each_set s.views id w (λ u. u.parts ≡ 0 → u.held ≡ []) (λ z. ap behind (r.holder id v at z)) (λ i u e. r.holder i u e);
+          holder = each_set s.views id w (λ u. u.parts ≡ 0 → u.held ≡ []) (λ z. ap fronts_below (r.holder id v at z)) (λ i u e. r.holder i u e);
           named = each_set s.views id w (λ u. (k : K) → u.about ≡ Some k → k ≡ key) (λ k e. r.named id v at k e) r.named;
         }
 
@@ -289,26 +289,26 @@ module _ {T E K : Type 0} (law : K → ℕ → T → Type 0) (history : T → Li
               (ap (λ (x : T). gave me.0 p (history x)) one.1 ∙ ap (λ i. gave me.0 i (history z)) (one_place p q one.0), refl)),
         )
 
-  pub tells : (id : ℕ) (v : View E K) → v.held ≡ [] → Splits (G) id v (left_of v) (told v)
+  pub tells : (id : ℕ) (v : View E K) → v.held ≡ [] → Splits (G) id v (left_of v) (informed_row_view v)
   tells id v idle s r at =
-      let each : (P : View E K → Type 0) → P (left_of v) → P (told v) → ((i : ℕ) (u : View E K) → get_elem? s.views i ≡ some u → P u) → (i : ℕ) (u : View E K) → get_elem? (set s.views id (left_of v) ++ told v ∷ []) i ≡ some u → P u =
-      λ P mine new old i u e. ⊎_elim (λ f. each_set s.views id (left_of v) P mine (λ i u e. old i u e) i u f) (λ is. subst P is new) (at_snoc (set s.views id (left_of v)) (told v) u i e) in
+      let each : (P : View E K → Type 0) → P (left_of v) → P (informed_row_view v) → ((i : ℕ) (u : View E K) → get_elem? s.views i ≡ some u → P u) → (i : ℕ) (u : View E K) → get_elem? (set s.views id (left_of v) ++ informed_row_view v ∷ []) i ≡ some u → P u =
+      λ P mine new old i u e. ⊎_elim (λ f. each_set s.views id (left_of v) P mine (λ i u e. old i u e) i u f) (λ is. subst P is new) (at_snoc (set s.views id (left_of v)) (informed_row_view v) u i e) in
       record {
         latest = r.latest;
         sized = r.sized;
-        counted = λ q. let a = held-snoc q (set s.views id (left_of v)) (told v) in let b = held-set q s.views id v (left_of v) at in let c : held q s.views ≡ takers (get_or s.words (place q) 0) = r.counted q in omega arith;
+        counted = λ q. let a = held-snoc q (set s.views id (left_of v)) (informed_row_view v) in let b = held-set q s.views id v (left_of v) at in let c : held q s.views ≡ takers (get_or s.words (place q) 0) = r.counted q in omega arith;
         home = r.home;
         seen = λ q below z. seen_told s.views id v q (r.latest q) at (r.seen q below z);
         known = each (λ u. (m : Front E) → Contains u.fronts m → IsPrefix m.history (r.latest m.lock)) (r.known id v at) (r.known id v at) r.known;
         mine = each (λ u. (m : Front E) → Contains u.held m → m.history ≡ r.latest m.lock) (r.mine id v at) (λ m c. absurd (let z = c.1 in omega arith)) r.mine;
-        dealt = (let a = parts-snoc (set s.views id (left_of v)) (told v) in let b = parts-set s.views id v (left_of v) at in let c : parts s.views ≡ 16 = r.dealt in omega arith);
+        dealt = (let a = parts-snoc (set s.views id (left_of v)) (informed_row_view v) in let b = parts-set s.views id v (left_of v) at in let c : parts s.views ≡ 16 = r.dealt in omega arith);
         holder = each (λ u. u.parts ≡ 0 → u.held ≡ []) (λ z. idle) (λ z. refl) r.holder;
         named = each (λ u. (k : K) → u.about ≡ Some k → k ≡ key) (r.named id v at) (r.named id v at) r.named;
       }
 
-  pub unites : (id : ℕ) (v : View E K) (other : ℕ) (w : View E K) → Joins (G) id v other w (united v w) nobody
+  pub unites : (id : ℕ) (v : View E K) (other : ℕ) (w : View E K) → Joins (G) id v other w (united_row_view v w) nobody
   unites id v other w s r at ne at' =
-      let both : View E K = united v w in
+      let both : View E K = united_row_view v w in
       let there : get_elem? s.views other ≡ some w = sym (set_else s.views id other both ne) ∙ at' in
       let each : (P : View E K → Type 0) → P both → P nobody → ((i : ℕ) (u : View E K) → get_elem? s.views i ≡ some u → P u) → (i : ℕ) (u : View E K) → get_elem? (set (set s.views id both) other nobody) i ≡ some u → P u =
       λ P b no old. each_set (set s.views id both) other nobody P no (each_set s.views id both P b old) in

@@ -1,5 +1,5 @@
--- A row of locks as its contracts see it: which row it is, what it was told, and how many locks it has. This hub's own
--- choice.
+-- A row of locks as its contracts see it: which row it is, what it was told, and how many locks it
+-- has. This hub's own choice.
 use Rattle.std.specs.Prelude.{ℕ}
 use Rattle.atomic_table.specs.Seated.{TableId}
 use Rattle.inst_row.specs.declared.row.LockRow.{LockRow}

@@ -1,6 +1,7 @@
--- What holds of a row of locks and of all its seats between any two steps. That a participant's books lie behind a lock
--- is this hub's own choice.
-use Rattle.std.specs.Prelude.{◌≡◌, ℕ, zero, suc, ◌<◌, List, [], length, slice_index, Contains, Option, Some}
+-- What holds of a row of locks and of all its seats between any two steps. That a participant's
+-- books lie behind a lock is this hub's own choice.
+use Rattle.std.specs.Prelude.{◌≡◌, ℕ, zero, suc, ◌<◌, List, [], length, slice_index, Contains}
+use Rattle.std.specs.Prelude.{Option, Some}
 use mathlib.Core.Option.{some}
 use mathlib.Core.List.{IsPrefix}
 use lib.ListN.{get_elem?}
@@ -9,10 +10,10 @@ use Rattle.inst_row.specs.declared.view.Front.{Front}
 use Rattle.inst_row.specs.declared.view.View.{View}
 use Rattle.inst_row.specs.Place.{place}
 use Rattle.inst_row.specs.View.{front, held, parts}
-use Rattle.inst_row.specs.declared.row.TheConstants.{PARTS}
+use Rattle.inst_row.specs.declared.row.TheConstants.{MOST_SEATS}
 
--- how many seats have a lock whose word is this: it is free at 0, and else one has it, at 2 while others may sleep until
--- it is given back
+-- how many seats have a lock whose word is this: it is free at 0, and else one has it, at 2 while
+-- others may sleep until it is given back
 abbrev pub takers : ℕ → ℕ
 takers zero = 0
 takers (suc n) = 1
@@ -41,12 +42,17 @@ pub record Guarded {T E K : Type 0} (law : K → ℕ → T → Type 0) (history 
   pub sized : length s.homes ≡ length s.words
   pub counted : (p : ℕ) → held p s.views ≡ takers (slice_index s.words (place p))
   pub home : (p : ℕ) → place p < length s.words → slice_index s.words (place p) ≡ 0 →
-      (x : T) × (get_elem? s.homes (place p) ≡ some (some (Some x))) × law key p x × (history x ≡ latest p)
-  pub seen : (p : ℕ) → place p < length s.words → slice_index s.words (place p) ≡ 0 → IsSeen s.views p (latest p)
-  pub known : (id : ℕ) (v : View E K) → get_elem? s.views id ≡ some v → (f : Front E) → Contains v.fronts f →
+      (x : T) × (get_elem? s.homes (place p) ≡ some (some (Some x))) × law key p x
+      × (history x ≡ latest p)
+  pub seen : (p : ℕ) → place p < length s.words → slice_index s.words (place p) ≡ 0 →
+      IsSeen s.views p (latest p)
+  pub known : (id : ℕ) (v : View E K) → get_elem? s.views id ≡ some v → (f : Front E) →
+      Contains v.fronts f →
       IsPrefix f.history (latest f.lock)
-  pub mine : (id : ℕ) (v : View E K) → get_elem? s.views id ≡ some v → (f : Front E) → Contains v.held f →
+  pub mine : (id : ℕ) (v : View E K) → get_elem? s.views id ≡ some v → (f : Front E) →
+      Contains v.held f →
       f.history ≡ latest f.lock
-  pub dealt : parts s.views ≡ PARTS
+  pub dealt : parts s.views ≡ MOST_SEATS
   pub holder : (id : ℕ) (v : View E K) → get_elem? s.views id ≡ some v → v.parts ≡ 0 → v.held ≡ []
-  pub named : (id : ℕ) (v : View E K) → get_elem? s.views id ≡ some v → (k : K) → v.about ≡ Some k → k ≡ key
+  pub named : (id : ℕ) (v : View E K) → get_elem? s.views id ≡ some v → (k : K) → v.about ≡ Some k →
+      k ≡ key

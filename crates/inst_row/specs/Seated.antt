@@ -1,5 +1,5 @@
--- A seat on a row as its holder knows it: free, or with one lock. That nobody has two locks, so that nobody waits for
--- itself or for a ring of others, is this hub's own choice.
+-- A seat on a row as its holder knows it: free, or with one lock. That nobody has two locks, so
+-- that nobody waits for itself or for a ring of others, is this hub's own choice.
 use Rattle.std.specs.Prelude.{◌≡◌, ◌⊎◌, ◌↔◌, ℕ, ◌+◌, ◌<◌, List, [], ◌∷◌, ◌++◌, Contains, Some, None}
 use mathlib.Core.List.{IsPrefix}
 use Rattle.atomic_table.specs.Seated.{TableId}
@@ -7,7 +7,7 @@ use Rattle.inst_row.specs.declared.view.View.{View}
 use Rattle.inst_row.specs.declared.seat.RowSeat.{RowSeat}
 use Rattle.inst_row.specs.Place.{place}
 use Rattle.inst_row.specs.View.{front}
-use Rattle.inst_row.specs.declared.row.TheConstants.{PARTS}
+use Rattle.inst_row.specs.declared.row.TheConstants.{MOST_SEATS}
 
 module _ {T E K : Type 0} where
   abbrev pub view_of : RowSeat T E K → View E K
@@ -50,7 +50,7 @@ module _ {T E K : Type 0} where
   -- it is free and has all parts of the row
   pub record HasAll (s : RowSeat T E K) : Type 0 where
     pub free : IsFree s
-    pub parts : (view_of s).parts ≡ PARTS
+    pub parts : (view_of s).parts ≡ MOST_SEATS
 
   -- a seat that gave one of its parts to another one, which has seen as much
   pub record Halves (old new other : RowSeat T E K) : Type 0 where
@@ -63,4 +63,5 @@ module _ {T E K : Type 0} where
 
   -- it has seen exactly what either of these had
   abbrev pub SeesBoth : RowSeat T E K → RowSeat T E K → RowSeat T E K → Type 0
-  SeesBoth old other new = (p : ℕ) (h : List E) → HasSeen p h new ↔ (HasSeen p h old ⊎ HasSeen p h other)
+  SeesBoth old other new =
+      (p : ℕ) (h : List E) → HasSeen p h new ↔ (HasSeen p h old ⊎ HasSeen p h other)

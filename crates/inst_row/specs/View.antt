@@ -1,9 +1,10 @@
--- What a seat on a row of locks has and has seen. That a caller sees what it saw before, or more, is this hub's own
--- choice.
-use Rattle.std.specs.Prelude.{ℕ, suc, ◌+◌, ◌-◌, min, cond, ◌==◌, List, [], ◌∷◌, ◌++◌, Option, Some, None}
+-- What a seat on a row of locks has and has seen. That a caller sees what it saw before, or more,
+-- is this hub's own choice.
+use Rattle.std.specs.Prelude.{ℕ, suc, ◌+◌, ◌-◌, min, cond, ◌==◌, List, [], ◌∷◌, ◌++◌, Option, Some}
+use Rattle.std.specs.Prelude.{None}
 use Rattle.inst_row.specs.declared.view.Front.{Front}
 use Rattle.inst_row.specs.declared.view.View.{View}
-use Rattle.inst_row.specs.declared.row.TheConstants.{PARTS}
+use Rattle.inst_row.specs.declared.row.TheConstants.{MOST_SEATS}
 
 abbrev pub front : {E : Type 0} → ℕ → List E → Front E
 front p h = record { lock = p; history = h }
@@ -23,9 +24,9 @@ abbrev pub parts : {E K : Type 0} → List (View E K) → ℕ
 parts [] = 0
 parts (v ∷ vs) = v.parts + parts vs
 
-abbrev pub behind : {E : Type 0} → List (Front E) → List (Front E)
-behind [] = []
-behind (f ∷ fs) = fs
+abbrev pub fronts_below : {E : Type 0} → List (Front E) → List (Front E)
+fronts_below [] = []
+fronts_below (f ∷ fs) = fs
 
 -- the histories of these values, each with the number of its lock, from p on
 abbrev pub fronts_of : {T E : Type 0} → (T → List E) → ℕ → List (Option T) → List (Front E)
@@ -35,27 +36,50 @@ fronts_of history p (Some x ∷ xs) = front p (history x) ∷ fronts_of history 
 
 -- the first seat has all parts, and has seen the history of each value
 abbrev pub first_view : {T E K : Type 0} → (T → List E) → K → List (Option T) → View E K
-first_view history key values = record { about = Some key; parts = PARTS; held = []; fronts = fronts_of history 0 values }
+first_view history key values =
+    record { about = Some key; parts = MOST_SEATS; held = []; fronts = fronts_of history 0 values }
 
 module _ {E K : Type 0} where
   -- after the lock p was taken, with the history h
   abbrev pub took : View E K → ℕ → List E → View E K
-  took v p h = record { about = v.about; parts = v.parts; held = front p h ∷ v.held; fronts = v.fronts ++ front p h ∷ [] }
+  took v p h =
+      record {
+        about = v.about;
+        parts = v.parts;
+        held = front p h ∷ v.held;
+        fronts =
+            v.fronts ++ front p h ∷ [];
+      }
 
   -- after the lock that was taken last was given back, with the history h
   abbrev pub gave : View E K → ℕ → List E → View E K
-  gave v p h = record { about = v.about; parts = v.parts; held = behind v.held; fronts = v.fronts ++ front p h ∷ [] }
+  gave v p h =
+      record {
+        about = v.about;
+        parts = v.parts;
+        held = fronts_below v.held;
+        fronts =
+            v.fronts ++ front p h ∷ [];
+      }
 
   -- a new seat beside this one
-  abbrev pub told : View E K → View E K
-  told v = record { about = v.about; parts = min 1 v.parts; held = []; fronts = v.fronts }
+  abbrev pub informed_row_view : View E K → View E K
+  informed_row_view v =
+      record { about = v.about; parts = min 1 v.parts; held = []; fronts = v.fronts }
 
   -- this one, once there is a new seat beside it
   abbrev pub left_of : View E K → View E K
   left_of v = record { about = v.about; parts = v.parts - 1; held = v.held; fronts = v.fronts }
 
-  abbrev pub united : View E K → View E K → View E K
-  united v w = record { about = v.about; parts = v.parts + w.parts; held = v.held ++ w.held; fronts = v.fronts ++ w.fronts }
+  abbrev pub united_row_view : View E K → View E K → View E K
+  united_row_view v w =
+      record {
+        about = v.about;
+        parts = v.parts + w.parts;
+        held = v.held ++ w.held;
+        fronts =
+            v.fronts ++ w.fronts;
+      }
 
   -- a seat that was joined away
   abbrev pub nobody : View E K

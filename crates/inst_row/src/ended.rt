@@ -8,13 +8,15 @@ use crate::row::STRIDE;
 use atomic_table::Closed;
 use std::alloc::Global;
 
-/// The values of a row that has ended, by the numbers of their locks. Take each one out, and then call `free`.
+/// The values of a row that has ended, by the numbers of their locks. Take each one out, and then
+/// call `free`.
 pub struct Ended<T> {
     closed: Closed<Option<T>, Global>,
     locks: usize,
     ghost slots: { slots_len closed.slots ≡ place locks },
     ghost fits: { place locks < 2 ^ 64 },
-    ghost between: { (k : ℕ) → k < slots_len closed.slots → k % STRIDE ≢ 0 → slice_index_or (slots_filled closed.slots) k false ≡ false },
+    ghost between: { (k : ℕ) → k < slots_len closed.slots → k % STRIDE ≢ 0 →
+        slice_index_or (slots_filled closed.slots) k false ≡ false },
 }
 
 impl<T: Drop> Ended<T> {
@@ -26,7 +28,8 @@ impl<T: Drop> Ended<T> {
         requires full { IsFull closed.slots }
         ensures locks { locks_of result ≡ locks }
         ensures items { slots_items result.closed.slots ≡ slots_items closed.slots }
-        ensures there { (p : ℕ) → p < locks → slice_index_or (slots_filled result.closed.slots) (place p) false ≡ true }
+        ensures there { (p : ℕ) → p < locks →
+            slice_index_or (slots_filled result.closed.slots) (place p) false ≡ true }
     {
         for slot in 0..closed.slot_count() {
             if slot % STRIDE != 0 {

@@ -1,17 +1,17 @@
-use crate::beginning::Beginning;
 use crate::lawful::Lawful;
+use crate::row_start::RowStart;
 use crate::view::View;
 use atomic_table::TableRule;
 use std::marker::PhantomData;
 
-/// What holds of the locks and of all seats between any two steps of any threads: a lock's word is 0 while its
-/// value lies in its slot, lawful; else a seat has the lock, and at 2 others may sleep until it is given back.
+/// What holds of the locks and of all seats between any two steps of any threads: a lock's word is
+/// 0 while its value lies in its slot, lawful; else a seat has the lock, and at 2 others may sleep
+/// until it is given back.
 pub struct Guarding<L> {
     law: PhantomData<L>,
 }
 
-impl<T, E, K, L: Lawful<T, E, K>> TableRule<Option<T>, View<E, K>, Beginning<T, K>>
-    for Guarding<L> {
+impl<T, E, K, L: Lawful<T, E, K>> TableRule<Option<T>, View<E, K>, RowStart<T, K>> for Guarding<L> {
     ghost use Rattle.inst_row.specs.Rule.{Guarded};
     ghost use Rattle.inst_row.specs.View.{first_view};
 

@@ -39,20 +39,20 @@ impl<T, E, K, L: Lawful<T, E, K>> Play<Option<T>, View<E, K>> for Giving<L> {
 pub struct Tell;
 
 impl<E, K> Split<View<E, K>> for Tell {
-    ghost use Rattle.inst_row.specs.View.{told, left_of};
+    ghost use Rattle.inst_row.specs.View.{informed_row_view, left_of};
 
     ghost left = { left_of };
 
-    ghost right = { told };
+    ghost right = { informed_row_view };
 }
 
 /// One seat has seen what both had seen, with the parts of both.
 pub struct Unite;
 
 impl<E, K> Join<View<E, K>> for Unite {
-    ghost use Rattle.inst_row.specs.View.{united, nobody};
+    ghost use Rattle.inst_row.specs.View.{united_row_view, nobody};
 
-    ghost both = { united };
+    ghost both = { united_row_view };
 
     ghost spent = { nobody };
 }

@@ -1,6 +1,7 @@
 use std::collections::LinkedList;
 
-/// The beginning of a history of the value behind a lock. Contracts speak of it; no value of it is made.
+/// The beginning of a history of the value behind a lock. Contracts speak of it; no value of it is
+/// made.
 pub struct Front<E> {
     pub lock: u64,
     pub history: LinkedList<E>,

@@ -1,3 +1,3 @@
-pub mod Numbering
-pub mod Known
-mod Refused
+pub mod CodeTellsNumber
+pub mod CodesKnownByHolders
+mod TextsThatAreNoCodes

@@ -1,4 +1,5 @@
--- How participants are numbered: by the place of their code (BIC, ISO 9362) among the codes of a hub. This hub's own choice.
+-- How participants are numbered: by the place of their code (BIC, ISO 9362) among the codes of a
+-- hub. This hub's own choice.
 use Rattle.std.specs.Prelude.{ℕ, List, position, Option}
 use Rattle.inst_settings.specs.Settings.{same_text}
 

@@ -3,8 +3,10 @@ use Rattle.std.specs.Prelude.{◌≡◌, ℕ, ◌<◌, ◌≤◌, Bool, true, �
 use Rattle.std.specs.List.{list_all, list_any}
 use Rattle.inst_base.specs.Text.{is_code}
 use Rattle.inst_settings.specs.Settings.{HubSettings, same_text}
-use Rattle.inst_settings.specs.declared.numbers.Numbers.{Numbers}
-use Rattle.inst_settings.specs.declared.ranges.TheConstants.{MOST_PARTICIPANTS, MOST_PLACES, MOST_FUNDINGS, MOST_LIMIT, MOST_AHEAD, MOST_CEILING, MOST_BASE}
+use Rattle.inst_settings.specs.declared.hub_parameters.HubParameters.{HubParameters}
+use Rattle.inst_settings.specs.declared.ranges.TheConstants.{MOST_PARTICIPANTS, MOST_PLACES}
+use Rattle.inst_settings.specs.declared.ranges.TheConstants.{MOST_FUNDINGS, MOST_LIMIT, MOST_AHEAD}
+use Rattle.inst_settings.specs.declared.ranges.TheConstants.{MOST_CEILING, MOST_BASE}
 
 -- settings of these values
 abbrev pub settings_with : List (List ℕ) → ℕ → ℕ → ℕ → ℕ → ℕ → ℕ → ℕ → HubSettings
@@ -20,10 +22,11 @@ settings_with codes places fundings limit margin ahead ceiling base = record {
 }
 
 -- the settings of these participants with these numbers, and the numbers of settings
-abbrev pub settings_of : List (List ℕ) → Numbers → HubSettings
-settings_of codes n = settings_with codes n.places n.fundings n.limit n.margin n.ahead n.ceiling n.base
+abbrev pub settings_of : List (List ℕ) → HubParameters → HubSettings
+settings_of codes n =
+    settings_with codes n.places n.fundings n.limit n.margin n.ahead n.ceiling n.base
 
-abbrev pub numbers_of : HubSettings → Numbers
+abbrev pub numbers_of : HubSettings → HubParameters
 numbers_of s = record {
   places = s.places;
   fundings = s.fundings;
@@ -37,7 +40,8 @@ numbers_of s = record {
 -- whether no code stands twice
 abbrev pub are_different : List (List ℕ) → Bool
 are_different [] = true
-are_different (code ∷ codes) = not (list_any (λ other. same_text other code) codes) && are_different codes
+are_different (code ∷ codes) =
+    not (list_any (λ other. same_text other code) codes) && are_different codes
 
 -- the settings are in their ranges
 pub record IsSettings (s : HubSettings) : Type 0 where

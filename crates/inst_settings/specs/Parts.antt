@@ -1,4 +1,5 @@
--- The participants of a hub as one text: their codes (BICs, ISO 9362) with commas between them. This hub's own choice.
+-- The participants of a hub as one text: their codes (BICs, ISO 9362) with commas between them.
+-- This hub's own choice.
 use Rattle.std.specs.Prelude.{◌⊎◌, ◌≡◌, ◌==◌, ℕ, Bool, false, List}
 use Rattle.std.specs.List.{list_all, slice_split}
 use Rattle.inst_base.specs.Text.{is_code}

@@ -1,6 +1,7 @@
--- The settings of a hub. Participants are named by codes (BICs, ISO 9362) and numbered from 0 as given. The time
--- limit counts from the originator's time stamp, as in the rulebook (EPC004-16, chapter 4: time cycle); its
--- length in milliseconds, the capacities and the ceiling are this hub's own choice.
+-- The settings of a hub. Participants are named by codes (BICs, ISO 9362) and numbered from 0 as
+-- given. The time limit counts from the originator's time stamp, as in the rulebook (EPC004-16,
+-- chapter 4: time cycle); its length in milliseconds, the capacities and the ceiling are this hub's
+-- own choice.
 use Rattle.std.specs.Prelude.{ℕ, Bool, ◌&&◌, nat_eq, nat_lt, nat_le, List, length}
 use Rattle.std.specs.Cmp.Lexicographic.{pointwise}
 

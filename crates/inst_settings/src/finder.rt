@@ -1,6 +1,7 @@
 //! Which participants a code may belong to.
 ghost use Rattle.std.specs.Prelude.{◌≡◌, ◌<◌, ◌≤◌, length};
-ghost use Rattle.inst_settings.specs.Finder.{mark_of, bank_of, branch_of, mixed, holders_of, TellsAll};
+ghost use Rattle.inst_settings.specs.Finder.{mark_of, bank_of, branch_of, mixed, holders_of};
+ghost use Rattle.inst_settings.specs.Finder.{TellsAll};
 ghost use Rattle.inst_settings.specs.inner.Finder.{with_one_more};
 ghost use Rattle.inst_base.specs.declared.code.TheConstants.{CODE_LENGTH};
 

@@ -7,8 +7,9 @@ use inst_base::{Code, Fault};
 use std::alloc::{AllocError, Global};
 use std::str;
 
-/// The codes between the commas, in their order. Nothing is trimmed, so an empty part is no code. `BadSettings` where a
-/// part is none, and `Memory` where there is no room for them. Whether a code stands twice isn't looked at.
+/// The codes between the commas, in their order. Nothing is trimmed, so an empty part is no code.
+/// `BadSettings` where a part is none, and `Memory` where there is no room for them. Whether a code
+/// stands twice isn't looked at.
 pub fn parse_codes(alloc: Global, text: &[u8]) -> Result<Vec<Code>, Fault>
     ensures codes { IfOk result (λ codes. codes.items ≡ parts_of text.now) }
     ensures formed { IfOk result (λ _. are_codes text.now ≡ true) }

@@ -1,10 +1,11 @@
-ghost use Rattle.std.specs.Prelude.{◌≡◌, ◌≢◌, ◌<◌, ◌≤◌, Some, true, false, [], length, get_or, slice_get, IfOk, OnErr, IsOkUnless};
+ghost use Rattle.std.specs.Prelude.{◌≡◌, ◌≢◌, ◌<◌, ◌≤◌, Some, true, false, [], length, get_or};
+ghost use Rattle.std.specs.Prelude.{slice_get, IfOk, OnErr, IsOkUnless};
 ghost use Rattle.std.specs.Option.{option_copied};
 ghost use Rattle.inst_base.specs.Cents.{is_amount};
 
 use crate::codes::{are_different, index_of};
 use crate::finder::{Finder, Holders};
-use crate::numbers::Numbers;
+use crate::hub_parameters::HubParameters;
 use crate::ranges::{
     MOST_AHEAD, MOST_BASE, MOST_CEILING, MOST_FUNDINGS, MOST_LIMIT, MOST_PARTICIPANTS, MOST_PLACES,
 };
@@ -24,7 +25,7 @@ use std::marker::Model;
 pub struct Settings {
     codes: Vec<Code>,
     finder: Finder,
-    numbers: Numbers,
+    numbers: HubParameters,
 }
 
 impl Model for Settings {
@@ -36,7 +37,8 @@ impl Model for Settings {
 
     ghost view = { λ s. settings_of s.codes.items s.numbers };
 
-    ghost invariant = { λ s. IsSettings (settings_of s.codes.items s.numbers) × TellsAll s.codes.items s.finder.table };
+    ghost invariant = { λ s. IsSettings (settings_of s.codes.items s.numbers)
+        × TellsAll s.codes.items s.finder.table };
 }
 
 impl Settings {
@@ -48,12 +50,12 @@ impl Settings {
     /// stands twice: 1 to 256 participants, 1 to 1,024 places and fundings, a `limit` of 1 to
     /// 3,600,000 ms, a `margin` below it, an `ahead` of at most 60,000 ms, a `ceiling` of 1 to
     /// 99,999,999,999 cents and a `base` of at most 2^62 ms. The codes are compared each with each.
-    pub fn check(codes: Vec<Code>, numbers: Numbers) -> Result<Settings, Fault>
+    pub fn check(codes: Vec<Code>, numbers: HubParameters) -> Result<Settings, Fault>
         ensures ok { IfOk result (λ s. IsSettings s × (s ≡ settings_of codes.items numbers)) }
         ensures err { OnErr result (¬ IsSettings (settings_of codes.items numbers)) }
         ensures only { IsOkUnless result Fault.BadSettings }
     {
-        let Numbers {
+        let HubParameters {
             places,
             fundings,
             limit,
@@ -94,8 +96,8 @@ impl Settings {
         })
     }
 
-    /// The number of the participant with this code. Most codes cost one look into a table, known or
-    /// not; those whose mark several participants share are searched for among all.
+    /// The number of the participant with this code. Most codes cost one look into a table, known
+    /// or not; those whose mark several participants share are searched for among all.
     pub fn index_of(&self, code: &Code) -> Option<u8>
         ensures { result ≡ index_of code.now self.now.codes }
     {
@@ -141,7 +143,7 @@ impl Settings {
     }
 
     /// The settings but for the participants.
-    pub fn numbers(&self) -> Numbers
+    pub fn numbers(&self) -> HubParameters
         ensures { result ≡ numbers_of self.now }
     {
         self.numbers

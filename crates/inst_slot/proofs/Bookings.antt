@@ -4,7 +4,7 @@ use Rattle.std.specs.Prelude.{slice_get, nat_eq}
 use Rattle.std.proofs.lemmas.Bool.{eqb-true, cases_Bool}
 use Rattle.inst_command.specs.declared.outcome.Outcome.{Outcome}
 use Rattle.inst_due.specs.Due.{has}
-use Rattle.inst_settings.proofs.Numbering.{same_text_refl}
+use Rattle.inst_settings.proofs.CodeTellsNumber.{same_text_refl}
 use Rattle.inst_journal.specs.declared.event.Event.{Event}
 use Rattle.inst_journal.specs.declared.event.Event.TheVariants.{Funded, Defunded, Taken, Forwarded, Booked, Fetched, Opened}
 use Rattle.inst_journal.specs.Booked.{takes}
@@ -17,8 +17,8 @@ use Rattle.inst_slot.specs.Book.{place_at}
 use Rattle.inst_ledger.specs.Right.{own_ids}
 use Rattle.inst_slot.specs.Telling.{taken_by}
 use Rattle.inst_slot.specs.Waiting.{Deadlines, IsRight}
-use Rattle.inst_slot.proofs.Dues.{books_at, books_another}
-use Rattle.inst_slot.proofs.Found.{step, fewer, counted}
+use Rattle.inst_slot.proofs.OwnTransfersThatWait.{books_at, books_another}
+use Rattle.inst_slot.proofs.ArrivalGetsItsPlace.{step, fewer, counted}
 use Rattle.inst_slot.proofs.OwnIds.{keeps_right, re_listed, own_taken}
 
 -- one of the own waits no more
@@ -59,8 +59,8 @@ one_index p (z ∷ xs) (suc i) (suc j) x y once here there first second = ap suc
 taken_there : (id : List ℕ) (o : Option Event) → taken_by o ≡ Some id → (x : Event) × (o ≡ Some x) × (takes id x ≡ true)
 taken_there id None e = let no : ⊥ = cc in absurd no
 taken_there id (Some (Taken other to cents stamp)) e = let same : other ≡ id = cc in (Taken other to cents stamp, refl, ap (λ (i : List ℕ). takes id (Taken i to cents stamp)) same ∙ same_text_refl id)
-taken_there id (Some (Funded reference cents)) e = let no : ⊥ = cc in absurd no
-taken_there id (Some (Defunded reference cents)) e = let no : ⊥ = cc in absurd no
+taken_there id (Some (Funded funding)) e = let no : ⊥ = cc in absurd no
+taken_there id (Some (Defunded funding)) e = let no : ⊥ = cc in absurd no
 taken_there id (Some (Forwarded from other cents d)) e = let no : ⊥ = cc in absurd no
 taken_there id (Some (Booked from other o)) e = let no : ⊥ = cc in absurd no
 taken_there id (Some (Fetched n)) e = let no : ⊥ = cc in absurd no

@@ -9,7 +9,7 @@ use Rattle.std.proofs.lemmas.Bool.{false≢true, true≢false}
 use Rattle.inst_base.specs.TimeLimit.{deadline_of}
 use Rattle.inst_due.specs.Due.{is_of, has, comes_after, Adds, IsLeast}
 use Rattle.inst_settings.specs.Settings.{HubSettings, same_text}
-use Rattle.inst_settings.proofs.Numbering.{same_text_refl}
+use Rattle.inst_settings.proofs.CodeTellsNumber.{same_text_refl}
 use Rattle.inst_command.specs.declared.outcome.Outcome.{Outcome}
 use Rattle.inst_command.specs.declared.outcome.State.TheVariants.{Unused}
 use Rattle.inst_journal.specs.declared.event.Event.{Event}
@@ -17,7 +17,7 @@ use Rattle.inst_journal.specs.declared.event.Event.TheVariants.{Funded, Defunded
 use Rattle.inst_journal.specs.Booked.{takes, booked}
 use Rattle.inst_journal.specs.Opened.{carried, is_opening, takes_live, live_taken}
 use Rattle.inst_journal.specs.Sound.{Fits, IsSound}
-use Rattle.inst_journal.proofs.Counting.{stranger_unbooked}
+use Rattle.inst_journal.proofs.CountsOfEvents.{stranger_unbooked}
 use Rattle.inst_journal.proofs.OwnBookings.{own_unforwarded}
 use Rattle.inst_journal.proofs.Soundness.{sound_push}
 use Rattle.inst_ledger.specs.Book.{Book as Kept, with_event}
@@ -25,13 +25,13 @@ use Rattle.inst_slot.specs.Book.{Book}
 use Rattle.inst_slot.specs.Telling.{taken_by, if_unbooked, unbooked_at}
 use Rattle.inst_ledger.specs.Right.{id_of, own_ids}
 use Rattle.inst_slot.specs.inner.Indexed.{is_id}
-use Rattle.inst_slot.specs.OwnState.{booked_state, state_of, own_state}
+use Rattle.inst_slot.specs.OwnState.{booked_state, state_of_taken, own_state}
 use Rattle.inst_slot.specs.Waiting.{Deadlines, IsRight, IsWaiting, GivesNextDue, waits, takes_waiting, deadline_in}
 use Rattle.inst_slot.specs.inner.Waiting.{is_apart}
-use Rattle.inst_slot.proofs.Dues.{books_own, waiting_after, and_true_is, taken_books_none, at_end}
-use Rattle.inst_slot.proofs.Entering.{takes_the_next}
-use Rattle.inst_slot.proofs.Growing.{live_taken_still}
-use Rattle.inst_slot.proofs.Indexed.{is_found}
+use Rattle.inst_slot.proofs.OwnTransfersThatWait.{books_own, waiting_after, and_true_is, taken_books_none, at_end}
+use Rattle.inst_slot.proofs.CommandsThatDecideNothing.{takes_the_next}
+use Rattle.inst_slot.proofs.LiveTransfersAfterEvent.{live_taken_still}
+use Rattle.inst_slot.proofs.ElementAtIndex.{is_found}
 use Rattle.inst_slot.proofs.Positions.{later, position_cons, passes_at}
 use Rattle.inst_ledger.proofs.OwnIds.{live_taken_push}
 
@@ -52,8 +52,8 @@ named_step id e L true here rest =
 own_position_in : (who : ℕ) (C : List Event) (id : List ℕ) (J : List Event) → position (is_id id) (map id_of (filter (takes_live who C) J)) ≡ position (takes id) (filter (takes_live who C) J)
 own_position_in who C id [] = refl
 own_position_in who C id (Taken other to cents stamp ∷ J) = named_step id (Taken other to cents stamp) (filter (takes_live who C) J) (is_none (booked who other C)) (λ h. refl) (own_position_in who C id J)
-own_position_in who C id (Funded reference cents ∷ J) = own_position_in who C id J
-own_position_in who C id (Defunded reference cents ∷ J) = own_position_in who C id J
+own_position_in who C id (Funded funding ∷ J) = own_position_in who C id J
+own_position_in who C id (Defunded funding ∷ J) = own_position_in who C id J
 own_position_in who C id (Forwarded from other cents d ∷ J) = own_position_in who C id J
 own_position_in who C id (Booked from other o ∷ J) = own_position_in who C id J
 own_position_in who C id (Fetched n ∷ J) = own_position_in who C id J
@@ -72,8 +72,8 @@ taken_step e L true here rest (suc i) = rest i
 own_taken_in : (who : ℕ) (C : List Event) (J : List Event) (i : ℕ) → slice_get (map id_of (filter (takes_live who C) J)) i ≡ taken_by (slice_get (filter (takes_live who C) J) i)
 own_taken_in who C [] i = refl
 own_taken_in who C (Taken other to cents stamp ∷ J) i = taken_step (Taken other to cents stamp) (filter (takes_live who C) J) (is_none (booked who other C)) (λ h. refl) (own_taken_in who C J) i
-own_taken_in who C (Funded reference cents ∷ J) i = own_taken_in who C J i
-own_taken_in who C (Defunded reference cents ∷ J) i = own_taken_in who C J i
+own_taken_in who C (Funded funding ∷ J) i = own_taken_in who C J i
+own_taken_in who C (Defunded funding ∷ J) i = own_taken_in who C J i
 own_taken_in who C (Forwarded from other cents d ∷ J) i = own_taken_in who C J i
 own_taken_in who C (Booked from other o ∷ J) i = own_taken_in who C J i
 own_taken_in who C (Fetched n ∷ J) i = own_taken_in who C J i
@@ -98,11 +98,11 @@ pub unused_there : (who : ℕ) (J : List Event) (ids : List (List ℕ)) (i : ℕ
 unused_there who J ids i same none =
     of (slice_get (live_taken who J) i) (sym (own_taken who J i) ∙ ap (λ (l : List (List ℕ)). slice_get l i) (sym same) ∙ none)
   where
-    of : (e : Option Event) → taken_by e ≡ None → state_of who J e ≡ Unused
+    of : (e : Option Event) → taken_by e ≡ None → state_of_taken who J e ≡ Unused
     of None h = refl
     of (Some (Taken id to cents stamp)) h = cc
-    of (Some (Funded reference cents)) h = refl
-    of (Some (Defunded reference cents)) h = refl
+    of (Some (Funded funding)) h = refl
+    of (Some (Defunded funding)) h = refl
     of (Some (Forwarded from id cents d)) h = refl
     of (Some (Booked from id o)) h = refl
     of (Some (Fetched n)) h = refl
@@ -112,11 +112,11 @@ pub used_there : (who : ℕ) (J : List Event) (ids : List (List ℕ)) (i : ℕ) 
 used_there who J ids i id same there =
     of (slice_get (live_taken who J) i) (sym (own_taken who J i) ∙ ap (λ (l : List (List ℕ)). slice_get l i) (sym same) ∙ there)
   where
-    of : (e : Option Event) → taken_by e ≡ Some id → state_of who J e ≡ booked_state (booked who id J)
+    of : (e : Option Event) → taken_by e ≡ Some id → state_of_taken who J e ≡ booked_state (booked who id J)
     of None h = cc
     of (Some (Taken other to cents stamp)) h = ap (λ (x : List ℕ). booked_state (booked who x J)) (same_Some other id h)
-    of (Some (Funded reference cents)) h = cc
-    of (Some (Defunded reference cents)) h = cc
+    of (Some (Funded funding)) h = cc
+    of (Some (Defunded funding)) h = cc
     of (Some (Forwarded from other cents d)) h = cc
     of (Some (Booked from other o)) h = cc
     of (Some (Fetched n)) h = cc
@@ -130,8 +130,8 @@ moves_none _ = true
 
 -- an event of money or of the inbox moves and books no transfer
 pub apart_moves_none : (e : Event) → is_apart e ≡ true → moves_none e ≡ true
-apart_moves_none (Funded reference cents) apart = refl
-apart_moves_none (Defunded reference cents) apart = refl
+apart_moves_none (Funded funding) apart = refl
+apart_moves_none (Defunded funding) apart = refl
 apart_moves_none (Fetched count) apart = refl
 apart_moves_none (Taken id to cents stamp) apart = absurd (false≢true apart)
 apart_moves_none (Forwarded from id cents d) apart = refl
@@ -145,8 +145,8 @@ pub still_taken : (who : ℕ) (J : List Event) (e : Event) → moves_none e ≡ 
 still_taken who J e still = live_taken_still who J e (kinds e still).0 (kinds e still).1
   where
     kinds : (e : Event) → moves_none e ≡ true → (is_opening e ≡ false) × (takes_live who (carried J) e ≡ false)
-    kinds (Funded reference cents) h = (refl, refl)
-    kinds (Defunded reference cents) h = (refl, refl)
+    kinds (Funded funding) h = (refl, refl)
+    kinds (Defunded funding) h = (refl, refl)
     kinds (Forwarded from other cents d) h = (refl, refl)
     kinds (Booked from other o) h = (refl, refl)
     kinds (Fetched n) h = (refl, refl)

@@ -14,7 +14,7 @@ use Rattle.std.proofs.lemmas.List.Sorted.{IsNonDecreasingBy-from_default}
 use Rattle.std.proofs.lemmas.Map.Made.{is_some-lookup}
 use Rattle.std.proofs.lemmas.Option.{slice_get-get_or, slice_get_within, get_or_from_slice_get}
 use Rattle.inst_settings.specs.Settings.{same_text}
-use Rattle.inst_settings.proofs.Numbering.{same_text_refl}
+use Rattle.inst_settings.proofs.CodeTellsNumber.{same_text_refl}
 use Rattle.inst_command.specs.declared.entry.Entry.{Entry}
 use Rattle.inst_command.specs.declared.outcome.Outcome.{Outcome}
 use Rattle.inst_journal.specs.declared.event.Event.{Event}
@@ -28,17 +28,17 @@ use Rattle.inst_transfers.proofs.Rows.{within_more, within_last, rising_push, ri
 use Rattle.inst_ledger.specs.Book.{Book as Kept, with_event}
 use Rattle.inst_ledger.specs.Right.{IsRight}
 use Rattle.inst_ledger.proofs.Inbox.{get_still, get_next}
-use Rattle.inst_ledger.proofs.Right.{rows_push}
+use Rattle.inst_ledger.proofs.TableStaysRight.{rows_push}
 use Rattle.inst_slot.specs.declared.arrival.Arrival.{Arrival}
 use Rattle.inst_slot.specs.declared.arrivals.Spot.{Spot}
-use Rattle.inst_slot.specs.inner.Answering.{beside, over}
+use Rattle.inst_slot.specs.inner.Answering.{book_with_arrivals, book_with_spots}
 use Rattle.inst_slot.specs.Arrived.{unbooked_place, NoneUnbooked}
-use Rattle.inst_slot.specs.Book.{Book, arrived_at, placed}
+use Rattle.inst_slot.specs.Book.{Book, arrived_at, place_with_index}
 use Rattle.inst_slot.specs.Opening.{is_of}
 use Rattle.inst_slot.specs.Spots.{rows_of, no_entry, arrival_of, arrivals_of, positions_of, AreSpots}
 use Rattle.inst_slot.specs.inner.Spots.{FindsSpot, IsSpotAt}
-use Rattle.inst_slot.proofs.Arrived.{none_counted, counted_once, none_arrived, arrived_there}
-use Rattle.inst_slot.proofs.Indexed.{none_there}
+use Rattle.inst_slot.proofs.ArrivalsOfOneTransfer.{none_counted, counted_once, none_arrived, arrived_there}
+use Rattle.inst_slot.proofs.ElementAtIndex.{none_there}
 
 -- one event more
 abbrev lying : Option ℕ → Entry → Arrival
@@ -60,11 +60,11 @@ spots_after who J e S are = subst (λ (rows : List Entry). AreSpots rows S) (sym
 pub spots_over : (old new : Kept) (e : Event) (S : List Spot) → new ≡ with_event old e → AreSpots (rows_of old.who old.events) S → AreSpots (rows_of new.who new.events) S
 spots_over old new e S is are = subst (λ (x : Kept). AreSpots (rows_of x.who x.events) S) (sym is) (spots_after old.who old.events e S are)
 
-pub over_after : (old new : Kept) (e : Event) (S : List Spot) → new ≡ with_event old e → AreSpots (rows_of old.who old.events) S → over new S ≡ beside (with_event old e) (arrivals_of (rows_of old.who old.events) S)
+pub over_after : (old new : Kept) (e : Event) (S : List Spot) → new ≡ with_event old e → AreSpots (rows_of old.who old.events) S → book_with_spots new S ≡ book_with_arrivals (with_event old e) (arrivals_of (rows_of old.who old.events) S)
 over_after old new e S is are =
-    ap (λ (x : Kept). over x S) is
-    ∙ ap (λ (rows : List Entry). beside (with_event old e) (arrivals_of rows S)) (rows_push old.who old.events e)
-    ∙ ap (beside (with_event old e)) (arrivals_still (rows_of old.who old.events) (cons_option (row_of old.who e) []) S are.0)
+    ap (λ (x : Kept). book_with_spots x S) is
+    ∙ ap (λ (rows : List Entry). book_with_arrivals (with_event old e) (arrivals_of rows S)) (rows_push old.who old.events e)
+    ∙ ap (book_with_arrivals (with_event old e)) (arrivals_still (rows_of old.who old.events) (cons_option (row_of old.who e) []) S are.0)
 
 -- one spot more, at the position of a row that comes
 pub spots_next : (rows : List Entry) (entry : Entry) (S : List Spot) (s : Spot) → s.position ≡ length rows → AreSpots rows S → AreSpots (rows ++ entry ∷ []) (S ++ s ∷ [])
@@ -256,22 +256,22 @@ spots_forwarded old new entry S s is at are =
     (subst (λ (rows : List Entry). AreSpots rows (S ++ s ∷ [])) (sym (rows_push old.who old.events (Forwarded entry.from entry.id entry.cents entry.deadline))) (spots_next (rows_of old.who old.events) entry S s at are))
 
 pub over_forwarded : (old new : Kept) (entry : Entry) (S : List Spot) (s : Spot) → new ≡ with_event old (Forwarded entry.from entry.id entry.cents entry.deadline) → s.position ≡ length (rows_of old.who old.events) → AreSpots (rows_of old.who old.events) S
-    → over new (S ++ s ∷ []) ≡ beside (with_event old (Forwarded entry.from entry.id entry.cents entry.deadline)) (arrivals_of (rows_of old.who old.events) S ++ lying s.index entry ∷ [])
+    → book_with_spots new (S ++ s ∷ []) ≡ book_with_arrivals (with_event old (Forwarded entry.from entry.id entry.cents entry.deadline)) (arrivals_of (rows_of old.who old.events) S ++ lying s.index entry ∷ [])
 over_forwarded old new entry S s is at are =
     let e : Event = Forwarded entry.from entry.id entry.cents entry.deadline in
-    ap (λ (x : Kept). over x (S ++ s ∷ [])) is
-    ∙ ap (λ (rows : List Entry). beside (with_event old e) (arrivals_of rows (S ++ s ∷ []))) (rows_push old.who old.events e)
-    ∙ ap (beside (with_event old e)) (arrivals_next (rows_of old.who old.events) entry S s at are)
+    ap (λ (x : Kept). book_with_spots x (S ++ s ∷ [])) is
+    ∙ ap (λ (rows : List Entry). book_with_arrivals (with_event old e) (arrivals_of rows (S ++ s ∷ []))) (rows_push old.who old.events e)
+    ∙ ap (book_with_arrivals (with_event old e)) (arrivals_next (rows_of old.who old.events) entry S s at are)
 
 -- what is booked of the arrival at a spot
 pub unbooked_is : (book : Book) (h : Held) (f : Found) (s : Spot) → IsRight book.who book.events (state_in h) → IsFound h f → f.position ≡ s.position
-    → unbooked_place book (arrival_of (rows_of book.who book.events) s) ≡ cond (is_none f.transfer.outcome) (placed f.from s.index) None
+    → unbooked_place book (arrival_of (rows_of book.who book.events) s) ≡ cond (is_none f.transfer.outcome) (place_with_index f.from s.index) None
 unbooked_is book h f s right found at =
     let row = found_row book.who book.events h f right found in
     let here : get_or (rows_of book.who book.events) s.position no_entry ≡ row_in ((f.from, f.id), f.transfer) =
     get_or_from_slice_get (rows_of book.who book.events) s.position _ no_entry (ap (slice_get (rows_of book.who book.events)) (sym at) ∙ row) in
     let outcome : booked f.from f.id book.events ≡ f.transfer.outcome = sym (right.booked (f.from, f.id)) ∙ ap outcome_in found.transfer in
-    ap (λ (e : Entry). unbooked_place book (lying s.index e)) here ∙ ap (λ (o : Option Outcome). cond (is_none o) (placed f.from s.index) None) outcome
+    ap (λ (e : Entry). unbooked_place book (lying s.index e)) here ∙ ap (λ (o : Option Outcome). cond (is_none o) (place_with_index f.from s.index) None) outcome
 
 pub is_unbooked : (o : Option Outcome) (b : Bool) → is_some o ≡ b → is_none o ≡ not b
 is_unbooked None b e = ap not e

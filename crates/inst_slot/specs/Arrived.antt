@@ -1,16 +1,17 @@
--- Which of the live transfers that were forwarded to a participant have nothing booked, in order of arrival. This hub's
--- own choice.
-use Rattle.std.specs.Prelude.{◌≡◌, ℕ, ◌≤◌, ◌<◌, is_none, if◌then◌else◌, slice_get, Option, Some, None}
-use Rattle.inst_board.specs.declared.place.Place.{Place}
+-- Which of the live transfers that were forwarded to a participant have nothing booked, in order of
+-- arrival. This hub's own choice.
+use Rattle.std.specs.Prelude.{◌≡◌, ℕ, ◌≤◌, ◌<◌, is_none, if◌then◌else◌, slice_get, Option, Some}
+use Rattle.std.specs.Prelude.{None}
+use Rattle.inst_command.specs.declared.place.Place.{Place}
 use Rattle.inst_journal.specs.Booked.{booked}
 use Rattle.inst_slot.specs.declared.arrival.Arrival.{Arrival}
-use Rattle.inst_slot.specs.Book.{Book, placed}
+use Rattle.inst_slot.specs.Book.{Book, place_with_index}
 
 -- the place of the arrival, where nothing is booked of it and its place was found
 abbrev pub unbooked_place : Book → Arrival → Option Place
 unbooked_place book arrival =
     if is_none (booked arrival.entry.from arrival.entry.id book.events)
-    then placed arrival.entry.from arrival.index else None
+    then place_with_index arrival.entry.from arrival.index else None
 
 -- no arrival from one position on and before another has such a place
 abbrev pub NoneUnbooked : Book → ℕ → ℕ → Type 0
@@ -27,6 +28,7 @@ pub record IsNextUnbooked (book : Book) (from : ℕ) (next : ℕ × Place) : Typ
 
 -- this first arrival, or that there is none
 abbrev pub GivesUnbooked : Book → ℕ → Option (ℕ × Place) → Type 0
-GivesUnbooked book from None = (i : ℕ) (arrival : Arrival) → from ≤ i → slice_get book.arrivals i ≡ Some arrival →
+GivesUnbooked book from None =
+    (i : ℕ) (arrival : Arrival) → from ≤ i → slice_get book.arrivals i ≡ Some arrival →
     unbooked_place book arrival ≡ None
 GivesUnbooked book from (Some next) = IsNextUnbooked book from next

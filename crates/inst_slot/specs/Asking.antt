@@ -1,7 +1,9 @@
--- What a command does to a participant's books and its board. A confirmation, a rejection or an investigation of a
--- transfer with nothing booked gets the board's decision of its place; a submission that is taken opens the next place;
--- nothing else changes the board. This hub's own choice.
-use Rattle.std.specs.Prelude.{◌≡◌, ◌⊎◌, ℕ, Bool, true, false, ◌&&◌, ◌||◌, is_none, nat_lt, List, ◌∷◌, ◌++◌, length, position, Option, Some, None, Result, Err}
+-- What a command does to a participant's books and its board. A confirmation, a rejection or an
+-- investigation of a transfer with nothing booked gets the board's decision of its place; a
+-- submission that is taken opens the next place; nothing else changes the board. This hub's own
+-- choice.
+use Rattle.std.specs.Prelude.{◌≡◌, ◌⊎◌, ℕ, Bool, true, false, ◌&&◌, ◌||◌, is_none, nat_lt, List}
+use Rattle.std.specs.Prelude.{◌∷◌, ◌++◌, length, position, Option, Some, None, Result, Err}
 use Rattle.inst_base.specs.TimeLimit.{deadline_of}
 use Rattle.inst_base.specs.declared.fault.Fault.{Fault}
 use Rattle.inst_base.specs.declared.fault.Fault.TheVariants.{Memory}
@@ -10,7 +12,7 @@ use Rattle.inst_command.specs.declared.command.Command.{Command}
 use Rattle.inst_command.specs.declared.command.Command.TheVariants.{Confirm, Reject, Investigate}
 use Rattle.inst_command.specs.declared.outcome.Outcome.{Outcome}
 use Rattle.inst_command.specs.declared.reply.Reply.{Reply}
-use Rattle.inst_board.specs.declared.place.Place.{Place}
+use Rattle.inst_command.specs.declared.place.Place.{Place}
 use Rattle.inst_board.specs.declared.look.Look.{Look}
 use Rattle.inst_board.specs.declared.look.Look.TheVariants.{Pending}
 use Rattle.inst_board.specs.declared.wish.Wish.{Wish}
@@ -28,11 +30,13 @@ use Rattle.inst_journal.specs.Reply.{handle, told, kept_events, copies}
 use Rattle.inst_slot.specs.Book.{Book, place_at, terms_to, arrived_at}
 use Rattle.inst_slot.specs.LawfulBoard.{IsAdopted}
 
--- whether the command decides a transfer: it confirms or rejects what was forwarded, or investigates what was taken, and
--- nothing is booked of that
+-- whether the command decides a transfer: it confirms or rejects what was forwarded, or
+-- investigates what was taken, and nothing is booked of that
 abbrev pub decides : Book → Command → Bool
-decides book (Confirm from id) = is_forwarded from id book.events && is_none (booked from id book.events)
-decides book (Reject from id reason) = is_forwarded from id book.events && is_none (booked from id book.events)
+decides book (Confirm from id) =
+    is_forwarded from id book.events && is_none (booked from id book.events)
+decides book (Reject from id reason) =
+    is_forwarded from id book.events && is_none (booked from id book.events)
 decides book (Investigate id) = is_taken id book.events && is_none (booked book.who id book.events)
 decides book _ = false
 
@@ -44,11 +48,14 @@ wish_for wish owner (Some outcome) index = None
 
 -- the place that the command asks the board to decide, and what it wishes for it
 abbrev pub request : Book → Command → Option (Place × Wish)
-request book (Confirm from id) = wish_for Accept from (booked from id book.events) (arrived_at from id book.arrivals)
+request book (Confirm from id) =
+    wish_for Accept from (booked from id book.events) (arrived_at from id book.arrivals)
 request book (Reject from id reason) =
-    wish_for (WishReject reason) from (booked from id book.events) (arrived_at from id book.arrivals)
+    wish_for (WishReject reason) from (booked from id book.events)
+    (arrived_at from id book.arrivals)
 request book (Investigate id) =
-    wish_for Expire book.who (booked book.who id book.events) (position (takes id) (live_taken book.who book.events))
+    wish_for Expire book.who (booked book.who id book.events)
+    (position (takes id) (live_taken book.who book.events))
 request book _ = None
 
 -- the place of what is confirmed or rejected was found
@@ -57,10 +64,11 @@ AsksAdopted book (Confirm from id) = IsAdopted book from id
 AsksAdopted book (Reject from id reason) = IsAdopted book from id
 AsksAdopted book _ = Unit {0}
 
--- From the board b to the board c the place was looked at, and then, of the same holder, this is an answer that a decision
--- of it allows for the wish at the reading
+-- From the board b to the board c the place was looked at, and then, of the same holder, this is an
+-- answer that a decision of it allows for the wish at the reading
 pub record Finds {B : Type 0} (margin : ℕ) (knows : B → Fact → Type 0) (has_role : B → ℕ → Type 0)
-    (stood : B → Place → Outcome → Type 0) (stays : B → B → Type 0) (b : B) (k : Place) (wish : Wish) (at : ℕ)
+    (stood : B → Place → Outcome → Type 0) (stays : B → B →
+    Type 0) (b : B) (k : Place) (wish : Wish) (at : ℕ)
     (found : Option Outcome) (c : B) : Type 0 where
   pub look : Look
   pub between : B
@@ -74,8 +82,10 @@ stays_pending margin wish at (Pending terms deadline) = is_none (wanted margin w
 stays_pending margin wish at _ = false
 
 -- the board was only looked at, and showed that something is to be booked
-pub record OnlyLooks {B : Type 0} (margin : ℕ) (knows : B → Fact → Type 0) (has_role : B → ℕ → Type 0)
-    (stood : B → Place → Outcome → Type 0) (b : B) (k : Place) (wish : Wish) (at : ℕ) (c : B) : Type 0 where
+pub record OnlyLooks {B : Type 0} (margin : ℕ) (knows : B → Fact → Type 0) (has_role : B → ℕ →
+    Type 0)
+    (stood : B → Place → Outcome →
+    Type 0) (b : B) (k : Place) (wish : Wish) (at : ℕ) (c : B) : Type 0 where
   pub look : Look
   pub looks : Looks margin knows has_role stood b k look c
   pub books : stays_pending margin wish at look ≡ false
@@ -86,9 +96,11 @@ handle_ask book ask found = handle book.settings book.who book.events ask.comman
 
 -- the book after an ask of its participant that found this
 abbrev pub book_after : Book → Ask → Option Outcome → Book
-book_after book ask found = record book { events = book.events ++ kept_events (handle_ask book ask found) }
+book_after book ask found =
+    record book { events = book.events ++ kept_events (handle_ask book ask found) }
 
--- the board after these events were kept: where one takes a submission, the next place was opened for it
+-- the board after these events were kept: where one takes a submission, the next place was opened
+-- for it
 abbrev pub Opens : {B : Type 0} → ℕ → (B → Fact → Type 0) → Book → List Event → B → B → Type 0
 Opens margin knows book (Taken id to cents stamp ∷ events) b c =
     Learns margin knows b (place_at book.who (live_submissions book.who book.events))
@@ -97,34 +109,43 @@ Opens margin knows book _ b c = c ≡ b
 
 -- whether an ask that finds nothing takes memory: to keep an event, or to copy what it replies
 abbrev pub takes_memory : Book → Ask → Bool
-takes_memory book ask = copies book.events ask.command || nat_lt 0 (length (kept_events (handle_ask book ask None)))
+takes_memory book ask =
+    copies book.events ask.command || nat_lt 0 (length (kept_events (handle_ask book ask None)))
 
 -- an ask that finds nothing
 -- answered: it is answered as the books demand, and they keep what they are to keep
 -- or memory was refused, and nothing changed
-abbrev pub Enters : {B : Type 0} → ℕ → (B → Fact → Type 0) → B → Book → Ask → Result Reply Fault → B → Book → Type 0
+abbrev pub Enters : {B : Type 0} → ℕ → (B → Fact → Type 0) → B → Book → Ask → Result Reply Fault →
+    B → Book → Type 0
 Enters margin knows b book ask result c new =
     ((result ≡ told (handle_ask book ask None)) × (new ≡ book_after book ask None)
     × Opens margin knows book (kept_events (handle_ask book ask None)) b c)
     ⊎ ((result ≡ Err Memory) × (new ≡ book) × (c ≡ b) × (takes_memory book ask ≡ true))
 
--- An ask that decides the place k: it is answered as the books demand for what it finds there; or memory was refused, and
--- the books and the place stay as they were
-abbrev pub Settles : {B : Type 0} → ℕ → (B → Fact → Type 0) → (B → ℕ → Type 0) → (B → Place → Outcome → Type 0) →
+-- An ask that decides the place k: it is answered as the books demand for what it finds there; or
+-- memory was refused, and the books and the place stay as they were
+abbrev pub Settles : {B : Type 0} → ℕ → (B → Fact → Type 0) → (B → ℕ → Type 0) →
+    (B → Place → Outcome → Type 0) →
     (B → B → Type 0) → B → Book → Ask → Place → Wish → Result Reply Fault → B → Book → Type 0
 Settles margin knows has_role stood stays b book ask k wish result c new =
-    ((found : Option Outcome) × (result ≡ told (handle_ask book ask found)) × (new ≡ book_after book ask found)
+    ((found : Option Outcome) × (result ≡ told (handle_ask book ask found))
+    × (new ≡ book_after book ask found)
     × Finds margin knows has_role stood stays b k wish ask.at found c)
-    ⊎ ((result ≡ Err Memory) × (new ≡ book) × OnlyLooks margin knows has_role stood b k wish ask.at c)
+    ⊎ ((result ≡ Err Memory) × (new ≡ book)
+    × OnlyLooks margin knows has_role stood b k wish ask.at c)
 
 -- an ask of the participant is answered, with or without the board
-abbrev pub AppliesTo : {B : Type 0} → ℕ → (B → Fact → Type 0) → (B → ℕ → Type 0) → (B → Place → Outcome → Type 0) →
-    (B → B → Type 0) → B → Book → Ask → Option (Place × Wish) → Result Reply Fault → B → Book → Type 0
-AppliesTo margin knows has_role stood stays b book ask None result c new = Enters margin knows b book ask result c new
+abbrev pub AppliesTo : {B : Type 0} → ℕ → (B → Fact → Type 0) → (B → ℕ → Type 0) →
+    (B → Place → Outcome → Type 0) →
+    (B → B → Type 0) → B → Book → Ask → Option (Place × Wish) → Result Reply Fault → B → Book →
+    Type 0
+AppliesTo margin knows has_role stood stays b book ask None result c new =
+    Enters margin knows b book ask result c new
 AppliesTo margin knows has_role stood stays b book ask (Some asked) result c new =
     Settles margin knows has_role stood stays b book ask asked.0 asked.1 result c new
 
-abbrev pub Applies : {B : Type 0} → ℕ → (B → Fact → Type 0) → (B → ℕ → Type 0) → (B → Place → Outcome → Type 0) →
+abbrev pub Applies : {B : Type 0} → ℕ → (B → Fact → Type 0) → (B → ℕ → Type 0) →
+    (B → Place → Outcome → Type 0) →
     (B → B → Type 0) → B → Book → Ask → Result Reply Fault → B → Book → Type 0
 Applies margin knows has_role stood stays b book ask result c new =
     AppliesTo margin knows has_role stood stays b book ask (request book ask.command) result c new

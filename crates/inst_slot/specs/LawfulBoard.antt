@@ -1,12 +1,14 @@
--- What a participant's books have to do with what its board's holder knows, between any two calls of its slot. The live
--- transfers of its own are the places that it opened; a forwarded one is known once its place was found; what is booked
--- is known; and what only its slot can have answered is booked. This hub's own choice.
-use Rattle.std.specs.Prelude.{◌≡◌, ◌≢◌, ◌⊎◌, ℕ, ◌<◌, true, is_some, List, length, slice_get, map, Contains, Some}
+-- What a participant's books have to do with what its board's holder knows, between any two calls
+-- of its slot. The live transfers of its own are the places that it opened; a forwarded one is
+-- known once its place was found; what is booked is known; and what only its slot can have answered
+-- is booked. This hub's own choice.
+use Rattle.std.specs.Prelude.{◌≡◌, ◌≢◌, ◌⊎◌, ℕ, ◌<◌, true, is_some, List, length, slice_get, map}
+use Rattle.std.specs.Prelude.{Contains, Some}
 use Rattle.inst_base.specs.TimeLimit.{deadline_of}
 use Rattle.inst_settings.specs.Settings.{HubSettings}
 use Rattle.inst_command.specs.declared.outcome.Outcome.{Outcome}
 use Rattle.inst_terms.specs.declared.terms.Terms.{Terms}
-use Rattle.inst_board.specs.declared.place.Place.{Place}
+use Rattle.inst_command.specs.declared.place.Place.{Place}
 use Rattle.inst_board.specs.declared.about.About.TheVariants.{Opened, HasTerms, Decided}
 use Rattle.inst_board.specs.declared.about.Fact.{Fact}
 use Rattle.inst_board.specs.Standing.{about}
@@ -25,50 +27,62 @@ pub record IsTakenAt (book : Book) (id : List ℕ) (index : ℕ) : Type 0 where
   pub stamp : ℕ
   pub there : slice_get (live_taken book.who book.events) index ≡ Some (Taken id to cents stamp)
 
--- the live transfer lies at this index of its originator's places: it was taken there, or forwarded from there
+-- the live transfer lies at this index of its originator's places: it was taken there, or forwarded
+-- from there
 abbrev pub LiesAt : Book → ℕ → List ℕ → ℕ → Type 0
-LiesAt book from id index = ((from ≡ book.who) × IsTakenAt book id index) ⊎ (arrived_at from id book.arrivals ≡ Some index)
+LiesAt book from id index =
+    ((from ≡ book.who) × IsTakenAt book id index) ⊎ (arrived_at from id book.arrivals ≡ Some index)
 
 -- an outcome of the transfer is known, at the place where it lies
-pub record KnowsEnd {B : Type 0} (knows : B → Fact → Type 0) (b : B) (book : Book) (from : ℕ) (id : List ℕ)
+pub record KnowsEnd {B : Type 0} (knows : B → Fact →
+    Type 0) (b : B) (book : Book) (from : ℕ) (id : List ℕ)
     (outcome : Outcome) : Type 0 where
   pub index : ℕ
   pub lies : LiesAt book from id index
   pub known : knows b (about (place_at from index) (Decided outcome))
 
 -- same_settings, role: the board is of the slot's hub, and its holder has the participant's role
--- truly: what is known of each place is true of one lawful standing
--- taken_known, only_taken: the live transfers of its own are, in their order, the places that it opened
--- arrived: there is an arrival for each live transfer that was forwarded, in order
--- forwarded_known: those whose places were found are known opened, for the participant
--- booked_known: the booked outcome of a live transfer is known
--- answered: each place for the participant that is known accepted or rejected is booked
-pub record IsLawfulBoard {B : Type 0} (settings : B → HubSettings) (knows : B → Fact → Type 0) (has_role : B → ℕ → Type 0)
+-- truly: what is known of each place is true of one lawful standing taken_known, only_taken: the
+-- live transfers of its own are, in their order, the places that it opened arrived: there is an
+-- arrival for each live transfer that was forwarded, in order forwarded_known: those whose places
+-- were found are known opened, for the participant booked_known: the booked outcome of a live
+-- transfer is known answered: each place for the participant that is known accepted or rejected is
+-- booked
+pub record IsLawfulBoard {B : Type 0} (settings : B → HubSettings) (knows : B → Fact →
+    Type 0) (has_role : B → ℕ → Type 0)
     (b : B) (book : Book) : Type 0 where
   pub same_settings : settings b ≡ book.settings
   pub role : has_role b book.who
   pub truly : (k : Place) → KnowsTruly book.settings.margin knows b k
   pub taken_known : (index : ℕ) (id : List ℕ) (to cents stamp : ℕ) →
       slice_get (live_taken book.who book.events) index ≡ Some (Taken id to cents stamp) →
-      KnowsOpening knows b (place_at book.who index) (terms_to to cents id) (deadline_of book.settings.limit stamp)
+      KnowsOpening knows b (place_at book.who index) (terms_to to cents id)
+      (deadline_of book.settings.limit stamp)
   pub only_taken : (index : ℕ) → knows b (about (place_at book.who index) Opened) →
       index < length (live_taken book.who book.events)
   pub arrived : map (λ x. x.entry) book.arrivals ≡ live_inbox book.events
-  pub forwarded_known : (x : Arrival) (index : ℕ) → Contains book.arrivals x → x.index ≡ Some index →
-      KnowsOpening knows b (place_at x.entry.from index) (terms_to book.who x.entry.cents x.entry.id) x.entry.deadline
-  pub booked_known : (from : ℕ) (id : List ℕ) (outcome : Outcome) → booked from id book.events ≡ Some outcome →
+  pub forwarded_known : (x : Arrival) (index : ℕ) → Contains book.arrivals x →
+      x.index ≡ Some index →
+      KnowsOpening knows b (place_at x.entry.from index)
+      (terms_to book.who x.entry.cents x.entry.id) x.entry.deadline
+  pub booked_known : (from : ℕ) (id : List ℕ) (outcome : Outcome) →
+      booked from id book.events ≡ Some outcome →
       is_live from id book.events ≡ true → KnowsEnd knows b book from id outcome
   pub answered : (k : Place) (t : Terms) (outcome : Outcome) → t.to ≡ book.who → IsAnswer outcome →
-      knows b (about k (HasTerms t)) → knows b (about k (Decided outcome)) → booked k.owner t.id book.events ≡ Some outcome
+      knows b (about k (HasTerms t)) → knows b (about k (Decided outcome)) →
+      booked k.owner t.id book.events ≡ Some outcome
 
 -- the books of every other participant over the same board have to do with it what they had
-abbrev pub KeepsOthers : {B : Type 0} → (B → HubSettings) → (B → Fact → Type 0) → (B → ℕ → Type 0) → B → ℕ → B → Type 0
-KeepsOthers settings knows has_role b who c = (book : Book) → book.who ≢ who → IsLawfulBoard settings knows has_role b book →
+abbrev pub KeepsOthers : {B : Type 0} → (B → HubSettings) → (B → Fact → Type 0) → (B → ℕ → Type 0) →
+    B → ℕ → B → Type 0
+KeepsOthers settings knows has_role b who c =
+    (book : Book) → book.who ≢ who → IsLawfulBoard settings knows has_role b book →
     IsLawfulBoard settings knows has_role c book
 
 -- the place of this transfer was found, if it is live and was forwarded
 abbrev pub IsAdopted : Book → ℕ → List ℕ → Type 0
-IsAdopted book from id = is_forwarded from id book.events ≡ true → is_live from id book.events ≡ true →
+IsAdopted book from id =
+    is_forwarded from id book.events ≡ true → is_live from id book.events ≡ true →
     is_some (arrived_at from id book.arrivals) ≡ true
 
 -- the places of all of them were found

@@ -1,11 +1,11 @@
--- The laws of slots over boards: that new books over a board of which nothing is known are lawful; that the place which a
--- slot tells of a transfer is known opened, with that transfer's identifier; that the books of one participant after
--- another may be opened again over one board; that lawful books may move to another board where the same is known. They
--- are this hub's own promises.
+-- The laws of slots over boards: that new books over a board of which nothing is known are lawful;
+-- that the place which a slot tells of a transfer is known opened, with that transfer's identifier;
+-- that the books of one participant after another may be opened again over one board; that lawful
+-- books may move to another board where the same is known. They are this hub's own promises.
 use Rattle.std.specs.Prelude.{◌≡◌, ◌≢◌, ◌↔◌, ℕ, List, [], Some}
 use Rattle.inst_settings.specs.Settings.{HubSettings}
 use Rattle.inst_terms.specs.declared.terms.Terms.{Terms}
-use Rattle.inst_board.specs.declared.place.Place.{Place}
+use Rattle.inst_command.specs.declared.place.Place.{Place}
 use Rattle.inst_board.specs.declared.about.Fact.{Fact}
 use Rattle.inst_board.specs.Laws.{KnowsOpening}
 use Rattle.inst_journal.specs.Opened.{live_taken}
@@ -13,37 +13,52 @@ use Rattle.inst_slot.specs.Book.{Book, place_of}
 use Rattle.inst_slot.specs.LawfulBoard.{IsLawfulBoard}
 use Rattle.inst_slot.specs.Opening.{MayOpenAgain, OpensPlaces}
 
-abbrev pub NewBooksAreLawful : {B : Type 0} → (B → HubSettings) → (B → Fact → Type 0) → (B → ℕ → Type 0) → Type 0
-NewBooksAreLawful {B} settings knows has_role = (b : B) (book : Book) → settings b ≡ book.settings → has_role b book.who →
-    ((f : Fact) → ¬ knows b f) → book.events ≡ [] → book.arrivals ≡ [] → IsLawfulBoard settings knows has_role b book
+abbrev pub NewBooksAreLawful : {B : Type 0} → (B → HubSettings) → (B → Fact → Type 0) →
+    (B → ℕ → Type 0) → Type 0
+NewBooksAreLawful {B} settings knows has_role =
+    (b : B) (book : Book) → settings b ≡ book.settings → has_role b book.who →
+    ((f : Fact) → ¬ knows b f) → book.events ≡ [] → book.arrivals ≡ [] →
+    IsLawfulBoard settings knows has_role b book
 
 -- the place is known opened, with terms of this identifier
-pub record KnowsTransfer {B : Type 0} (knows : B → Fact → Type 0) (b : B) (id : List ℕ) (k : Place) : Type 0 where
+pub record KnowsTransfer {B : Type 0} (knows : B → Fact →
+    Type 0) (b : B) (id : List ℕ) (k : Place) : Type 0 where
   pub terms : Terms
   pub deadline : ℕ
   pub id_is : terms.id ≡ id
   pub known : KnowsOpening knows b k terms deadline
 
-abbrev pub AToldPlaceIsKnown : {B : Type 0} → (B → HubSettings) → (B → Fact → Type 0) → (B → ℕ → Type 0) → Type 0
-AToldPlaceIsKnown {B} settings knows has_role = (b : B) (book : Book) (from : ℕ) (id : List ℕ) (k : Place) →
-    IsLawfulBoard settings knows has_role b book → place_of book from id ≡ Some k → KnowsTransfer knows b id k
+abbrev pub AToldPlaceIsKnown : {B : Type 0} → (B → HubSettings) → (B → Fact → Type 0) →
+    (B → ℕ → Type 0) → Type 0
+AToldPlaceIsKnown {B} settings knows has_role =
+    (b : B) (book : Book) (from : ℕ) (id : List ℕ) (k : Place) →
+    IsLawfulBoard settings knows has_role b book → place_of book from id ≡ Some k →
+    KnowsTransfer knows b id k
 
 -- the books of each participant may be opened again over a board of which nothing is known
-abbrev pub AnyMayOpenFirst : {B : Type 0} → (B → HubSettings) → (B → Fact → Type 0) → (B → ℕ → Type 0) → Type 0
-AnyMayOpenFirst {B} settings knows has_role = (b : B) (who : ℕ) → has_role b who → ((f : Fact) → ¬ knows b f) →
+abbrev pub AnyMayOpenFirst : {B : Type 0} → (B → HubSettings) → (B → Fact → Type 0) →
+    (B → ℕ → Type 0) → Type 0
+AnyMayOpenFirst {B} settings knows has_role =
+    (b : B) (who : ℕ) → has_role b who → ((f : Fact) → ¬ knows b f) →
     MayOpenAgain settings knows has_role b (settings b) who
 
 -- where the books of one were opened again, those of another may still be
-abbrev pub OthersMayOpen : {B : Type 0} → (B → HubSettings) → (B → Fact → Type 0) → (B → ℕ → Type 0) → (B → B → Type 0) → Type 0
-OthersMayOpen {B} settings knows has_role stays = (b c : B) (book : Book) (other : ℕ) → stays b c → other ≢ book.who →
+abbrev pub OthersMayOpen : {B : Type 0} → (B → HubSettings) → (B → Fact → Type 0) →
+    (B → ℕ → Type 0) → (B → B → Type 0) → Type 0
+OthersMayOpen {B} settings knows has_role stays =
+    (b c : B) (book : Book) (other : ℕ) → stays b c → other ≢ book.who →
     OpensPlaces knows book.settings book.who (live_taken book.who book.events) b c →
-    IsLawfulBoard settings knows has_role c book → MayOpenAgain settings knows has_role b book.settings other →
+    IsLawfulBoard settings knows has_role c book →
+    MayOpenAgain settings knows has_role b book.settings other →
     MayOpenAgain settings knows has_role c book.settings other
 
--- books that are lawful over the board b are lawful over c, which may be a board of another kind: it is of the same hub, its
--- holder has the participant's role, and knows what the holder of b knows
-abbrev pub LawfulWhereTheSameIsKnown : {B C : Type 0} → (B → HubSettings) → (B → Fact → Type 0) → (B → ℕ → Type 0) →
+-- books that are lawful over the board b are lawful over c, which may be a board of another kind:
+-- it is of the same hub, its holder has the participant's role, and knows what the holder of b
+-- knows
+abbrev pub LawfulWhereTheSameIsKnown : {B C : Type 0} → (B → HubSettings) → (B → Fact → Type 0) →
+    (B → ℕ → Type 0) →
     (C → HubSettings) → (C → Fact → Type 0) → (C → ℕ → Type 0) → Type 0
-LawfulWhereTheSameIsKnown {B} {C} settings knows has_role settings_c knows_c role_c = (b : B) (c : C) (book : Book) →
+LawfulWhereTheSameIsKnown {B} {C} settings knows has_role settings_c knows_c role_c =
+    (b : B) (c : C) (book : Book) →
     settings_c c ≡ settings b → role_c c book.who → ((f : Fact) → knows_c c f ↔ knows b f) →
     IsLawfulBoard settings knows has_role b book → IsLawfulBoard settings_c knows_c role_c c book

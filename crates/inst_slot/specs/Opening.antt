@@ -1,14 +1,15 @@
--- How a participant's slot opens again from its books: its live transfers get the first places, in order of taking, with
--- their terms and deadlines, and the places of those that were forwarded to it are found one by one. This hub's own
--- choice.
-use Rattle.std.specs.Prelude.{◌≡◌, ◌↔◌, ◌⊎◌, ℕ, Bool, false, ◌&&◌, ◌==◌, is_none, if◌then◌else◌, List, [], ◌∷◌, ◌++◌, map, count_by, slice_get, Some, None}
+-- How a participant's slot opens again from its books: its live transfers get the first places, in
+-- order of taking, with their terms and deadlines, and the places of those that were forwarded to
+-- it are found one by one. This hub's own choice.
+use Rattle.std.specs.Prelude.{◌≡◌, ◌↔◌, ◌⊎◌, ℕ, Bool, false, ◌&&◌, ◌==◌, is_none, if◌then◌else◌}
+use Rattle.std.specs.Prelude.{List, [], ◌∷◌, ◌++◌, map, count_by, slice_get, Some, None}
 use Rattle.std.specs.List.{list_any}
 use Rattle.inst_base.specs.TimeLimit.{deadline_of}
 use Rattle.inst_settings.specs.Settings.{HubSettings}
 use Rattle.inst_command.specs.declared.entry.Entry.{Entry}
 use Rattle.inst_command.specs.declared.outcome.Outcome.{Outcome}
 use Rattle.inst_terms.specs.declared.terms.Terms.{Terms}
-use Rattle.inst_board.specs.declared.place.Place.{Place}
+use Rattle.inst_command.specs.declared.place.Place.{Place}
 use Rattle.inst_board.specs.declared.look.Look.{Look}
 use Rattle.inst_board.specs.declared.look.Look.TheVariants.{Pending}
 use Rattle.inst_board.specs.declared.about.About.{About}
@@ -23,8 +24,8 @@ use Rattle.inst_slot.specs.declared.arrival.Arrival.{Arrival}
 use Rattle.inst_slot.specs.Book.{Book, place_at, terms_to, live_inbox}
 
 -- a transfer that was carried over the opening: its place isn't found yet
-abbrev pub unplaced : Entry → Arrival
-unplaced entry = record { entry = entry; index = None }
+abbrev pub arrival_without_place : Entry → Arrival
+arrival_without_place entry = record { entry = entry; index = None }
 
 -- the participant's book, opened again from this history
 abbrev pub opened_again : HubSettings → ℕ → List Event → Book
@@ -32,7 +33,7 @@ opened_again settings who J = record {
   settings = settings;
   who = who;
   events = J ++ Opened ∷ [];
-  arrivals = map unplaced (live_inbox (J ++ Opened ∷ []));
+  arrivals = map arrival_without_place (live_inbox (J ++ Opened ∷ []));
 }
 
 -- The board is one over which the books of `who` may be opened again
@@ -40,7 +41,8 @@ opened_again settings who J = record {
 -- truly: what is known of each place is true of one lawful standing
 -- unopened: no place of the participant's is known opened
 -- unanswered: no place for the participant is known accepted or rejected
-pub record MayOpenAgain {B : Type 0} (settings : B → HubSettings) (knows : B → Fact → Type 0) (has_role : B → ℕ → Type 0)
+pub record MayOpenAgain {B : Type 0} (settings : B → HubSettings) (knows : B → Fact →
+    Type 0) (has_role : B → ℕ → Type 0)
     (b : B) (hub : HubSettings) (who : ℕ) : Type 0 where
   pub same_settings : settings b ≡ hub
   pub role : has_role b who
@@ -49,7 +51,8 @@ pub record MayOpenAgain {B : Type 0} (settings : B → HubSettings) (knows : B �
   pub unanswered : (k : Place) (t : Terms) (outcome : Outcome) → t.to ≡ who → IsAnswer outcome →
       knows b (about k (HasTerms t)) → ¬ knows b (about k (Decided outcome))
 
--- the fact is of the opening of one of these submissions, which have the first places of `who` in their order
+-- the fact is of the opening of one of these submissions, which have the first places of `who` in
+-- their order
 pub record IsOfOpening (hub : HubSettings) (who : ℕ) (taken : List Event) (f : Fact) : Type 0 where
   pub index : ℕ
   pub id : List ℕ
@@ -63,10 +66,13 @@ pub record IsOfOpening (hub : HubSettings) (who : ℕ) (taken : List Event) (f :
 -- From the board b to the board c these submissions were opened, as the first places of `who`
 -- known: nothing else is learnt, and nothing forgotten
 -- agrees: what was known of such a place is true of the pending transfer
-pub record OpensPlaces {B : Type 0} (knows : B → Fact → Type 0) (hub : HubSettings) (who : ℕ) (taken : List Event) (b c : B) : Type 0 where
+pub record OpensPlaces {B : Type 0} (knows : B → Fact →
+    Type 0) (hub : HubSettings) (who : ℕ) (taken : List Event) (b c : B) : Type 0 where
   pub known : (f : Fact) → knows c f ↔ (knows b f ⊎ IsOfOpening hub who taken f)
-  pub agrees : (index : ℕ) (id : List ℕ) (to cents stamp : ℕ) → slice_get taken index ≡ Some (Taken id to cents stamp) →
-      (a : About) → knows b (about (place_at who index) a) → Says (pending (terms_to to cents id) (deadline_of hub.limit stamp)) a
+  pub agrees : (index : ℕ) (id : List ℕ) (to cents stamp : ℕ) →
+      slice_get taken index ≡ Some (Taken id to cents stamp) →
+      (a : About) → knows b (about (place_at who index) a) →
+      Says (pending (terms_to to cents id) (deadline_of hub.limit stamp)) a
 
 -- whether the arrival is of this transfer
 abbrev pub is_of : ℕ → List ℕ → Arrival → Bool
@@ -76,7 +82,8 @@ is_of from id arrival = same_transfer from id arrival.entry.from arrival.entry.i
 abbrev pub is_unfound : Arrival → Bool
 is_unfound arrival = is_none arrival.index
 
--- whether the place of the arrival isn't found yet, and what is pending at this place is its transfer
+-- whether the place of the arrival isn't found yet, and what is pending at this place is its
+-- transfer
 abbrev pub awaits : Place → Terms → ℕ → Arrival → Bool
 awaits k t deadline arrival =
     is_of k.owner t.id arrival && is_unfound arrival && (arrival.entry.cents == t.cents)
@@ -86,18 +93,22 @@ awaits k t deadline arrival =
 abbrev pub unfound : Book → ℕ
 unfound book = count_by is_unfound book.arrivals
 
--- whether a look at the place shows a transfer that was carried, is addressed to the participant, and awaits its place
+-- whether a look at the place shows a transfer that was carried, is addressed to the participant,
+-- and awaits its place
 abbrev pub finds_carried : Book → Place → Look → Bool
-finds_carried book k (Pending t deadline) = (t.to == book.who) && list_any (awaits k t deadline) book.arrivals
+finds_carried book k (Pending t deadline) =
+    (t.to == book.who) && list_any (awaits k t deadline) book.arrivals
 finds_carried book k _ = false
 
 -- the arrival, which lies at this place where it awaits it
 abbrev pub found_at : Place → Terms → ℕ → Arrival → Arrival
 found_at k t deadline arrival =
-    if awaits k t deadline arrival then record { entry = arrival.entry; index = Some k.index } else arrival
+    if awaits k t deadline arrival then record { entry = arrival.entry; index = Some k.index }
+    else arrival
 
 -- the book after a look at the place
 abbrev pub with_found : Book → Place → Look → Book
 with_found book k (Pending t deadline) =
-    if t.to == book.who then record book { arrivals = map (found_at k t deadline) book.arrivals } else book
+    if t.to == book.who then record book { arrivals = map (found_at k t deadline) book.arrivals }
+    else book
 with_found book k _ = book

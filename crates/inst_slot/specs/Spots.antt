@@ -1,5 +1,5 @@
--- How a slot keeps its arrivals: for each, where its participant's table holds the transfer, and the index of its place. What
--- else an arrival has is read off the table. This hub's own choice.
+-- How a slot keeps its arrivals: for each, where its participant's table holds the transfer, and
+-- the index of its place. What else an arrival has is read off the table. This hub's own choice.
 pub use Rattle.inst_transfers.specs.State.{rows_of}
 pub use Rattle.inst_ledger.specs.Inbox.{no_entry}
 use Rattle.std.specs.Prelude.{ℕ, get_or, List, map, length}

@@ -1,10 +1,13 @@
--- What a delivery, a lesson and an expiry do to a participant's books, by what its board shows or decides. A transfer is
--- forwarded only while it is pending, and an outcome is booked once: this hub's own choice.
-use Rattle.std.specs.Prelude.{◌≡◌, ◌⊎◌, ℕ, Bool, true, false, not, ◌&&◌, ◌||◌, ◌==◌, is_some, is_none, if◌then◌else◌, List, [], ◌∷◌, ◌++◌, slice_get, Option, Some, None, Result, Ok, Err, alloc_error}
+-- What a delivery, a resolution and an expiry do to a participant's books, by what its board shows
+-- or decides. A transfer is forwarded only while it is pending, and an outcome is booked once: this
+-- hub's own choice.
+use Rattle.std.specs.Prelude.{◌≡◌, ◌⊎◌, ℕ, Bool, true, false, not, ◌&&◌, ◌||◌, ◌==◌, is_some}
+use Rattle.std.specs.Prelude.{is_none, if◌then◌else◌, List, [], ◌∷◌, ◌++◌, slice_get, Option, Some}
+use Rattle.std.specs.Prelude.{None, Result, Ok, Err, alloc_error}
 use Rattle.std.specs.declared.alloc.AllocError.{AllocError}
 use Rattle.inst_command.specs.declared.entry.Entry.{Entry}
 use Rattle.inst_command.specs.declared.outcome.Outcome.{Outcome}
-use Rattle.inst_board.specs.declared.place.Place.{Place}
+use Rattle.inst_command.specs.declared.place.Place.{Place}
 use Rattle.inst_board.specs.declared.look.Look.{Look}
 use Rattle.inst_board.specs.declared.look.Look.TheVariants.{Pending, Decided}
 use Rattle.inst_board.specs.declared.wish.Wish.TheVariants.{Expire}
@@ -31,27 +34,29 @@ with_delivery book k (Some entry) = record book {
   arrivals = book.arrivals ++ record { entry = entry; index = Some k.index } ∷ [];
 }
 
--- whether the transfer that lies at the place is one of the participant's: its own, or forwarded from there
+-- whether the transfer that lies at the place is one of the participant's: its own, or forwarded
+-- from there
 abbrev pub is_party : Book → Place → List ℕ → Bool
 is_party book k id = (k.owner == book.who) || is_at k.index (arrived_at k.owner id book.arrivals)
 
--- the event that books what a look at the place shows: the transfer is decided, is the participant's, and nothing is
--- booked of it
-abbrev pub lesson : Book → Place → Look → Option Event
-lesson book k (Decided t outcome) =
+-- the event that books what a look at the place shows: the transfer is decided, is the
+-- participant's, and nothing is booked of it
+abbrev pub resolution : Book → Place → Look → Option Event
+resolution book k (Decided t outcome) =
     if is_party book k t.id && is_none (booked k.owner t.id book.events)
     then Some (Booked k.owner t.id outcome) else None
-lesson book k _ = None
+resolution book k _ = None
 
 abbrev pub with_event : Book → Option Event → Book
 with_event book None = book
 with_event book (Some event) = record book { events = book.events ++ event ∷ [] }
 
--- A call that keeps something where there is something new: it answers whether there is, and the book is that after it;
--- or memory was refused for it, and the book is as it was
+-- A call that keeps something where there is something new: it answers whether there is, and the
+-- book is that after it; or memory was refused for it, and the book is as it was
 abbrev pub Keeps : Bool → Book → Book → Result Bool AllocError → Book → Type 0
 Keeps is_new old after result new =
-    ((result ≡ Ok is_new) × (new ≡ after)) ⊎ ((result ≡ Err alloc_error) × (new ≡ old) × (is_new ≡ true))
+    ((result ≡ Ok is_new) × (new ≡ after))
+    ⊎ ((result ≡ Err alloc_error) × (new ≡ old) × (is_new ≡ true))
 
 -- the identifier of the transfer that the event takes
 abbrev pub taken_id : Event → Option (List ℕ)
@@ -69,25 +74,33 @@ if_unbooked book (Some id) = if is_none (booked book.who id book.events) then So
 
 -- the identifier of the participant's live transfer at this index, where nothing is booked of it
 abbrev pub unbooked_at : Book → ℕ → Option (List ℕ)
-unbooked_at book index = if_unbooked book (taken_by (slice_get (live_taken book.who book.events) index))
+unbooked_at book index =
+    if_unbooked book (taken_by (slice_get (live_taken book.who book.events) index))
 
 -- the event that books the outcome, if any
 abbrev pub booking : ℕ → List ℕ → Option Outcome → Option Event
 booking from id None = None
 booking from id (Some outcome) = Some (Booked from id outcome)
 
--- An expiry of an own transfer with nothing booked, if any: it books what is found at its place; or memory was refused,
--- and the book and the place stay as they were. Of no such transfer it does nothing
-abbrev pub ExpiresFor : {B : Type 0} → ℕ → (B → Fact → Type 0) → (B → ℕ → Type 0) → (B → Place → Outcome → Type 0) →
-    (B → B → Type 0) → B → Book → ℕ → ℕ → Option (List ℕ) → Result Bool AllocError → B → Book → Type 0
-ExpiresFor margin knows has_role stood stays b book index at None result c new = (result ≡ Ok false) × (new ≡ book) × (c ≡ b)
+-- An expiry of an own transfer with nothing booked, if any: it books what is found at its place; or
+-- memory was refused, and the book and the place stay as they were. Of no such transfer it does
+-- nothing
+abbrev pub ExpiresFor : {B : Type 0} → ℕ → (B → Fact → Type 0) → (B → ℕ → Type 0) →
+    (B → Place → Outcome → Type 0) →
+    (B → B → Type 0) → B → Book → ℕ → ℕ → Option (List ℕ) → Result Bool AllocError → B → Book →
+    Type 0
+ExpiresFor margin knows has_role stood stays b book index at None result c new =
+    (result ≡ Ok false) × (new ≡ book) × (c ≡ b)
 ExpiresFor margin knows has_role stood stays b book index at (Some id) result c new =
-    ((found : Option Outcome) × (result ≡ Ok (is_some found)) × (new ≡ with_event book (booking book.who id found))
+    ((found : Option Outcome) × (result ≡ Ok (is_some found))
+    × (new ≡ with_event book (booking book.who id found))
     × Finds margin knows has_role stood stays b (place_at book.who index) Expire at found c)
     ⊎ ((result ≡ Err alloc_error) × (new ≡ book)
     × OnlyLooks margin knows has_role stood b (place_at book.who index) Expire at c)
 
-abbrev pub Expires : {B : Type 0} → ℕ → (B → Fact → Type 0) → (B → ℕ → Type 0) → (B → Place → Outcome → Type 0) →
+abbrev pub Expires : {B : Type 0} → ℕ → (B → Fact → Type 0) → (B → ℕ → Type 0) →
+    (B → Place → Outcome → Type 0) →
     (B → B → Type 0) → B → Book → ℕ → ℕ → Result Bool AllocError → B → Book → Type 0
 Expires margin knows has_role stood stays b book index at result c new =
-    ExpiresFor margin knows has_role stood stays b book index at (unbooked_at book index) result c new
+    ExpiresFor margin knows has_role stood stays b book index at (unbooked_at book index) result c
+    new

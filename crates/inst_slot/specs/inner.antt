@@ -2,6 +2,6 @@ pub mod Indexed
 pub mod Spots
 pub mod Waiting
 pub mod Answering
-pub mod Lessons
+pub mod Resolutions
 pub mod Expiries
 pub mod Entering

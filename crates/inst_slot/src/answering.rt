@@ -8,7 +8,9 @@ ghost use Rattle.inst_slot.specs.Book.{arrived_at};
 ghost use Rattle.inst_ledger.specs.Right.{own_ids};
 ghost use Rattle.inst_slot.specs.LawfulBoard.{IsLawfulBoard};
 ghost use Rattle.inst_slot.specs.Spots.{rows_of, arrivals_of, AreSpots};
-ghost use Rattle.inst_slot.specs.inner.Answering.{over, named, is_expiry, pending_for, IsAsking, Gives};
+ghost use Rattle.inst_slot.specs.inner.Answering.{book_with_spots, decided_id, is_expiry};
+ghost use Rattle.inst_slot.specs.inner.Answering.{pending_for, IsAsking};
+ghost use Rattle.inst_slot.specs.inner.Answering.{Gives};
 ghost use Rattle.inst_slot.specs.Waiting.{IsRight};
 
 use crate::arrivals::{Spot, arrived_at};
@@ -16,12 +18,13 @@ use crate::booking::book;
 use crate::finding::find;
 use crate::waiting::Waiting;
 use inst_base::{Fault, Ident, mention};
-use inst_board::{Board, Place, Wish};
-use inst_command::{Ask, Command, Outcome, Reply, State};
+use inst_board::{Board, Wish};
+use inst_command::{Ask, Command, Outcome, Place, Reply, State};
 use inst_ledger::Ledger;
 use inst_transfers::{Found, Side, Transfer};
 
-/// What a command asks of the board: the transfer that was found, where it lies, and what is wished for it.
+/// What a command asks of the board: the transfer that was found, where it lies, and what is wished
+/// for it.
 #[derive(Clone, Copy)]
 pub(crate) struct Request {
     pub(crate) found: Found,
@@ -32,7 +35,8 @@ pub(crate) struct Request {
 /// The transfer that the command decides, its place, and what it wishes for it.
 pub(crate) fn request_of(ledger: &Ledger, arrivals: &[Spot], command: &Command) -> Option<Request>
     requires spots { AreSpots (rows_of ledger.now.book.who ledger.now.book.events) arrivals.now }
-    ensures { Gives ledger.now (request (over ledger.now.book arrivals.now) command.now) (named command.now) result }
+    ensures { Gives ledger.now (request (book_with_spots ledger.now.book arrivals.now) command.now)
+        (decided_id command.now) result }
 {
     match command {
         Command::Confirm { from, id } => answer_to(ledger, arrivals, *from, id, Wish::Accept),
@@ -58,7 +62,11 @@ fn answer_to(
 ) -> Option<Request>
     requires spots { AreSpots (rows_of ledger.now.book.who ledger.now.book.events) arrivals.now }
     requires answers { is_expiry wish ≡ false }
-    ensures { Gives ledger.now (wish_for wish from (booked from id.now ledger.now.book.events) (arrived_at from id.now (arrivals_of (rows_of ledger.now.book.who ledger.now.book.events) arrivals.now))) id.now result }
+    ensures { Gives ledger.now
+        (wish_for wish from (booked from id.now ledger.now.book.events)
+        (arrived_at from id.now
+        (arrivals_of (rows_of ledger.now.book.who ledger.now.book.events) arrivals.now))) id.now
+        result }
 {
     mention::<(Side, Transfer, Outcome)>();
     let found = ledger.find(from, id)?;
@@ -72,8 +80,11 @@ fn answer_to(
 
 /// Of a taken transfer with nothing booked, which may expire.
 fn question_about(ledger: &Ledger, id: &Ident) -> Option<Request>
-    ensures { Gives ledger.now (wish_for Wish.Expire ledger.now.book.who (booked ledger.now.book.who id.now ledger.now.book.events)
-        (position (takes id.now) (live_taken ledger.now.book.who ledger.now.book.events))) id.now result }
+    ensures { Gives ledger.now
+        (wish_for Wish.Expire ledger.now.book.who
+        (booked ledger.now.book.who id.now ledger.now.book.events)
+        (position (takes id.now) (live_taken ledger.now.book.who ledger.now.book.events))) id.now
+        result }
 {
     mention::<(Side, Transfer, Outcome)>();
     let owner = ledger.who();
@@ -87,7 +98,8 @@ fn question_about(ledger: &Ledger, id: &Ident) -> Option<Request>
     Some(Request { found, place, wish })
 }
 
-/// What the participant is answered where the transfer stays pending: a confirmation comes too late.
+/// What the participant is answered where the transfer stays pending: a confirmation comes too
+/// late.
 fn pending(wish: &Wish, from: u8, id: Ident) -> Result<Reply, Fault>
     ensures { result ≡ told (pending_for wish.now from id) }
 {
@@ -101,8 +113,8 @@ fn pending(wish: &Wish, from: u8, id: Ident) -> Result<Reply, Fault>
     }
 }
 
-/// Answers a command that decides the transfer of the request. It looks nothing up by its key. All room is made
-/// before the board decides, and after the decision nothing fails.
+/// Answers a command that decides the transfer of the request. It looks nothing up by its key. All
+/// room is made before the board decides, and after the decision nothing fails.
 pub(crate) fn settle<B: Board>(
     ledger: &mut Ledger,
     waiting: &mut Waiting,
@@ -111,13 +123,21 @@ pub(crate) fn settle<B: Board>(
     asked: &Request,
     arrivals: &[Spot],
 ) -> Result<Reply, Fault>
-    requires lawful { IsLawfulBoard B.settings B.knows B.has_role board.old (over ledger.old.book arrivals.now) }
-    requires asking { IsAsking ledger.old (request (over ledger.old.book arrivals.now) ask.now.command) (named ask.now.command) asked.now }
+    requires lawful { IsLawfulBoard B.settings B.knows B.has_role board.old
+        (book_with_spots ledger.old.book arrivals.now) }
+    requires asking { IsAsking ledger.old
+        (request (book_with_spots ledger.old.book arrivals.now) ask.now.command)
+        (decided_id ask.now.command)
+        asked.now }
     requires spots { AreSpots (rows_of ledger.old.book.who ledger.old.book.events) arrivals.now }
-    requires right { IsRight ledger.old.book.settings ledger.old.book.who ledger.old.book.events (own_ids ledger.old.book.who ledger.old.book.events) waiting.old }
-    ensures settles { Settles (B.settings board.old).margin B.knows B.has_role B.stood B.stays board.old
-        (over ledger.old.book arrivals.now) ask.now asked.now.place asked.now.wish result board.new (over ledger.new.book arrivals.now) }
-    ensures right { IsRight ledger.new.book.settings ledger.new.book.who ledger.new.book.events (own_ids ledger.new.book.who ledger.new.book.events) waiting.new }
+    requires right { IsRight ledger.old.book.settings ledger.old.book.who ledger.old.book.events
+        (own_ids ledger.old.book.who ledger.old.book.events) waiting.old }
+    ensures settles { Settles (B.settings board.old).margin B.knows B.has_role B.stood B.stays
+        board.old
+        (book_with_spots ledger.old.book arrivals.now) ask.now asked.now.place asked.now.wish result
+        board.new (book_with_spots ledger.new.book arrivals.now) }
+    ensures right { IsRight ledger.new.book.settings ledger.new.book.who ledger.new.book.events
+        (own_ids ledger.new.book.who ledger.new.book.events) waiting.new }
     ensures spots { AreSpots (rows_of ledger.new.book.who ledger.new.book.events) arrivals.now }
     ensures stays { B.stays board.old board.new }
 {

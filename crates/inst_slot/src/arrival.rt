@@ -4,12 +4,11 @@ ghost use Rattle.inst_slot.specs.Book.{is_at};
 ghost use Rattle.inst_slot.specs.Opening.{is_of, is_unfound, awaits};
 
 use inst_base::{Ident, Moment};
-use inst_board::Place;
-use inst_command::Entry;
+use inst_command::{Entry, Place};
 use inst_terms::Terms;
 
-/// A live transfer that was forwarded to the participant, and the index of its place: `None` for one
-/// that was carried over an opening, until its place is found.
+/// A live transfer that was forwarded to the participant, and the index of its place: `None` for
+/// one that was carried over an opening, until its place is found.
 #[derive(Clone, Copy)]
 pub struct Arrival {
     pub entry: Entry,
@@ -40,7 +39,8 @@ fn is_unfound(arrival: &Arrival) -> bool
     arrival.index.is_none()
 }
 
-/// Whether the place of the arrival isn't found yet, and what is pending at this place is its transfer.
+/// Whether the place of the arrival isn't found yet, and what is pending at this place is its
+/// transfer.
 pub(crate) fn awaits(arrival: &Arrival, place: Place, terms: &Terms, deadline: Moment) -> bool
     ensures { result ≡ awaits place terms.now deadline arrival.now }
 {

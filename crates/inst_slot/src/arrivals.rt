@@ -1,34 +1,34 @@
-//! The live transfers that were forwarded to a participant, found by what the one table of its transfers holds of them.
+//! The live transfers that were forwarded to a participant, found by what the one table of its
+//! transfers holds of them.
 ghost use Rattle.std.specs.Prelude.{◌≡◌, ◌<◌, IfOk, length, map};
 ghost use Rattle.std.specs.List.{list_any};
 ghost use Rattle.inst_journal.specs.Opened.{carried};
 ghost use Rattle.inst_transfers.specs.Held.{IsFound, AreRising};
 ghost use Rattle.inst_slot.specs.Book.{live_inbox, arrived_at};
-ghost use Rattle.inst_slot.specs.Opening.{unplaced, awaits, found_at};
+ghost use Rattle.inst_slot.specs.Opening.{arrival_without_place, awaits, found_at};
 ghost use Rattle.inst_slot.specs.Spots.{rows_of, arrivals_of, positions_of, AreSpots};
 ghost use Rattle.inst_slot.specs.inner.Spots.{booked_at, FindsSpot};
 
 use crate::Arrival;
 use crate::arrival::awaits;
 use inst_base::{Moment, mention};
-use inst_board::Place;
-use inst_command::Outcome;
+use inst_command::{Outcome, Place};
 use inst_journal::Event;
 use inst_ledger::Ledger;
 use inst_terms::Terms;
 use inst_transfers::{Found, Side, Transfer};
 use std::alloc::{AllocError, Global};
 
-/// Where the table of transfers holds an arrival, and the index of its place: `None` for one that was carried over an
-/// opening, until its place is found.
+/// Where the table of transfers holds an arrival, and the index of its place: `None` for one that
+/// was carried over an opening, until its place is found.
 #[derive(Clone, Copy)]
 pub(crate) struct Spot {
     pub(crate) position: usize,
     pub(crate) index: Option<u16>,
 }
 
-/// Where the spot at this position of the table stands. It takes one step for the last arrival, else a number that
-/// grows with the logarithm of the arrivals.
+/// Where the spot at this position of the table stands. It takes one step for the last arrival,
+/// else a number that grows with the logarithm of the arrivals.
 fn spot_at(spots: &[Spot], position: usize) -> Option<usize>
     requires rising { AreRising (positions_of spots.now) }
     ensures { FindsSpot spots.now position result }
@@ -44,11 +44,13 @@ fn spot_at(spots: &[Spot], position: usize) -> Option<usize>
     }
 }
 
-/// The index of the place from which the transfer that was found was forwarded. It looks nothing up by its key.
+/// The index of the place from which the transfer that was found was forwarded. It looks nothing up
+/// by its key.
 pub(crate) fn arrived_at(ledger: &Ledger, spots: &[Spot], found: &Found) -> Option<u16>
     requires there { IsFound ledger.now.table found.now }
     requires spots { AreSpots (rows_of ledger.now.book.who ledger.now.book.events) spots.now }
-    ensures { result ≡ arrived_at found.now.from found.now.id (arrivals_of (rows_of ledger.now.book.who ledger.now.book.events) spots.now) }
+    ensures { result ≡ arrived_at found.now.from found.now.id
+        (arrivals_of (rows_of ledger.now.book.who ledger.now.book.events) spots.now) }
 {
     // That no two rows are of the same transfer is known where they are counted.
     let _ = ledger.transfers();
@@ -65,9 +67,11 @@ pub(crate) fn find_at(
     deadline: Moment,
 ) -> bool
     requires spots { AreSpots (rows_of ledger.now.book.who ledger.now.book.events) spots.old.items }
-    ensures found { result ≡ list_any (awaits place terms.now deadline) (arrivals_of (rows_of ledger.now.book.who ledger.now.book.events) spots.old.items) }
+    ensures found { result ≡ list_any (awaits place terms.now deadline)
+        (arrivals_of (rows_of ledger.now.book.who ledger.now.book.events) spots.old.items) }
     ensures kept { arrivals_of (rows_of ledger.now.book.who ledger.now.book.events) spots.new.items
-        ≡ map (found_at place terms.now deadline) (arrivals_of (rows_of ledger.now.book.who ledger.now.book.events) spots.old.items) }
+        ≡ map (found_at place terms.now deadline)
+        (arrivals_of (rows_of ledger.now.book.who ledger.now.book.events) spots.old.items) }
     ensures spots { AreSpots (rows_of ledger.now.book.who ledger.now.book.events) spots.new.items }
 {
     mention::<(Side, Transfer, Outcome)>();
@@ -97,11 +101,15 @@ fn booked_at(ledger: &Ledger, position: usize) -> Option<Outcome>
     ledger.at(position).unwrap().transfer.outcome
 }
 
-/// The live transfers that were forwarded, in order of arrival, where the history ends with an opening.
+/// The live transfers that were forwarded, in order of arrival, where the history ends with an
+/// opening.
 pub(crate) fn carried_arrivals(alloc: Global, ledger: &Ledger) -> Result<Vec<Spot>, AllocError>
     requires { carried ledger.now.book.events ≡ ledger.now.book.events }
-    ensures ok { IfOk result (λ spots. arrivals_of (rows_of ledger.now.book.who ledger.now.book.events) spots.items ≡ map unplaced (live_inbox ledger.now.book.events)) }
-    ensures spots { IfOk result (λ spots. AreSpots (rows_of ledger.now.book.who ledger.now.book.events) spots.items) }
+    ensures ok { IfOk result (λ spots.
+        arrivals_of (rows_of ledger.now.book.who ledger.now.book.events) spots.items
+        ≡ map arrival_without_place (live_inbox ledger.now.book.events)) }
+    ensures spots { IfOk result (λ spots.
+        AreSpots (rows_of ledger.now.book.who ledger.now.book.events) spots.items) }
 {
     mention::<Outcome>();
     let mut spots = Vec::new(alloc);

@@ -16,8 +16,8 @@ use inst_ledger::Ledger;
 use inst_transfers::{Found, Side, Transfer};
 use std::alloc::AllocError;
 
-/// Books the outcome of a transfer that was found and lies at this index: one of the participant's own waits no more.
-/// It looks nothing up by its key.
+/// Books the outcome of a transfer that was found and lies at this index: one of the participant's
+/// own waits no more. It looks nothing up by its key.
 pub(crate) fn book(
     ledger: &mut Ledger,
     waiting: &mut Waiting,
@@ -26,12 +26,17 @@ pub(crate) fn book(
     outcome: &Outcome,
 ) -> Result<(), AllocError>
     requires there { IsFound ledger.old.table found.now }
-    requires own { found.now.from ≡ ledger.old.book.who → IsOwnAt ledger.old.book found.now.id (place_at found.now.from index) }
-    requires fits { Fits ledger.old.book.settings ledger.old.book.who ledger.old.book.events (Event.Booked found.now.from found.now.id outcome.now) }
-    requires right { IsRight ledger.old.book.settings ledger.old.book.who ledger.old.book.events (own_ids ledger.old.book.who ledger.old.book.events) waiting.old }
-    ensures ok { OnOk result (ledger.new.book ≡ with_event ledger.old.book (Event.Booked found.now.from found.now.id outcome.now)) }
+    requires own { found.now.from ≡ ledger.old.book.who →
+        IsOwnAt ledger.old.book found.now.id (place_at found.now.from index) }
+    requires fits { Fits ledger.old.book.settings ledger.old.book.who ledger.old.book.events
+        (Event.Booked found.now.from found.now.id outcome.now) }
+    requires right { IsRight ledger.old.book.settings ledger.old.book.who ledger.old.book.events
+        (own_ids ledger.old.book.who ledger.old.book.events) waiting.old }
+    ensures ok { OnOk result (ledger.new.book
+        ≡ with_event ledger.old.book (Event.Booked found.now.from found.now.id outcome.now)) }
     ensures err { OnErr result (ledger.new.book ≡ ledger.old.book) }
-    ensures right { IsRight ledger.new.book.settings ledger.new.book.who ledger.new.book.events (own_ids ledger.new.book.who ledger.new.book.events) waiting.new }
+    ensures right { IsRight ledger.new.book.settings ledger.new.book.who ledger.new.book.events
+        (own_ids ledger.new.book.who ledger.new.book.events) waiting.new }
     ensures room { 0 < ledger.old.room → IsOk result }
 {
     mention::<(Side, Transfer, Outcome)>();

@@ -2,28 +2,29 @@
 ghost use Rattle.std.specs.Prelude.{◌≡◌, ◌<◌, true, is_some, IfOk, OnErr};
 ghost use Rattle.inst_board.specs.declared.look.Look.{Look};
 ghost use Rattle.inst_board.specs.Learning.{MayDecide};
-ghost use Rattle.inst_board.specs.Standing.{glance_of};
+ghost use Rattle.inst_board.specs.Standing.{place_state_of};
 ghost use Rattle.inst_slot.specs.Asking.{Finds, OnlyLooks, stays_pending};
 
 use inst_base::Moment;
-use inst_board::{Board, Glance, Place, Wish};
-use inst_command::Outcome;
+use inst_board::{Board, PlaceState, Wish};
+use inst_command::{Outcome, Place};
 use inst_ledger::Ledger;
 use std::alloc::AllocError;
 
 /// Whether the glance shows a transfer that stays pending whatever becomes of the wish.
-fn stays_pending(margin: u32, wish: &Wish, at: Moment, glance: &Glance) -> bool
-    ensures { (look : Look) → glance.now ≡ glance_of look → result ≡ stays_pending margin wish.now at look }
+fn stays_pending(margin: u32, wish: &Wish, at: Moment, place_state: &PlaceState) -> bool
+    ensures { (look : Look) → place_state.now ≡ place_state_of look →
+        result ≡ stays_pending margin wish.now at look }
 {
-    match glance {
-        Glance::Pending(deadline) => wish.outcome(margin, *deadline, at).is_none(),
+    match place_state {
+        PlaceState::Pending(deadline) => wish.outcome(margin, *deadline, at).is_none(),
         _ => false,
     }
 }
 
-/// What stands at the place after the wish was read at `at`: `None` where it stays pending, which takes
-/// no memory. Else there is room in the ledger for one more event; where that is refused the board
-/// decides nothing.
+/// What stands at the place after the wish was read at `at`: `None` where it stays pending, which
+/// takes no memory. Else there is room in the ledger for one more event; where that is refused the
+/// board decides nothing.
 pub(crate) fn find<B: Board>(
     ledger: &mut Ledger,
     board: &mut B,
@@ -34,15 +35,19 @@ pub(crate) fn find<B: Board>(
 ) -> Result<Option<Outcome>, AllocError>
     requires margin { margin ≡ (B.settings board.old).margin }
     requires may { MayDecide B.knows B.has_role board.old place wish }
-    ensures found { IfOk result (λ found. Finds (B.settings board.old).margin B.knows B.has_role B.stood B.stays board.old place wish at found board.new) }
+    ensures found { IfOk result (λ found.
+        Finds (B.settings board.old).margin B.knows B.has_role B.stood B.stays board.old place wish
+        at found board.new) }
     ensures room { IfOk result (λ found. is_some found ≡ true → 0 < ledger.new.room) }
-    ensures err { OnErr result (OnlyLooks (B.settings board.old).margin B.knows B.has_role B.stood board.old place wish at board.new) }
+    ensures err { OnErr result
+        (OnlyLooks (B.settings board.old).margin B.knows B.has_role B.stood board.old place wish at
+        board.new) }
     ensures book { ledger.new.book ≡ ledger.old.book }
     ensures table { ledger.new.table ≡ ledger.old.table }
     ensures stays { B.stays board.old board.new }
 {
-    let glance = board.glance(place);
-    if stays_pending(margin, &wish, at, &glance) {
+    let place_state = board.place_state(place);
+    if stays_pending(margin, &wish, at, &place_state) {
         return Ok(None);
     }
     ledger.reserve()?;

@@ -1,6 +1,7 @@
-//! The laws of slots over boards. A function without a body has the law for its contract, so that the
-//! check proves it.
-ghost use Rattle.inst_slot.specs.Laws.{NewBooksAreLawful, AToldPlaceIsKnown, AnyMayOpenFirst, OthersMayOpen, LawfulWhereTheSameIsKnown};
+//! The laws of slots over boards. A function without a body has the law for its contract, so that
+//! the check proves it.
+ghost use Rattle.inst_slot.specs.Laws.{NewBooksAreLawful, AToldPlaceIsKnown, AnyMayOpenFirst};
+ghost use Rattle.inst_slot.specs.Laws.{OthersMayOpen, LawfulWhereTheSameIsKnown};
 
 use inst_board::Board;
 
@@ -24,7 +25,8 @@ pub fn others_may_open<B: Board>()
     ensures { OthersMayOpen B.settings B.knows B.has_role B.stays }
 {}
 
-/// Books that are lawful over one board are lawful over another one, of any kind, where the same is known.
+/// Books that are lawful over one board are lawful over another one, of any kind, where the same is
+/// known.
 pub fn books_are_lawful_where_the_same_is_known<B: Board, C: Board>()
     ensures { LawfulWhereTheSameIsKnown B.settings B.knows B.has_role C.settings C.knows C.has_role }
 {}

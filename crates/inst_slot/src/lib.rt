@@ -7,7 +7,7 @@ mod arrivals;
 mod booking;
 mod finding;
 pub mod laws;
-mod lesson;
+mod resolution;
 mod slot;
 mod waiting;
 

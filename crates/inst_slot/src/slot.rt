@@ -18,8 +18,7 @@ mod telling;
 use crate::arrivals::{Spot, arrived_at};
 use crate::waiting::Waiting;
 use inst_base::{Ident, mention};
-use inst_board::Place;
-use inst_command::Outcome;
+use inst_command::{Outcome, Place};
 use inst_journal::Journal;
 use inst_ledger::Ledger;
 use inst_settings::Settings;
@@ -27,8 +26,9 @@ use inst_transfers::{Side, Transfer};
 use std::alloc::{AllocError, Global};
 use std::marker::Model;
 
-/// The books of one participant, over a board that holds its role. Its history is sound, always. What a
-/// command is answered comes from running totals and tables, and so does the place of a transfer.
+/// The books of one participant, over a board that holds its role. Its history is sound, always.
+/// What a command is answered comes from running totals and tables, and so does the place of a
+/// transfer.
 ///
 /// ```text
 /// let mut slot = Slot::open(alloc, &settings, 1)?;
@@ -55,7 +55,8 @@ impl Model for Slot {
       settings = slot.ledger.book.settings;
       who = slot.ledger.book.who;
       events = slot.ledger.book.events;
-      arrivals = arrivals_of (rows_of slot.ledger.book.who slot.ledger.book.events) slot.arrivals.items;
+      arrivals =
+          arrivals_of (rows_of slot.ledger.book.who slot.ledger.book.events) slot.arrivals.items;
     } };
 
     ghost invariant = { λ slot. IsRight slot.ledger.book.settings slot.ledger.book.who slot.ledger.book.events
@@ -66,7 +67,8 @@ impl Model for Slot {
 impl Slot {
     /// The slot of the participant `who`, with no history. It has a copy of the settings.
     pub fn open(alloc: Global, settings: &Settings, who: u8) -> Result<Slot, AllocError>
-        ensures ok { IfOk result (λ slot. (slot.settings ≡ settings.now) × (slot.who ≡ who) × (slot.events ≡ []) × (slot.arrivals ≡ [])) }
+        ensures ok { IfOk result (λ slot. (slot.settings ≡ settings.now) × (slot.who ≡ who)
+            × (slot.events ≡ []) × (slot.arrivals ≡ [])) }
     {
         Ok(Slot {
             alloc,
@@ -127,8 +129,8 @@ impl Slot {
         arrived_at(&self.ledger, self.arrivals.as_slice(), &found)
     }
 
-    /// The place of a live transfer of the originator `from`: of the participant's own, or of one that was
-    /// forwarded to it and whose place was found.
+    /// The place of a live transfer of the originator `from`: of the participant's own, or of one
+    /// that was forwarded to it and whose place was found.
     pub fn place_of(&self, from: u8, id: &Ident) -> Option<Place>
         ensures { result ≡ place_of self.now from id.now }
     {

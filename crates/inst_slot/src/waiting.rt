@@ -1,5 +1,6 @@
 //! The own live transfers with nothing booked, in the order in which they are due.
-ghost use Rattle.std.specs.Prelude.{◌≡◌, ℕ, ◌<◌, ◌^◌, ◌++◌, ◌∷◌, [], ◌+◌, ◌&&◌, nat_eq, not, length, IfOk, OnOk, OnErr};
+ghost use Rattle.std.specs.Prelude.{◌≡◌, ℕ, ◌<◌, ◌^◌, ◌++◌, ◌∷◌, [], ◌+◌, ◌&&◌, nat_eq, not};
+ghost use Rattle.std.specs.Prelude.{length, IfOk, OnOk, OnErr};
 ghost use Rattle.inst_due.specs.Due.{has, Adds, IsLeast, comes_after};
 ghost use Rattle.inst_journal.specs.Opened.{carried};
 ghost use Rattle.inst_slot.specs.Waiting.{IsWaiting};
@@ -46,7 +47,8 @@ impl Waiting {
     pub(crate) fn add(&mut self, deadline: Moment) -> Result<(), AllocError>
         requires { length self.old.deadlines < 2 ^ 16 }
         ensures deadlines { OnOk result (self.new.deadlines ≡ self.old.deadlines ++ deadline ∷ []) }
-        ensures pairs { OnOk result (Adds self.old.pairs self.new.pairs deadline (length self.old.deadlines)) }
+        ensures pairs { OnOk result
+            (Adds self.old.pairs self.new.pairs deadline (length self.old.deadlines)) }
         ensures err { OnErr result (self.new ≡ self.old) }
     {
         let index = self.deadlines.as_slice().len() as u16;
@@ -59,7 +61,8 @@ impl Waiting {
     /// Takes out the pair at this index.
     pub(crate) fn take_out(&mut self, index: u16)
         ensures deadlines { self.new.deadlines ≡ self.old.deadlines }
-        ensures pairs { (d k : ℕ) → has self.new.pairs d k ≡ (has self.old.pairs d k && not (nat_eq k index)) }
+        ensures pairs { (d k : ℕ) →
+            has self.new.pairs d k ≡ (has self.old.pairs d k && not (nat_eq k index)) }
     {
         if let Some(deadline) = self.deadlines.as_slice().get(usize::from(index)) {
             self.due.take_out(*deadline, index);
@@ -77,7 +80,8 @@ impl Waiting {
 /// What waits, where the history ends with an opening.
 pub(crate) fn carried_waiting(alloc: Global, ledger: &Ledger) -> Result<Waiting, AllocError>
     requires { carried ledger.now.book.events ≡ ledger.now.book.events }
-    ensures ok { IfOk result (λ w. IsWaiting ledger.now.book.settings ledger.now.book.who ledger.now.book.events w) }
+    ensures ok { IfOk result (λ w.
+        IsWaiting ledger.now.book.settings ledger.now.book.who ledger.now.book.events w) }
 {
     mention::<Outcome>();
     let mut waiting = Waiting::new(alloc);

@@ -13,10 +13,10 @@ use Rattle.inst_journal.specs.Keys.{is_funding}
 use Rattle.inst_journal.specs.Opened.{is_opening}
 use Rattle.inst_journal.specs.Reply.{inbox, handed_out}
 use Rattle.inst_journal.specs.Sound.{Fits, IsSound}
-use Rattle.inst_journal.proofs.Booking.{is_booking, bookings_within}
-use Rattle.inst_journal.proofs.Counting.{is_submission, count_push, openings_within, fundings_at_most, submissions_at_most, forwardings_within}
-use Rattle.inst_journal.proofs.Pushing.{sum_by_push}
-use Rattle.inst_journal.proofs.Reading.{handed_within}
+use Rattle.inst_journal.proofs.BookingsWithinTransfers.{is_booking, bookings_within}
+use Rattle.inst_journal.proofs.CountsOfEvents.{is_submission, count_push, openings_within, fundings_at_most, submissions_at_most, forwardings_within}
+use Rattle.inst_journal.proofs.OneMoreElement.{sum_by_push}
+use Rattle.inst_journal.proofs.HandedOutWithinInbox.{handed_within}
 use Rattle.inst_journal.proofs.Soundness.{sound_induction}
 
 -- whether the event hands out what came
@@ -27,8 +27,8 @@ is_fetching _ = false
 one_of : (event : Event)
     → 1 ≤ cond (is_funding event) 1 0 + cond (is_submission event) 1 0 + cond (is_forwarding event) 1 0 + cond (is_booking event) 1 0 + cond (is_fetching event) 1 0 + cond (is_opening event) 1 0
 unfolding is_fetching
-one_of (Funded reference cents) = omega arith
-one_of (Defunded reference cents) = omega arith
+one_of (Funded funding) = omega arith
+one_of (Defunded funding) = omega arith
 one_of (Taken id to cents stamp) = omega arith
 one_of (Forwarded from id cents deadline) = omega arith
 one_of (Booked from id outcome) = omega arith
@@ -58,8 +58,8 @@ count_above count is = grind (arith, nat_tests)
 hands_out : (s : HubSettings) (who : ℕ) (J : List Event) (event : Event) → Fits s who J event → cond (is_fetching event) 1 0 ≤ handed_out event
 unfolding is_fetching
 hands_out s who J (Fetched count) fits = count_above count fits.number
-hands_out s who J (Funded reference cents) fits = omega arith
-hands_out s who J (Defunded reference cents) fits = omega arith
+hands_out s who J (Funded funding) fits = omega arith
+hands_out s who J (Defunded funding) fits = omega arith
 hands_out s who J (Taken id to cents stamp) fits = omega arith
 hands_out s who J (Forwarded from id cents deadline) fits = omega arith
 hands_out s who J (Booked from id outcome) fits = omega arith
@@ -77,8 +77,8 @@ inbox_counted (event ∷ events) = omega (arith, sum_by-cons (λ e. cond (is_for
   where
     more : (e : Event) → length (inbox (e ∷ events)) ≡ cond (is_forwarding e) 1 0 + length (inbox events)
     more (Forwarded from id cents deadline) = omega arith
-    more (Funded reference cents) = omega arith
-    more (Defunded reference cents) = omega arith
+    more (Funded funding) = omega arith
+    more (Defunded funding) = omega arith
     more (Taken id to cents stamp) = omega arith
     more (Booked from id outcome) = omega arith
     more (Fetched count) = omega arith

@@ -1,8 +1,8 @@
-pub mod Found
+pub mod AmountAndTermsInHistory
 pub mod Tables
 pub mod KeptLines
 pub mod Indices
-pub mod Lines
+pub mod LinesSoFar
 pub mod Movements
-pub mod Stated
-pub mod Walked
+pub mod KeptStatementStaysRight
+pub mod WalkAtEachFront

@@ -17,13 +17,13 @@ use Rattle.inst_journal.specs.Sound.{Fits, IsSound}
 use Rattle.inst_journal.specs.Statement.{received, paid, line_of, accepted as accepted_line}
 use Rattle.inst_journal.proofs.FirstSome.{first_some-append}
 use Rattle.inst_journal.proofs.KeyOnce.{forwarded_once, taken_once}
-use Rattle.inst_journal.proofs.Leading.{zero_summed}
-use Rattle.inst_journal.proofs.Moving.{coming, credited_by, debited_by, position_funded, position_credited, position_debited, position_released}
+use Rattle.inst_journal.proofs.StatementLeadsToPosition.{zero_summed}
+use Rattle.inst_journal.proofs.PositionAfterEvent.{coming, credited_by, debited_by, position_funded, position_credited, position_debited, position_released}
 use Rattle.inst_journal.proofs.OwnBookings.{own_unforwarded}
 use Rattle.inst_statement.specs.declared.movement.Movement.{Movement}
 use Rattle.inst_statement.specs.KeptLine.{name_of}
 use Rattle.inst_statement.specs.inner.Movement.{came, sent, accepted, accepted_movement, movement_of}
-use Rattle.inst_statement.proofs.Found.{takes_sent, forwards_came, taken_found, forwarded_found, not_come}
+use Rattle.inst_statement.proofs.AmountAndTermsInHistory.{takes_sent, forwards_came, taken_found, forwarded_found, not_come}
 
 -- the line of a movement of this name
 abbrev pub line_told : ℕ → ℕ → List ℕ → Movement → Line
@@ -61,8 +61,8 @@ some_of (Some x) e = (x, refl)
 received_made : (number after from : ℕ) (id : List ℕ) (e : Event) → received number after from id e ≡ option_map (λ cents. line_told number after id (record { kind = Received; other = Some from; cents = cents })) (came from id e)
 received_made number after from id (Forwarded other_from other cents deadline) = map_cond (λ (c : ℕ). line_told number after id (record { kind = Received; other = Some from; cents = c })) (same_transfer from id other_from other) cents
 received_made number after from id (Taken other to cents stamp) = refl
-received_made number after from id (Funded reference cents) = refl
-received_made number after from id (Defunded reference cents) = refl
+received_made number after from id (Funded funding) = refl
+received_made number after from id (Defunded funding) = refl
 received_made number after from id (Booked other_from other outcome) = refl
 received_made number after from id (Fetched count) = refl
 received_made number after from id Opened = refl
@@ -70,8 +70,8 @@ received_made number after from id Opened = refl
 paid_made : (number after : ℕ) (id : List ℕ) (e : Event) → paid number after id e ≡ option_map (λ (terms : ℕ × ℕ). line_told number after id (record { kind = Paid; other = Some terms.0; cents = terms.1 })) (sent id e)
 paid_made number after id (Taken other to cents stamp) = map_cond (λ (terms : ℕ × ℕ). line_told number after id (record { kind = Paid; other = Some terms.0; cents = terms.1 })) (same_text other id) (to, cents)
 paid_made number after id (Forwarded other_from other cents deadline) = refl
-paid_made number after id (Funded reference cents) = refl
-paid_made number after id (Defunded reference cents) = refl
+paid_made number after id (Funded funding) = refl
+paid_made number after id (Defunded funding) = refl
 paid_made number after id (Booked other_from other outcome) = refl
 paid_made number after id (Fetched count) = refl
 paid_made number after id Opened = refl
@@ -115,8 +115,8 @@ pub movement_line : (s : HubSettings) (who : ℕ) (J : List Event) → IsSound s
 movement_line s who J whole front (Booked from id Accepted) rest all sound fits number after = accepted_made s who J whole front from id rest all (terms_there s who front from id sound fits) number after
 movement_line s who J whole front (Booked from id (Rejected reason)) rest all sound fits number after = refl
 movement_line s who J whole front (Booked from id TimedOut) rest all sound fits number after = refl
-movement_line s who J whole front (Funded reference cents) rest all sound fits number after = refl
-movement_line s who J whole front (Defunded reference cents) rest all sound fits number after = refl
+movement_line s who J whole front (Funded funding) rest all sound fits number after = refl
+movement_line s who J whole front (Defunded funding) rest all sound fits number after = refl
 movement_line s who J whole front (Taken id to cents stamp) rest all sound fits number after = refl
 movement_line s who J whole front (Forwarded from id cents deadline) rest all sound fits number after = refl
 movement_line s who J whole front (Fetched count) rest all sound fits number after = refl
@@ -154,8 +154,8 @@ came_weighs from id (Forwarded other_from other cents deadline) = weigh_cond (sa
     weigh_cond true n = refl
     weigh_cond false n = refl
 came_weighs from id (Taken other to cents stamp) = refl
-came_weighs from id (Funded reference cents) = refl
-came_weighs from id (Defunded reference cents) = refl
+came_weighs from id (Funded funding) = refl
+came_weighs from id (Defunded funding) = refl
 came_weighs from id (Booked other_from other outcome) = refl
 came_weighs from id (Fetched count) = refl
 came_weighs from id Opened = refl
@@ -167,8 +167,8 @@ sent_weighs id (Taken other to cents stamp) = weigh_cond (same_text other id)
     weigh_cond true = refl
     weigh_cond false = refl
 sent_weighs id (Forwarded other_from other cents deadline) = refl
-sent_weighs id (Funded reference cents) = refl
-sent_weighs id (Defunded reference cents) = refl
+sent_weighs id (Funded funding) = refl
+sent_weighs id (Defunded funding) = refl
 sent_weighs id (Booked other_from other outcome) = refl
 sent_weighs id (Fetched count) = refl
 sent_weighs id Opened = refl
@@ -200,8 +200,8 @@ pub movement_moves : (s : HubSettings) (who : ℕ) (front : List Event) (x : Eve
 movement_moves s who front (Booked from id Accepted) sound fits = accepted_moves s who front from id sound fits (terms_there s who front from id sound fits)
 movement_moves s who front (Booked from id (Rejected reason)) sound fits = still _ _ (position_released s who front from id (Rejected reason) sound fits (λ cents. refl))
 movement_moves s who front (Booked from id TimedOut) sound fits = still _ _ (position_released s who front from id TimedOut sound fits (λ cents. refl))
-movement_moves s who front (Funded reference cents) sound fits = omega (arith, position_funded s who front (Funded reference cents) sound fits refl)
-movement_moves s who front (Defunded reference cents) sound fits = omega (arith, position_funded s who front (Defunded reference cents) sound fits refl)
+movement_moves s who front (Funded funding) sound fits = omega (arith, position_funded s who front (Funded funding) sound fits refl)
+movement_moves s who front (Defunded funding) sound fits = omega (arith, position_funded s who front (Defunded funding) sound fits refl)
 movement_moves s who front (Taken id to cents stamp) sound fits = still _ _ (position_funded s who front (Taken id to cents stamp) sound fits refl)
 movement_moves s who front (Forwarded from id cents deadline) sound fits = still _ _ (position_funded s who front (Forwarded from id cents deadline) sound fits refl)
 movement_moves s who front (Fetched count) sound fits = still _ _ (position_funded s who front (Fetched count) sound fits refl)

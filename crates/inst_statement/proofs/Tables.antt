@@ -7,10 +7,10 @@ use Rattle.inst_settings.specs.Settings.{same_text}
 use Rattle.inst_journal.specs.declared.event.Event.{Event}
 use Rattle.inst_journal.specs.declared.event.Event.TheVariants.{Taken, Forwarded}
 use Rattle.inst_journal.specs.Booked.{or_else, first_some, is_taken, is_forwarded, same_transfer}
-use Rattle.inst_journal.proofs.Pushing.{first_some_push, or_else-none}
+use Rattle.inst_journal.proofs.OneMoreElement.{first_some_push, or_else-none}
 use Rattle.inst_statement.specs.inner.Movement.{came, sent}
 use Rattle.inst_statement.specs.inner.Kept.{AreKept, same_key}
-use Rattle.inst_statement.proofs.Found.{unsent, not_come}
+use Rattle.inst_statement.proofs.AmountAndTermsInHistory.{unsent, not_come}
 
 pub put_first : {V : Type 0} (b : Bool) (o : Option V) (v : V) → (b ≡ true → o ≡ None) → or_else o (cond b (Some v) None) ≡ cond b (Some v) o
 put_first true o v absent = ap (λ p. or_else p (Some v)) (absent refl)

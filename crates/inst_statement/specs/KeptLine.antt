@@ -1,17 +1,21 @@
--- Statement lines as they are kept beside a history, and what the history tells of them. This hub's own choice.
-use Rattle.std.specs.Prelude.{ℕ, ◌+◌, List, [], ◌∷◌, Option, Some, None, unwrap_or, option_and_then, slice_get, IsSome, IsTrue}
+-- Statement lines as they are kept beside a history, and what the history tells of them. This hub's
+-- own choice.
+use Rattle.std.specs.Prelude.{ℕ, ◌+◌, List, [], ◌∷◌, Option, Some, None, unwrap_or, option_and_then}
+use Rattle.std.specs.Prelude.{slice_get, IsSome, IsTrue}
 use Rattle.std.specs.Int.{abs_diff}
 use Rattle.std.specs.List.{All}
 use Rattle.inst_base.specs.Cents.{is_amount}
 use Rattle.inst_command.specs.declared.line.Line.{Line}
 use Rattle.inst_journal.specs.declared.event.Event.{Event}
-use Rattle.inst_journal.specs.declared.event.Event.TheVariants.{Funded, Defunded, Taken, Forwarded, Booked, Fetched, Opened}
+use Rattle.inst_journal.specs.declared.event.Event.TheVariants.{Funded, Defunded, Taken, Forwarded}
+use Rattle.inst_journal.specs.declared.event.Event.TheVariants.{Booked, Fetched, Opened}
 use Rattle.inst_statement.specs.declared.kept_line.KeptLine.{KeptLine}
 
--- the name in the line of an event that may have one: the reference, or the identifier of what is booked
+-- the name in the line of an event that may have one: the reference, or the identifier of what is
+-- booked
 abbrev pub name_of : Event → Option (List ℕ)
-name_of (Funded reference cents) = Some reference
-name_of (Defunded reference cents) = Some reference
+name_of (Funded funding) = Some funding.reference
+name_of (Defunded funding) = Some funding.reference
 name_of (Booked from id outcome) = Some id
 name_of (Taken id to cents stamp) = None
 name_of (Forwarded from id cents deadline) = None
@@ -26,8 +30,8 @@ name_at J index = option_and_then name_of (slice_get J index)
 abbrev pub AreNamed : List Event → List KeptLine → Type 0
 AreNamed J lines = All (λ kept. IsSome (name_at J kept.event)) lines
 
--- the kept line, with this number and after the position `before`: its name is that of its event, and its amount lies
--- between the two positions
+-- the kept line, with this number and after the position `before`: its name is that of its event,
+-- and its amount lies between the two positions
 abbrev pub line_at : List Event → ℕ → ℕ → KeptLine → Line
 line_at J number before kept = record {
   number = number;
@@ -41,7 +45,8 @@ line_at J number before kept = record {
 -- the kept lines, numbered from `number`, after the position `before`
 abbrev pub lines_at : List Event → ℕ → ℕ → List KeptLine → List Line
 lines_at J number before [] = []
-lines_at J number before (kept ∷ lines) = line_at J number before kept ∷ lines_at J (number + 1) kept.position lines
+lines_at J number before (kept ∷ lines) =
+    line_at J number before kept ∷ lines_at J (number + 1) kept.position lines
 
 -- the position that the lines lead to
 abbrev pub reached : ℕ → List KeptLine → ℕ

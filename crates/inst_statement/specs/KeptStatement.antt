@@ -1,5 +1,5 @@
--- A statement that is kept line by line: the lines since the last opening, and the position that they begin at. This hub's
--- own choice.
+-- A statement that is kept line by line: the lines since the last opening, and the position that
+-- they begin at. This hub's own choice.
 use Rattle.std.specs.Prelude.{◌≡◌, ℕ, ◌+◌, ◌<◌, ◌≤◌, ◌^◌, List, [], ◌∷◌, ◌++◌, length}
 use Rattle.inst_command.specs.declared.line.Line.{Line}
 use Rattle.inst_journal.specs.declared.event.Event.{Event}
@@ -10,15 +10,15 @@ use Rattle.inst_statement.specs.declared.kept_line.KeptLine.{KeptLine}
 use Rattle.inst_statement.specs.declared.movement.Movement.{Movement}
 use Rattle.inst_statement.specs.KeptLine.{AreNamed, MoveByAmounts, lines_at, reached}
 
--- what a contract sees of a statement: its lines as they are kept, the position before the first one in cents, and for how
--- many more lines it has room
+-- what a contract sees of a statement: its lines as they are kept, the position before the first
+-- one in cents, and for how many more lines it has room
 pub record Stated : Type 0 where
   pub lines : List KeptLine
   pub begun : ℕ
   pub room : ℕ
 
 -- each line moves the position by an amount, and its number has 32 bits
-pub record IsKept (begun : ℕ) (lines : List KeptLine) : Type 0 where
+pub record IsStatement (begun : ℕ) (lines : List KeptLine) : Type 0 where
   pub moved : MoveByAmounts begun lines
   pub few : length lines < 2 ^ 32
 
@@ -27,8 +27,8 @@ abbrev pub position_of : Stated → ℕ
 position_of stated = reached stated.begun stated.lines
 
 -- its lines, as the history tells them
-abbrev pub lines_of : List Event → Stated → List Line
-lines_of J stated = lines_at J 1 stated.begun stated.lines
+abbrev pub lines_of_statement : List Event → Stated → List Line
+lines_of_statement J stated = lines_at J 1 stated.begun stated.lines
 
 -- the movement leads from one position to another
 abbrev pub LeadsTo : ℕ → Movement → ℕ → Type 0
@@ -44,10 +44,12 @@ line_with event after movement = record {
   position = after;
 }
 
--- there is room for the line of the movement, the position covers it and stays within 64 bits, and its number has 32
+-- there is room for the line of the movement, the position covers it and stays within 64 bits, and
+-- its number has 32
 pub record MayAdd (before : Stated) (movement : Movement) : Type 0 where
   pub room : 0 < before.room
-  pub covered : lowered movement.kind movement.cents ≤ position_of before + raised movement.kind movement.cents
+  pub covered : lowered movement.kind movement.cents
+      ≤ position_of before + raised movement.kind movement.cents
   pub fits : position_of before + raised movement.kind movement.cents < 2 ^ 64
   pub few : length before.lines + 1 < 2 ^ 32
 
@@ -57,8 +59,9 @@ pub record Adds (before : Stated) (event : ℕ) (movement : Movement) (after : S
   pub leads : LeadsTo (position_of before) movement (position_of after)
   pub line : after.lines ≡ before.lines ++ line_with event (position_of after) movement ∷ []
 
--- the lines are those of the history's statement, each by an event of it, and the position is the history's
+-- the lines are those of the history's statement, each by an event of it, and the position is the
+-- history's
 pub record IsStatementOf (J : List Event) (stated : Stated) : Type 0 where
   pub named : AreNamed J stated.lines
-  pub are_lines : lines_of J stated ≡ statement J
+  pub are_lines : lines_of_statement J stated ≡ statement J
   pub is_position : position_of stated ≡ position J

@@ -7,8 +7,8 @@ use inst_base::{Cents, Ident};
 use inst_command::{Line, LineKind};
 use inst_journal::Event;
 
-/// A statement line as it is kept. Its number is where it stands, its name is its event's, and its amount lies
-/// between its position and the one before.
+/// A statement line as it is kept. Its number is where it stands, its name is its event's, and its
+/// amount lies between its position and the one before.
 #[derive(Clone, Copy)]
 pub(crate) struct KeptLine {
     /// The index of its event in the participant's journal.
@@ -44,7 +44,7 @@ fn name_of(event: &Event) -> Option<Ident>
     ensures { result ≡ name_of event.now }
 {
     match event {
-        Event::Funded { reference, .. } | Event::Defunded { reference, .. } => Some(*reference),
+        Event::Funded(funding) | Event::Defunded(funding) => Some(funding.reference),
         Event::Booked { id, .. } => Some(*id),
         _ => None,
     }

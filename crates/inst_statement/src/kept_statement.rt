@@ -1,8 +1,10 @@
-ghost use Rattle.std.specs.Prelude.{◌≡◌, ◌<◌, ◌≤◌, Some, [], take, drop, length, slice_get, slice_range, IfOk, OnOk, IsOk, IsTrue};
+ghost use Rattle.std.specs.Prelude.{◌≡◌, ◌<◌, ◌≤◌, Some, [], take, drop, length, slice_get};
+ghost use Rattle.std.specs.Prelude.{slice_range, IfOk, OnOk, IsOk, IsTrue};
 ghost use Rattle.std.specs.Int.{abs_diff};
 ghost use Rattle.inst_base.specs.Cents.{is_amount};
 ghost use Rattle.inst_statement.specs.KeptLine.{AreNamed, reached};
-ghost use Rattle.inst_statement.specs.KeptStatement.{MayAdd, LeadsTo, Adds, position_of, lines_of};
+ghost use Rattle.inst_statement.specs.KeptStatement.{MayAdd, LeadsTo, Adds, position_of};
+ghost use Rattle.inst_statement.specs.KeptStatement.{lines_of_statement};
 
 use crate::kept_line::KeptLine;
 use crate::movement::Movement;
@@ -11,8 +13,8 @@ use inst_journal::Event;
 use std::alloc::{AllocError, Global};
 use std::marker::Model;
 
-/// A participant's statement since the last opening, kept line by line beside the participant's journal. A part of
-/// it is made of the journal's events, and costs its lines.
+/// A participant's statement since the last opening, kept line by line beside the participant's
+/// journal. A part of it is made of the journal's events, and costs its lines.
 ///
 /// ```text
 /// let mut statement = KeptStatement::new(alloc);
@@ -29,7 +31,7 @@ pub struct KeptStatement {
 
 impl Model for KeptStatement {
     ghost use Rattle.std.specs.Prelude.{◌-◌, vec_len, vec_capacity};
-    ghost use Rattle.inst_statement.specs.KeptStatement.{Stated, IsKept};
+    ghost use Rattle.inst_statement.specs.KeptStatement.{Stated, IsStatement};
 
     ghost Value = { Stated };
 
@@ -39,7 +41,7 @@ impl Model for KeptStatement {
       room = vec_capacity statement.lines - vec_len statement.lines;
     } };
 
-    ghost invariant = { λ statement. IsKept statement.begun statement.lines.items };
+    ghost invariant = { λ statement. IsStatement statement.begun statement.lines.items };
 }
 
 impl KeptStatement {
@@ -81,7 +83,8 @@ impl KeptStatement {
         self.lines.clear();
     }
 
-    /// Makes room for one more line. Where there is room it takes no memory. The lines stay as they are.
+    /// Makes room for one more line. Where there is room it takes no memory. The lines stay as they
+    /// are.
     pub fn reserve(&mut self) -> Result<(), AllocError>
         ensures lines { self.new.lines ≡ self.old.lines }
         ensures begun { self.new.begun ≡ self.old.begun }
@@ -124,7 +127,7 @@ impl KeptStatement {
     fn line(&self, events: &[Event], index: usize) -> Line
         requires named { AreNamed events.now self.now.lines }
         requires within { index < length self.now.lines }
-        ensures { slice_get (lines_of events.now self.now) index ≡ Some result }
+        ensures { slice_get (lines_of_statement events.now self.now) index ≡ Some result }
     {
         self.lines[index].line(events, index as u32 + 1, self.position_before(index))
     }
@@ -140,7 +143,8 @@ impl KeptStatement {
         requires named { AreNamed events.now self.now.lines }
         requires order { first ≤ last }
         requires within { last ≤ length self.now.lines }
-        ensures ok { IfOk result (λ lines. lines.items ≡ slice_range (lines_of events.now self.now) first last) }
+        ensures ok { IfOk result (λ lines.
+            lines.items ≡ slice_range (lines_of_statement events.now self.now) first last) }
     {
         let mut lines = Vec::with_capacity(alloc, last - first)?;
         for index in first..last {
@@ -149,7 +153,8 @@ impl KeptStatement {
         Ok(lines)
     }
 
-    /// At most `count` lines after the first `skip`, by the events of the journal. It costs the lines that it gives.
+    /// At most `count` lines after the first `skip`, by the events of the journal. It costs the
+    /// lines that it gives.
     pub fn part(
         &self,
         alloc: Global,
@@ -158,7 +163,8 @@ impl KeptStatement {
         count: u32,
     ) -> Result<Vec<Line>, AllocError>
         requires { AreNamed events.now self.now.lines }
-        ensures ok { IfOk result (λ lines. lines.items ≡ take count (drop skip (lines_of events.now self.now))) }
+        ensures ok { IfOk result (λ lines.
+            lines.items ≡ take count (drop skip (lines_of_statement events.now self.now))) }
     {
         let kept = self.lines.len();
         if skip >= kept as u64 {

@@ -1,7 +1,8 @@
 use inst_base::Cents;
 use inst_command::LineKind;
 
-/// What moves a position: a funding, a defunding, an accepted transfer that came or one that was sent.
+/// What moves a position: a funding, a defunding, an accepted transfer that came or one that was
+/// sent.
 #[derive(Clone, Copy)]
 pub struct Movement {
     pub kind: LineKind,

@@ -3,7 +3,7 @@ ghost use Rattle.std.specs.Prelude.{◌≡◌, [], ◌∷◌, ◌++◌, List, On
 ghost use Rattle.inst_journal.specs.declared.event.Event.{Event as Passed};
 ghost use Rattle.inst_journal.specs.Booked.{first_some};
 ghost use Rattle.inst_statement.specs.inner.Movement.{came, sent, movement_of, accepted_movement};
-ghost use Rattle.inst_statement.specs.inner.Kept.{AreKept, IsNew};
+ghost use Rattle.inst_statement.specs.inner.Kept.{AreKept, IsNewTransfer};
 
 use crate::movement::Movement;
 use indexmap::IndexMap;
@@ -32,7 +32,7 @@ impl PassedTransfers {
 
     /// Keeps the transfer of an event, if it brings one.
     pub(crate) fn keep(&mut self, event: &Event) -> Result<(), AllocError>
-        ensures kept { (front : List Passed) → IsNew front event.now →
+        ensures kept { (front : List Passed) → IsNewTransfer front event.now →
             AreKept front self.old.taken self.old.forwarded →
             OnOk result (AreKept (front ++ event.now ∷ []) self.new.taken self.new.forwarded) }
     {
@@ -106,15 +106,15 @@ impl PassedTransfers {
             result ≡ movement_of front event.now }
     {
         match event {
-            Event::Funded { cents, .. } => Some(Movement {
+            Event::Funded(funding) => Some(Movement {
                 kind: LineKind::Funded,
                 other: None,
-                cents: *cents,
+                cents: funding.cents,
             }),
-            Event::Defunded { cents, .. } => Some(Movement {
+            Event::Defunded(funding) => Some(Movement {
                 kind: LineKind::Defunded,
                 other: None,
-                cents: *cents,
+                cents: funding.cents,
             }),
             Event::Booked { from, id, outcome } => self.booked(*from, id, outcome),
             _ => None,

@@ -8,9 +8,9 @@ use inst_command::Line;
 use inst_journal::{Event, Journal};
 use std::alloc::{AllocError, Global};
 
-/// At most `count` lines after the first `skip` of a history's statement since its last opening. For
-/// whoever has the history alone: one walk over its events, with the amounts of the transfers that were
-/// passed and the lines held meanwhile.
+/// At most `count` lines after the first `skip` of a history's statement since its last opening.
+/// For whoever has the history alone: one walk over its events, with the amounts of the transfers
+/// that were passed and the lines held meanwhile.
 pub fn statement(
     alloc: Global,
     journal: &Journal,

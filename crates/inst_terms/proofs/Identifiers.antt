@@ -11,7 +11,7 @@ use Rattle.std.proofs.lemmas.Bool.Decides.{nat_tests}
 use Rattle.std.proofs.lemmas.Bool.{and_parts, cases_lt}
 use Rattle.inst_base.specs.declared.fault.Fault.TheVariants.{BadIdentifier}
 use Rattle.inst_base.specs.Text.{is_latin, is_identifier, identifier_of}
-use Rattle.inst_base.proofs.Ascii.{IsAscii-latin}
+use Rattle.inst_base.proofs.TextsAreAscii.{IsAscii-latin}
 use Rattle.inst_terms.specs.Identifier.{nine_from, identifier_words}
 use Rattle.inst_terms.specs.inner.Identifier.{digit, StandsIn}
 use Rattle.inst_terms.proofs.Base128.{same_number, number_below, digit-in_base_128, in_base_128-digit}

@@ -1,6 +1,6 @@
 pub mod Base128
 pub mod Identifiers
 pub mod Reasons
-pub mod Words
-pub mod Following
-pub mod Apart
+pub mod WordsOfRejections
+pub mod OrderOfLawfulWords
+pub mod WordsTellValuesApart

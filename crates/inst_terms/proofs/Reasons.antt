@@ -9,7 +9,7 @@ use Rattle.std.proofs.lemmas.Bool.Decides.{nat_tests}
 use Rattle.inst_base.specs.declared.fault.Fault.TheVariants.{BadField}
 use Rattle.inst_base.specs.Text.{is_code_character, is_reason, reason_of}
 use Rattle.std.proofs.lemmas.Bool.{and_parts}
-use Rattle.inst_base.proofs.Ascii.{IsAscii-code}
+use Rattle.inst_base.proofs.TextsAreAscii.{IsAscii-code}
 use Rattle.inst_terms.specs.Reason.{digit_of, reason_number}
 use Rattle.inst_terms.specs.inner.Reason.{character_of}
 

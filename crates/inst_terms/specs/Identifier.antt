@@ -1,6 +1,6 @@
--- An identifier in four words: nine characters a word, the first character lowest, each by its ASCII value, and 0
--- past the end. How an identifier lies in words is this hub's own choice; its characters are the scheme's
--- (EPC004-16, chapter 4: attributes).
+-- An identifier in four words: nine characters a word, the first character lowest, each by its
+-- ASCII value, and 0 past the end. How an identifier lies in words is this hub's own choice; its
+-- characters are the scheme's (EPC004-16, chapter 4: attributes).
 use Rattle.std.specs.Prelude.{ℕ, zero, suc, ◌+◌, ◌*◌, ◌^◌, List, [], ◌∷◌, get_or}
 
 -- the sum of f j over j below n

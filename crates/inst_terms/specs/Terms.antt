@@ -1,6 +1,6 @@
--- The five terms words of a place. The first has the amount in cents and the beneficiary's number, the other four the
--- identifier: this hub's own choice. What a transfer names is the scheme's (EPC004-16, chapter 4:
--- attributes).
+-- The five terms words of a place. The first has the amount in cents and the beneficiary's number,
+-- the other four the identifier: this hub's own choice. What a transfer names is the scheme's
+-- (EPC004-16, chapter 4: attributes).
 use Rattle.std.specs.Prelude.{ℕ, ◌+◌, ◌*◌, ◌<◌, List, ◌∷◌, IsTrue}
 use Rattle.inst_base.specs.Cents.{is_amount}
 use Rattle.inst_base.specs.Text.{is_identifier}

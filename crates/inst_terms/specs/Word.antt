@@ -1,6 +1,7 @@
--- The outcome word of a place: 0 while nothing is opened, else a moment in milliseconds past the base, a reason and a
--- kind. Pending, accepted and rejected are the scheme's states of a transfer (EPC004-16, chapter 4: processing
--- flow); that they and the time-out stand in one number is this hub's own choice.
+-- The outcome word of a place: 0 while nothing is opened, else a moment in milliseconds past the
+-- base, a reason and a kind. Pending, accepted and rejected are the scheme's states of a transfer
+-- (EPC004-16, chapter 4: processing flow); that they and the time-out stand in one number is this
+-- hub's own choice.
 use Rattle.std.specs.Prelude.{ℕ, ◌+◌, ◌*◌, ◌^◌, ◌≤◌, IsTrue}
 use Rattle.inst_base.specs.Moment.{is_moment}
 use Rattle.inst_base.specs.Text.{is_reason}
@@ -29,10 +30,10 @@ outcome_number (Rejected reason) moment = number moment (reason_number reason) 2
 outcome_number TimedOut moment = number moment 0 3
 
 -- the outcome word
-abbrev pub number_of : Word → ℕ
-number_of Unused = 0
-number_of (Pending deadline) = number deadline 0 0
-number_of (Decided outcome moment) = outcome_number outcome moment
+abbrev pub word_number : Word → ℕ
+word_number Unused = 0
+word_number (Pending deadline) = number deadline 0 0
+word_number (Decided outcome moment) = outcome_number outcome moment
 
 -- an outcome whose reason, if it has one, is one
 abbrev pub IsOutcome : Outcome → Type 0

@@ -1,16 +1,19 @@
--- How the outcome word of a place may change: from unused to pending once, then once to a decided word, which stays. A
--- transfer is accepted or rejected before its deadline and timed out from it on, as in the rulebook
--- (EPC004-16, chapter 4: time cycle); the margin for acceptances, and that one word decides, are this hub's own choices.
+-- How the outcome word of a place may change: from unused to pending once, then once to a decided
+-- word, which stays. A transfer is accepted or rejected before its deadline and timed out from it
+-- on, as in the rulebook (EPC004-16, chapter 4: time cycle); the margin for acceptances, and that
+-- one word decides, are this hub's own choices.
 use Rattle.std.specs.Prelude.{◌≡◌, ◌⊎◌, ℕ, ◌≤◌, List, [], ◌∷◌, IsTrue}
 use Rattle.inst_base.specs.TimeLimit.{is_in_time, is_in_time_to_accept, is_due}
 use Rattle.inst_command.specs.declared.outcome.Outcome.{Outcome}
 use Rattle.inst_command.specs.declared.outcome.Outcome.TheVariants.{Accepted, Rejected, TimedOut}
 use Rattle.inst_command.specs.declared.outcome.State.{State}
-use Rattle.inst_command.specs.declared.outcome.State.TheVariants.{Unused as SeenUnused, Pending as SeenPending, Decided}
+use Rattle.inst_command.specs.declared.outcome.State.TheVariants.{Unused as SeenUnused}
+use Rattle.inst_command.specs.declared.outcome.State.TheVariants.{Pending as SeenPending, Decided}
 use Rattle.inst_terms.specs.declared.word.Word.{Word}
 use Rattle.inst_terms.specs.declared.word.Word.TheVariants.{Unused, Pending, Decided as DecidedWord}
 
--- the outcome of a transfer with this deadline, decided at the moment, is in time, with this margin for acceptances
+-- the outcome of a transfer with this deadline, decided at the moment, is in time, with this margin
+-- for acceptances
 abbrev pub InTime : ℕ → Outcome → ℕ → ℕ → Type 0
 InTime margin Accepted deadline moment = IsTrue (is_in_time_to_accept margin deadline moment)
 InTime margin (Rejected reason) deadline moment = IsTrue (is_in_time deadline moment)
@@ -26,20 +29,22 @@ Moves margin (Pending deadline) (Pending other) = ⊥
 Moves margin (Pending deadline) (DecidedWord outcome moment) = InTime margin outcome deadline moment
 Moves margin (DecidedWord outcome moment) word = ⊥
 
--- the words that a place has one after another, after the word `before`: each is the one before it, or moves from it
+-- the words that a place has one after another, after the word `before`: each is the one before it,
+-- or moves from it
 abbrev pub Follow : ℕ → Word → List Word → Type 0
 Follow margin before [] = Unit {0}
-Follow margin before (word ∷ words) = ((word ≡ before) ⊎ Moves margin before word) × Follow margin word words
+Follow margin before (word ∷ words) =
+    ((word ≡ before) ⊎ Moves margin before word) × Follow margin word words
 
 -- the words of a place from the opening of the hub on
 abbrev pub IsLawful : ℕ → List Word → Type 0
 IsLawful margin words = Follow margin Unused words
 
 -- what a word shows
-abbrev pub seen : Word → State
-seen Unused = SeenUnused
-seen (Pending deadline) = SeenPending
-seen (DecidedWord outcome moment) = Decided outcome
+abbrev pub word_state : Word → State
+word_state Unused = SeenUnused
+word_state (Pending deadline) = SeenPending
+word_state (DecidedWord outcome moment) = Decided outcome
 
 -- what is seen later is at least what was seen before
 abbrev pub IsAtLeast : State → State → Type 0

@@ -1,5 +1,6 @@
 //! An identifier in four words, nine characters a word.
-ghost use Rattle.std.specs.Prelude.{◌≡◌, ◌+◌, ◌/◌, ◌%◌, ◌<◌, ◌≤◌, ℕ, List, length, get_or, Some, IsTrue, true, ◌≢◌, ◌↔◌, nat_lt};
+ghost use Rattle.std.specs.Prelude.{◌≡◌, ◌+◌, ◌/◌, ◌%◌, ◌<◌, ◌≤◌, ℕ, List, length, get_or, Some};
+ghost use Rattle.std.specs.Prelude.{IsTrue, true, ◌≢◌, ◌↔◌, nat_lt};
 ghost use Rattle.std.specs.List.{list_all};
 ghost use Rattle.std.specs.Str.{IsAscii};
 ghost use Rattle.inst_base.specs.Text.{is_identifier};
@@ -32,7 +33,8 @@ pub(crate) fn pack_identifier(id: &Ident) -> [u64; 4]
 
 /// The identifier of four words, or `None` where they are no identifier's.
 pub(crate) fn read_identifier(words: &[u64; 4]) -> Option<Ident>
-    ensures { (id : List ℕ) → (result ≡ Some id) ↔ (IsTrue (is_identifier id) × (identifier_words id ≡ words.now)) }
+    ensures { (id : List ℕ) → (result ≡ Some id) ↔
+        (IsTrue (is_identifier id) × (identifier_words id ≡ words.now)) }
 {
     if !are_below_limit(words) {
         return None;
@@ -85,7 +87,8 @@ fn nine_from(characters: &[u8; ROOM], start: usize) -> u64
 
 /// The 36 characters of four words.
 fn characters_of(words: &[u64; 4]) -> [u8; ROOM]
-    ensures { (k : ℕ) → k < ROOM → get_or result k 0 ≡ digit (get_or words.now (k / NINE) 0) (k % NINE) }
+    ensures { (k : ℕ) → k < ROOM →
+        get_or result k 0 ≡ digit (get_or words.now (k / NINE) 0) (k % NINE) }
 {
     let mut characters = [0; ROOM];
     for index in 0..words.len() {
@@ -98,13 +101,15 @@ fn characters_of(words: &[u64; 4]) -> [u8; ROOM]
 }
 
 /// Puts the nine characters of a word from `start` on.
-// Inlined for each word, it would have the characters of all four at once, more than there are registers.
+// Inlined for each word, it would have the characters of all four at once, more than there are
+// registers.
 #[inline(never)]
 fn put_nine(characters: &mut [u8; ROOM], start: usize, word: u64)
     requires { start + NINE ≤ ROOM }
     ensures here { (k : ℕ) → k < NINE → get_or characters.new (start + k) 0 ≡ digit word k }
     ensures before { (k : ℕ) → k < start → get_or characters.new k 0 ≡ get_or characters.old k 0 }
-    ensures behind { (k : ℕ) → start + NINE ≤ k → get_or characters.new k 0 ≡ get_or characters.old k 0 }
+    ensures behind { (k : ℕ) → start + NINE ≤ k →
+        get_or characters.new k 0 ≡ get_or characters.old k 0 }
 {
     for place in 0..NINE {
         characters[start + place] = digit(word, place);
@@ -124,7 +129,8 @@ fn identifier_in(characters: &[u8; ROOM], len: usize) -> Option<Ident>
     requires within { len ≤ ROOM }
     requires zeros { (k : ℕ) → len ≤ k → get_or characters.now k 0 ≡ 0 }
     requires last { (k : ℕ) → k + 1 ≡ len → get_or characters.now k 0 ≢ 0 }
-    ensures { (id : List ℕ) → (result ≡ Some id) ↔ (IsTrue (is_identifier id) × StandsIn id characters.now) }
+    ensures { (id : List ℕ) → (result ≡ Some id) ↔
+        (IsTrue (is_identifier id) × StandsIn id characters.now) }
 {
     let Ok(text) = str::from_utf8(&characters[..len]) else {
         return None;
@@ -136,7 +142,8 @@ fn identifier_in(characters: &[u8; ROOM], len: usize) -> Option<Ident>
 fn length_of(words: &[u64; 4]) -> usize
     requires { list_all (λ word. nat_lt word LIMIT) words.now ≡ true }
     ensures within { result ≤ ROOM }
-    ensures zeros { (k : ℕ) → result ≤ k → k < ROOM → digit (get_or words.now (k / NINE) 0) (k % NINE) ≡ 0 }
+    ensures zeros { (k : ℕ) → result ≤ k → k < ROOM →
+        digit (get_or words.now (k / NINE) 0) (k % NINE) ≡ 0 }
     ensures last { (k : ℕ) → k + 1 ≡ result → digit (get_or words.now (k / NINE) 0) (k % NINE) ≢ 0 }
 {
     for index in (0..words.len()).rev() {

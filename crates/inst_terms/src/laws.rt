@@ -1,7 +1,9 @@
-//! The laws of a place's words. Each is a function without a body whose contract is the law, so that
-//! the check proves it.
-ghost use Rattle.inst_terms.specs.Laws.{DifferentTermsHaveDifferentWords, DifferentWordsHaveDifferentNumbers};
-ghost use Rattle.inst_terms.specs.Laws.{OneDecidedWord, OneDeadline, NothingSeenGoesBack, EachOutcomeIsInTime, WhatIsInTime};
+//! The laws of a place's words. Each is a function without a body whose contract is the law, so
+//! that the check proves it.
+ghost use Rattle.inst_terms.specs.Laws.{DifferentTermsHaveDifferentWords};
+ghost use Rattle.inst_terms.specs.Laws.{DifferentWordsHaveDifferentNumbers};
+ghost use Rattle.inst_terms.specs.Laws.{OneDecidedWord, OneDeadline, NothingSeenGoesBack};
+ghost use Rattle.inst_terms.specs.Laws.{EachOutcomeIsInTime, WhatIsInTime};
 ghost use Rattle.inst_terms.specs.Laws.{EachOutcomeInTimeMayStand, WhatIsSeen};
 ghost use Rattle.inst_terms.specs.Rows.{WordsOfTheFormat};
 
@@ -30,14 +32,14 @@ pub fn nothing_seen_goes_back()
     ensures { NothingSeenGoesBack }
 {}
 
-/// A place is accepted before its deadline by more than the margin, rejected before its deadline, and
-/// timed out at it or after it.
+/// A place is accepted before its deadline by more than the margin, rejected before its deadline,
+/// and timed out at it or after it.
 pub fn each_outcome_is_in_time()
     ensures { EachOutcomeIsInTime }
 {}
 
-/// In time is before the deadline by more than the margin for an acceptance, before the deadline for a
-/// rejection, and at it or after it for a time-out.
+/// In time is before the deadline by more than the margin for an acceptance, before the deadline
+/// for a rejection, and at it or after it for a time-out.
 pub fn what_is_in_time()
     ensures { WhatIsInTime }
 {}

@@ -1,7 +1,7 @@
 ghost use Rattle.std.specs.Prelude.{◌≡◌, ◌<◌, Some, ◌↔◌, IsTrue};
 ghost use Rattle.inst_base.specs.Moment.{is_moment};
 ghost use Rattle.inst_terms.specs.declared.word.Word.{Word};
-ghost use Rattle.inst_terms.specs.Word.{IsWord, number, number_of, reason_room, kinds};
+ghost use Rattle.inst_terms.specs.Word.{IsWord, number, word_number, reason_room, kinds};
 
 use crate::Word;
 use crate::reason::{pack_reason, read_reason};
@@ -25,7 +25,7 @@ const REASON_ROOM: u64 = 2_097_152;
 /// The outcome word, 0 where the place is unused. Different words have different numbers where a
 /// deadline is at least 1.
 pub fn pack_outcome(word: &Word) -> u64
-    ensures { result ≡ number_of word.now }
+    ensures { result ≡ word_number word.now }
 {
     match word {
         Word::Unused => 0,
@@ -44,7 +44,7 @@ pub fn pack_outcome(word: &Word) -> u64
 /// What this outcome word says, or `None` where no place has such a word: a pending one has moment
 /// 0 or a reason, an accepted or timed out one a reason, a rejected one a reason of 36^4 or more.
 pub fn read_outcome(word: u64) -> Option<Word>
-    ensures { (read : Word) → (result ≡ Some read) ↔ (IsWord read × (number_of read ≡ word)) }
+    ensures { (read : Word) → (result ≡ Some read) ↔ (IsWord read × (word_number read ≡ word)) }
 {
     if word == 0 {
         return Some(Word::Unused);

@@ -23,7 +23,8 @@ pub(crate) fn pack_reason(reason: &Reason) -> u64
 
 /// The reason with this number, or `None` from 36^4 on.
 pub(crate) fn read_reason(number: u64) -> Option<Reason>
-    ensures { (reason : List ℕ) → (result ≡ Some reason) ↔ (IsTrue (is_reason reason) × (reason_number reason ≡ number)) }
+    ensures { (reason : List ℕ) → (result ≡ Some reason) ↔
+        (IsTrue (is_reason reason) × (reason_number reason ≡ number)) }
 {
     if number >= REASONS {
         return None;

@@ -5,8 +5,8 @@ ghost use Rattle.inst_terms.specs.Terms.{IsTerms, words_of};
 use crate::identifier::{pack_identifier, read_identifier};
 use inst_base::{Cents, Ident};
 
-/// How many beneficiaries the first terms word can name: the factor of the cents in it. A hub has no more
-/// participants than that.
+/// How many beneficiaries the first terms word can name: the factor of the cents in it. A hub has
+/// no more participants than that.
 pub const BENEFICIARIES: u64 = 256;
 
 /// What stands in a place's terms words: the beneficiary's number, the amount and the originator's
@@ -44,7 +44,8 @@ pub fn pack(terms: &Terms) -> [u64; 5]
 /// 99,999,999,999, an identifier's word is 2^63 or more, or the characters are no identifier with
 /// zeros up to their end.
 pub fn unpack(words: &[u64; 5]) -> Option<Terms>
-    ensures { (terms : Terms) → (result ≡ Some terms) ↔ (IsTerms terms × (words_of terms ≡ words.now)) }
+    ensures { (terms : Terms) → (result ≡ Some terms) ↔
+        (IsTerms terms × (words_of terms ≡ words.now)) }
 {
     let &[money, first, second, third, fourth] = words;
     let to = (money % BENEFICIARIES) as u8;

@@ -15,7 +15,7 @@ use Rattle.inst_settings.specs.Settings.{same_text}
 use Rattle.inst_command.specs.declared.entry.Entry.{Entry}
 use Rattle.inst_transfers.specs.declared.transfer.Found.{Found}
 use Rattle.inst_transfers.specs.declared.transfer.Transfer.{Transfer}
-use Rattle.inst_transfers.specs.State.{Key, same_key, put, outcome_in}
+use Rattle.inst_transfers.specs.State.{Key, same_key, table_with, outcome_in}
 use Rattle.inst_transfers.specs.Held.{found_at, row_in, rows_in, AreApart, id_in, ids_at, AreWithin, AreOwn, AreAbove, AreRising, ArePositions, FindsAt, FindsOwn, Held}
 use Rattle.inst_transfers.specs.inner.Held.{waits_row, waits_at, FindsIndex}
 
@@ -41,7 +41,7 @@ keys_equiv = record {
 pub on_ok : {A E : Type 0} {P : Type 0} (r : Result A E) (x : A) → r ≡ Ok x → OnOk r P → P
 on_ok {A} {E} {P} r x is p = subst (λ (q : Result A E). OnOk q P) is p
 
-pub found_put : (es fs : List (Key × Transfer)) (key : Key) (row : Transfer) → ((q : Key) → lookup (same_key q) fs ≡ cond (same_key key q) (Some row) (lookup (same_key q) es)) → found_at fs ≡ put (found_at es) key row
+pub found_put : (es fs : List (Key × Transfer)) (key : Key) (row : Transfer) → ((q : Key) → lookup (same_key q) fs ≡ cond (same_key key q) (Some row) (lookup (same_key q) es)) → found_at fs ≡ table_with (found_at es) key row
 found_put es fs key row updates = λ i q. updates q i
 
 -- one key more

@@ -1,6 +1,7 @@
--- What a contract sees of a table of transfers: its state, where it holds each, and for how many more it has room. This hub's
--- own choice.
-use Rattle.std.specs.Prelude.{◌≡◌, ℕ, ◌+◌, ◌≤◌, ◌<◌, ◌^◌, List, [], ◌∷◌, length, map, slice_get, Option, Some, None}
+-- What a contract sees of a table of transfers: its state, where it holds each, and for how many
+-- more it has room. This hub's own choice.
+use Rattle.std.specs.Prelude.{◌≡◌, ℕ, ◌+◌, ◌≤◌, ◌<◌, ◌^◌, List, [], ◌∷◌, length, map, slice_get}
+use Rattle.std.specs.Prelude.{Option, Some, None}
 use Rattle.std.specs.Map.{lookup, keys_of}
 use Rattle.inst_command.specs.declared.entry.Entry.{Entry}
 use Rattle.inst_transfers.specs.declared.transfer.Found.{Found}
@@ -9,8 +10,8 @@ use Rattle.inst_transfers.specs.declared.transfer.Side.TheVariants.{Own, Other}
 use Rattle.inst_transfers.specs.declared.transfer.Transfer.{Transfer}
 use Rattle.inst_transfers.specs.State.{Key, same_key, State}
 
--- the entries of the table in the order in which they came; the positions in it of the participant's own live transfers;
--- the sums; for how many more there is room
+-- the entries of the table in the order in which they came; the positions in it of the
+-- participant's own live transfers; the sums; for how many more there is room
 pub record Held : Type 0 where
   pub who : ℕ
   pub entries : List (Key × Transfer)
@@ -18,7 +19,6 @@ pub record Held : Type 0 where
   pub reserved : ℕ
   pub credits : ℕ
   pub debits : ℕ
-  pub waiting : ℕ
   pub room : ℕ
 
 -- the identifier of the key at a position
@@ -70,7 +70,9 @@ rows_in entries = map row_in entries
 
 -- no two of them are of the same transfer
 abbrev pub AreApart : List Entry → Type 0
-AreApart rows = (i j : ℕ) (x y : Entry) → slice_get rows i ≡ Some x → slice_get rows j ≡ Some y → x.from ≡ y.from →
+AreApart rows =
+    (i j : ℕ) (x y : Entry) → slice_get rows i ≡ Some x → slice_get rows j ≡ Some y →
+    x.from ≡ y.from →
     x.id ≡ y.id → i ≡ j
 
 -- the table, as that of a history
@@ -82,7 +84,6 @@ state_in held = record {
   reserved = held.reserved;
   credits = held.credits;
   debits = held.debits;
-  waiting = held.waiting;
 }
 
 -- what was found is what the table holds at its key, and it holds it at the position
@@ -91,9 +92,9 @@ pub record IsFound (held : Held) (f : Found) : Type 0 where
   pub transfer : found_at held.entries (f.from, f.id) ≡ Some f.transfer
 
 -- what a look for the key gives
-abbrev pub Finds : Held → ℕ → List ℕ → Option Found → Type 0
-Finds held from id None = found_at held.entries (from, id) ≡ None
-Finds held from id (Some f) = (f.from ≡ from) × (f.id ≡ id) × IsFound held f
+abbrev pub IsLookedUp : Held → ℕ → List ℕ → Option Found → Type 0
+IsLookedUp held from id None = found_at held.entries (from, id) ≡ None
+IsLookedUp held from id (Some f) = (f.from ≡ from) × (f.id ≡ id) × IsFound held f
 
 -- what stands at the position
 abbrev pub FindsAt : Held → ℕ → Option Found → Type 0
@@ -103,11 +104,12 @@ FindsAt held position (Some f) = (f.position ≡ position) × IsFound held f
 -- what stands at the index of the participant's own live transfers
 abbrev pub FindsOwn : Held → ℕ → Option Found → Type 0
 FindsOwn held index None = slice_get (state_in held).own index ≡ None
-FindsOwn held index (Some f) = (f.from ≡ held.who) × (slice_get (state_in held).own index ≡ Some f.id) × IsFound held f
+FindsOwn held index (Some f) =
+    (f.from ≡ held.who) × (slice_get (state_in held).own index ≡ Some f.id) × IsFound held f
 
 -- the sums of an own transfer hold its amount, and those of another leave room for it
 abbrev pub CoversSide : State → ℕ → Side → Type 0
-CoversSide st cents (Own to stamp) = (cents ≤ st.reserved) × (1 ≤ st.waiting) × (st.debits + cents < 2 ^ 128)
+CoversSide st cents (Own to stamp) = (cents ≤ st.reserved) × (st.debits + cents < 2 ^ 128)
 CoversSide st cents (Other deadline) = st.credits + cents < 2 ^ 128
 
 abbrev pub Covers : State → Transfer → Type 0

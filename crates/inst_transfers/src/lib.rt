@@ -1,4 +1,5 @@
-//! The transfers of one participant in one table: each found once, with its side, amount and outcome.
+//! The transfers of one participant in one table: each found once, with its side, amount and
+//! outcome.
 #![tactic(auto)]
 
 mod transfer;

@@ -20,8 +20,8 @@ pub struct Transfer {
     pub outcome: Option<Outcome>,
 }
 
-/// A transfer that was looked up, and where the table holds it: until the next one comes it need not be looked
-/// up again.
+/// A transfer that was looked up, and where the table holds it: until the next one comes it need
+/// not be looked up again.
 #[derive(Clone, Copy)]
 pub struct Found {
     pub from: u8,

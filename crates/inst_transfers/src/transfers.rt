@@ -1,10 +1,13 @@
 //! A table of transfers by originator and identifier, with what is known of them all together.
-ghost use Rattle.std.specs.Prelude.{◌≡◌, ℕ, ◌+◌, ◌<◌, ◌≤◌, ◌^◌, length, slice_get, Some, None, OnOk, IfSome};
+ghost use Rattle.std.specs.Prelude.{◌≡◌, ℕ, ◌+◌, ◌<◌, ◌≤◌, ◌^◌, length, slice_get, Some, None};
+ghost use Rattle.std.specs.Prelude.{OnOk, IfSome};
 ghost use Rattle.std.specs.Map.{keys_of};
 ghost use Rattle.inst_journal.specs.declared.event.Event.{Event};
 ghost use Rattle.inst_journal.specs.Sums.{if_accepted};
-ghost use Rattle.inst_transfers.specs.State.{nothing, step};
-ghost use Rattle.inst_transfers.specs.Held.{Finds, FindsAt, FindsOwn, IsFound, Covers, AreApart, AreRising, found_at, rows_in, state_in};
+ghost use Rattle.inst_transfers.specs.State.{empty_table, step};
+ghost use Rattle.inst_transfers.specs.Held.{IsLookedUp, FindsAt, FindsOwn, IsFound, Covers};
+ghost use Rattle.inst_transfers.specs.Held.{AreApart};
+ghost use Rattle.inst_transfers.specs.Held.{AreRising, found_at, rows_in, state_in};
 ghost use Rattle.inst_transfers.specs.inner.Held.{waits_at, FindsIndex};
 
 use crate::transfer::{Found, Side, Transfer};
@@ -24,7 +27,6 @@ pub struct Transfers {
     reserved: u128,
     credits: u128,
     debits: u128,
-    waiting: usize,
     /// Where the table holds the transfer that was entered or booked last.
     last: usize,
     /// For how many there is room to be with the first.
@@ -45,7 +47,6 @@ impl Model for Transfers {
       reserved = t.reserved;
       credits = t.credits;
       debits = t.debits;
-      waiting = t.waiting;
       room = min (spare t.table) (vec_capacity t.own - vec_len t.own);
     } };
 
@@ -56,7 +57,7 @@ impl Transfers {
     /// No transfers, of which so many are expected. It takes no memory.
     pub fn new(alloc: Global, who: u8, expected: usize) -> Transfers
         ensures who { result.who ≡ who }
-        ensures state { state_in result ≡ nothing }
+        ensures state { state_in result ≡ empty_table }
     {
         Transfers {
             who,
@@ -65,16 +66,15 @@ impl Transfers {
             reserved: 0,
             credits: 0,
             debits: 0,
-            waiting: 0,
             last: 0,
             expected,
         }
     }
 
-    /// Looks a transfer up: the one look at the table that a step takes. What was entered or booked last, of which a
-    /// ticket and what follows ask next, is found without its key's hash.
+    /// Looks a transfer up: the one look at the table that a step takes. What was entered or booked
+    /// last, of which a ticket and what follows ask next, is found without its key's hash.
     pub fn find(&self, from: u8, id: &Ident) -> Option<Found>
-        ensures { Finds self.now from id.now result }
+        ensures { IsLookedUp self.now from id.now result }
     {
         match self.find_last(from, id) {
             Some(found) => Some(found),
@@ -84,7 +84,7 @@ impl Transfers {
 
     /// The transfer that was entered or booked last, where it is this one.
     fn find_last(&self, from: u8, id: &Ident) -> Option<Found>
-        ensures { IfSome result (λ found. Finds self.now from id.now (Some found)) }
+        ensures { IfSome result (λ found. IsLookedUp self.now from id.now (Some found)) }
     {
         let _ = &self.own;
         let (key, transfer) = self.table.get_index(self.last)?;
@@ -101,7 +101,7 @@ impl Transfers {
 
     /// Looks a transfer up by its key.
     fn find_by_key(&self, from: u8, id: &Ident) -> Option<Found>
-        ensures { Finds self.now from id.now result }
+        ensures { IsLookedUp self.now from id.now result }
     {
         let _ = &self.own;
         let (position, _, transfer) = self.table.get_full(&(from, *id))?;
@@ -136,8 +136,9 @@ impl Transfers {
         self.table.len()
     }
 
-    /// Makes room for one more transfer, and with the first one for all that are expected, or answers that memory was
-    /// refused. Nothing else changes. What there is room for is touched as it is used.
+    /// Makes room for one more transfer, and with the first one for all that are expected, or
+    /// answers that memory was refused. Nothing else changes. What there is room for is touched as
+    /// it is used.
     pub fn reserve(&mut self) -> Result<(), AllocError>
         ensures same { self.new ≡ record self.old { room = self.new.room } }
         ensures room { OnOk result (0 < self.new.room) }
@@ -156,9 +157,9 @@ impl Transfers {
         requires room { 0 < self.old.room }
         requires new { found_at self.old.entries (self.old.who, id) ≡ None }
         requires fits { self.old.reserved + cents < 2 ^ 128 }
-        requires count { self.old.waiting + 1 < 2 ^ 64 }
         ensures who { self.new.who ≡ self.old.who }
-        ensures state { state_in self.new ≡ step self.old.who (state_in self.old) (Event.Taken id to cents stamp) }
+        ensures state { state_in self.new
+            ≡ step self.old.who (state_in self.old) (Event.Taken id to cents stamp) }
     {
         let position = self.table.len();
         let transfer = Transfer {
@@ -170,7 +171,6 @@ impl Transfers {
         self.own.push_reserved(position);
         self.last = position;
         self.reserved += u128::from(cents.get());
-        self.waiting += 1;
     }
 
     /// Enters a transfer of another's that is forwarded to the participant. It can't fail.
@@ -178,7 +178,8 @@ impl Transfers {
         requires room { 0 < self.old.room }
         requires new { found_at self.old.entries (from, id) ≡ None }
         ensures who { self.new.who ≡ self.old.who }
-        ensures state { state_in self.new ≡ step self.old.who (state_in self.old) (Event.Forwarded from id cents deadline) }
+        ensures state { state_in self.new
+            ≡ step self.old.who (state_in self.old) (Event.Forwarded from id cents deadline) }
     {
         let position = self.table.len();
         let transfer = Transfer {
@@ -195,7 +196,9 @@ impl Transfers {
         requires there { IsFound self.old found.now }
         requires covers { Covers (state_in self.old) found.now.transfer }
         ensures who { self.new.who ≡ self.old.who }
-        ensures state { state_in self.new ≡ step self.old.who (state_in self.old) (Event.Booked found.now.from found.now.id outcome.now) }
+        ensures state { state_in self.new
+            ≡ step self.old.who (state_in self.old)
+            (Event.Booked found.now.from found.now.id outcome.now) }
         ensures keys { keys_of self.new.entries ≡ keys_of self.old.entries }
         ensures room { self.new.room ≡ self.old.room }
     {
@@ -213,7 +216,6 @@ impl Transfers {
             Side::Own { .. } => {
                 self.reserved -= cents;
                 self.debits += if_accepted(&outcome, cents);
-                self.waiting -= 1;
             }
             Side::Other { .. } => self.credits += if_accepted(&outcome, cents),
         }
@@ -243,14 +245,16 @@ impl Transfers {
         self.at(position)
     }
 
-    /// The index of the place of the participant's own transfer that was found, where it is live. It takes one step
-    /// for the last of the live ones, else a number that grows with the logarithm of theirs, and looks nothing up by
-    /// its key.
+    /// The index of the place of the participant's own transfer that was found, where it is live.
+    /// It takes one step for the last of the live ones, else a number that grows with the logarithm
+    /// of theirs, and looks nothing up by its key.
     pub fn own_index(&self, found: &Found) -> Option<usize>
         requires there { IsFound self.now found.now }
         requires own { found.now.from ≡ self.now.who }
-        ensures at { (k : ℕ) → slice_get (state_in self.now).own k ≡ Some found.now.id → result ≡ Some k }
-        ensures only { (k : ℕ) → result ≡ Some k → slice_get (state_in self.now).own k ≡ Some found.now.id }
+        ensures at { (k : ℕ) → slice_get (state_in self.now).own k ≡ Some found.now.id →
+            result ≡ Some k }
+        ensures only { (k : ℕ) → result ≡ Some k →
+            slice_get (state_in self.now).own k ≡ Some found.now.id }
         ensures within { IfSome result (λ k. k < length self.now.positions) }
     {
         // That the keys are distinct is known where the table's length is read.
@@ -287,8 +291,8 @@ impl Transfers {
     }
 }
 
-/// Where this position stands among others that rise. It takes one step for the last of them, else a number that
-/// grows with the logarithm of how many there are.
+/// Where this position stands among others that rise. It takes one step for the last of them, else
+/// a number that grows with the logarithm of how many there are.
 fn index_of(positions: &[usize], position: usize) -> Option<usize>
     requires rising { AreRising positions.now }
     ensures { FindsIndex positions.now position result }

@@ -13,9 +13,9 @@ ghost use Rattle.inst_row.specs.Row.{row_id, key_of, size};
 ghost use Rattle.inst_row.specs.Seated.{IsOn, IsFree};
 
 use inst_base::{Fault, Moment};
-use inst_board::{Board, Look, Place, Wish};
+use inst_board::{Board, Look, Wish};
 use inst_cell::{SharedBoard, Sight};
-use inst_command::{Ask, Outcome, Reply, State};
+use inst_command::{Ask, Outcome, Place, Reply, State};
 use inst_row::{Lawful, LockRow, RowSeat};
 use inst_slot::Slot;
 use std::sync::Wait;

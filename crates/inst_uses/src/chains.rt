@@ -44,7 +44,8 @@ pub fn first_piece<D: Disk>(alloc: Global, disk: &mut D) -> Result<Vec<u8>, LogE
 /// A log is opened in two steps.
 pub fn opened<D: Disk>(alloc: Global, log: &mut Log<D>, settings: &[u8]) -> Result<(), LogError>
     requires usable { IsTrue (D.Disk.is_usable log.old.disk) }
-    requires known { IsTrue (D.Disk.is_clean log.old.disk) → Only (D.Disk.seen log.old.disk) (D.Disk.may_leave log.old.disk) }
+    requires known { IsTrue (D.Disk.is_clean log.old.disk) →
+        Only (D.Disk.seen log.old.disk) (D.Disk.may_leave log.old.disk) }
     requires settings { IsBatch settings.now }
 {
     let extent = survey(alloc, &mut log.disk)?;

@@ -1,6 +1,7 @@
-//! Laws of the model, of the books of all participants and of chains of marks: a call of a law is a proof of what it says.
+//! Laws of the model, of the books of all participants and of chains of marks: a call of a law is a
+//! proof of what it says.
 ghost use Rattle.std.specs.Prelude.{◌≡◌, ◌⊎◌, ◌++◌, ◌∷◌, List, ℕ, true};
-ghost use Rattle.inst_log.specs.Layout.{recovered};
+ghost use Rattle.inst_log.specs.Layout.{recovered_lines};
 ghost use Rattle.inst_chain.specs.Chain.{is_mark, IsSealed, Collision};
 ghost use Rattle.inst_model.specs.OneOutcome.{OutcomeStays};
 ghost use Rattle.inst_participant.specs.Together.{TogetherTheyFit};
@@ -24,11 +25,12 @@ pub fn together<B: Board>()
     together_books_fit::<B>();
 }
 
-/// Two logs that share a mark have the same lines before it, or two different texts with one digest.
+/// Two logs that share a mark have the same lines before it, or two different texts with one
+/// digest.
 pub fn chain()
     ensures { (a b : List ℕ) (mark : List ℕ) (old new : List (List ℕ)) (late later : List (List ℕ))
         → IsSealed a → IsSealed b → is_mark mark ≡ true
-        → recovered a ≡ old ++ mark ∷ late → recovered b ≡ new ++ mark ∷ later
+        → recovered_lines a ≡ old ++ mark ∷ late → recovered_lines b ≡ new ++ mark ∷ later
         → (old ≡ new) ⊎ Collision a b }
 {
     one_digest_one_log(); // `Collision` has the two texts, parts of the two files

@@ -1,11 +1,12 @@
 //! Bytes of lines, and the hub in one thread: step by step, and line by line.
 ghost use Rattle.std.specs.Prelude.{◌≡◌, true, IfOk};
+ghost use Rattle.inst_settings.specs.Settings.{is_participant};
 ghost use Rattle.inst_command.specs.Ask.{ask_fits};
 ghost use Rattle.inst_world.specs.HasRun.{IsOfModel};
 
 use inst_agenda::{Runner, follow_up};
 use inst_base::{Fault, Unwritten, find_newline, write_bytes};
-use inst_command::{Answer, Ask, Reply, Step};
+use inst_command::{Answer, Ask, Lines, Reply, Step};
 use inst_json::{read_command, write_reply};
 use inst_lines::{Counts, run_lines};
 use inst_settings::Settings;
@@ -43,6 +44,15 @@ pub fn world(world: &mut World, step: &Step) -> Result<Answer, Fault>
     }
     let answer = world.step(step)?; // the reply of an ask, a refusal too, or whether it was new
     Ok(answer)
+}
+
+/// What a participant has, in cents, and the first ten lines of its statement.
+pub fn account(alloc: Global, world: &World, who: u8) -> Result<(u128, Lines), AllocError>
+    requires { is_participant world.now.board.settings who ≡ true }
+{
+    let position = world.position(who); // in constant time
+    let lines = world.statement(alloc, who, 0, 10)?; // at most 10 lines, after the first 0
+    Ok((position, lines))
 }
 
 /// An ask, and what follows from it.

@@ -7,7 +7,7 @@ ghost use Rattle.inst_log.specs.Serving.{Replies, AllBatches};
 ghost use Rattle.inst_log.specs.Restart.{Begins};
 
 use inst_lines::Mode;
-use inst_log::{Answers, Log, LogError, close_batch, push_line, run_twice};
+use inst_log::{Log, LogError, Responder, close_batch, push_line, run_twice};
 use inst_logged::{LoggedError, NewHub, Version};
 use inst_settings::Settings;
 use sqlite_disk::{Crash, Disk};
@@ -22,7 +22,8 @@ pub fn log<D: Disk>(
     line: &[u8],
 ) -> Result<Vec<u8>, LogError>
     requires usable { IsTrue (D.Disk.is_usable log.old.disk) }
-    requires known { IsTrue (D.Disk.is_clean log.old.disk) → Only (D.Disk.seen log.old.disk) (D.Disk.may_leave log.old.disk) }
+    requires known { IsTrue (D.Disk.is_clean log.old.disk) →
+        Only (D.Disk.seen log.old.disk) (D.Disk.may_leave log.old.disk) }
     requires settings { IsBatch settings.now }
     requires line { NoNewline line.now }
 {
@@ -35,7 +36,7 @@ pub fn log<D: Disk>(
 }
 
 /// The replies of a log whose machine stopped once.
-pub fn restart<D: Crash + Drop, A: Answers + Drop>(
+pub fn restart<D: Crash + Drop, A: Responder + Drop>(
     alloc: Global,
     disk: D,
     settings: &[u8],
@@ -45,9 +46,11 @@ pub fn restart<D: Crash + Drop, A: Answers + Drop>(
     more: &[Vec<u8>],
 ) -> Result<Vec<u8>, LogError>
     requires usable { IsTrue (D.Disk.is_usable disk) }
-    requires known { IsTrue (D.Disk.is_clean disk) → Only (D.Disk.seen disk) (D.Disk.may_leave disk) }
-    requires same { (replies : Replies) → A.Answers.says first replies → A.Answers.says again replies }
-    requires begins { (replies : Replies) → A.Answers.says first replies → Begins replies }
+    requires known { IsTrue (D.Disk.is_clean disk) →
+        Only (D.Disk.seen disk) (D.Disk.may_leave disk) }
+    requires same { (replies : Replies) → A.Responder.says first replies →
+        A.Responder.says again replies }
+    requires begins { (replies : Replies) → A.Responder.says first replies → Begins replies }
     requires settings { IsBatch settings.now }
     requires batches { AllBatches batches.now }
     requires more { AllBatches more.now }
@@ -66,7 +69,8 @@ pub fn logged<D: Disk + Drop, R: Read, W: Write>(
     writer: &mut W,
 ) -> Result<(), LoggedError>
     requires usable { IsTrue (D.Disk.is_usable disk) }
-    requires known { IsTrue (D.Disk.is_clean disk) → Only (D.Disk.seen disk) (D.Disk.may_leave disk) }
+    requires known { IsTrue (D.Disk.is_clean disk) →
+        Only (D.Disk.seen disk) (D.Disk.may_leave disk) }
 {
     let mut hub = NewHub::open(alloc, Version::Two, Mode::Run, settings)?.with_disk(alloc, disk);
     hub.run(alloc, None, None, reader, writer)?; // all replies of the log were received, and it may have any digest

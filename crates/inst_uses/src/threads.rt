@@ -4,9 +4,9 @@ ghost use Rattle.inst_command.specs.Ask.{ask_fits};
 ghost use Rattle.inst_model.specs.Opening.{Opening};
 ghost use Rattle.inst_cell.specs.Held.{AtOneTable};
 ghost use Rattle.inst_cell.specs.Seen.{board_of};
-ghost use Rattle.inst_participant.specs.Behind.{IsReady};
+ghost use Rattle.inst_participant.specs.LockLaw.{IsReady};
 ghost use Rattle.inst_participant.specs.Apart.{IsPartsOf};
-ghost use Rattle.inst_hub.specs.Calls.{IsOf, AreOf};
+ghost use Rattle.inst_hub.specs.Calls.{IsTellerOf, AreOf};
 ghost use Rattle.inst_hub.specs.Opening.{HaveAllParts};
 ghost use Rattle.inst_close.specs.Closing.{IsOpenedSo};
 ghost use Rattle.inst_desk.specs.Desk.{IsHandOf, AreHandsOf};
@@ -33,7 +33,7 @@ pub fn hub<R: Wait>(
     teller: &mut Teller,
     ask: &Ask,
 ) -> Result<(Reply, Option<State>), AllocError>
-    requires of { IsOf hub.now teller.old }
+    requires of { IsTellerOf hub.now teller.old }
     requires fits { ask_fits hub.now.settings ask.now ≡ true }
 {
     let (reply, ticket) = hub.call(rt, teller, ask)?; // waits for the asker's lock

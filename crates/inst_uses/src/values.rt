@@ -5,8 +5,8 @@ ghost use Rattle.inst_command.specs.Ask.{ask_fits};
 
 use inst_base::{Cents, Code, Fault, Moment};
 use inst_command::{Ask, Command};
-use inst_options::{Wish, fault_of, wished};
-use inst_settings::{Numbers, Settings, parse_codes};
+use inst_options::{Invocation, fault_of, wished};
+use inst_settings::{HubParameters, Settings, parse_codes};
 use std::alloc::Global;
 
 /// A deadline, and whether a transfer is due by it.
@@ -28,9 +28,9 @@ pub fn settings(alloc: Global) -> Result<(Settings, Option<u8>), Fault>
     ensures { IfOk result (λ r. (participants r.0 ≡ 2) × (r.0.places ≡ 1024)) }
 {
     let codes = vec![in alloc; Code::new("AAAADEFF")?, Code::new("BBBBFRPP")?]?;
-    let numbers = Numbers {
+    let numbers = HubParameters {
         places: 1_024,
-        ..Numbers::DEFAULT
+        ..HubParameters::DEFAULT
     };
     let settings = Settings::check(codes, numbers)?; // or `BadSettings`
     let second = settings.index_of(&Code::new("BBBBFRPP")?);
@@ -58,14 +58,14 @@ pub fn faults() -> Option<(u8, &'static str)> {
 /// The codes of two participants.
 pub fn participants(alloc: Global) -> Result<Settings, Fault> {
     let codes = parse_codes(alloc, b"AAAADEFF,BBBBFRPP")?; // two codes, or `BadSettings`
-    Settings::check(codes, Numbers::DEFAULT)
+    Settings::check(codes, HubParameters::DEFAULT)
 }
 
 /// The settings that the words of a command line choose for a run.
 pub fn options(alloc: Global, words: &[String]) -> Option<Settings> {
     // The words are `run`, `--participants` and `AAAADEFF,BBBBFRPP`.
     match wished(alloc, words) {
-        Ok(Wish::Run(settings, _, _)) => Some(settings), // two participants, and the defaults
+        Ok(Invocation::Run(settings, _, _)) => Some(settings), // two participants, and the defaults
         _ => None, // they ask for something else, or for nothing, and the error says why
     }
 }

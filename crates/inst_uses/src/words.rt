@@ -3,7 +3,7 @@
 use inst_base::{Cents, Fault, Ident, Moment};
 use inst_command::Outcome;
 use inst_due::Due;
-use inst_json::{Field, scan};
+use inst_json::{Field, Fields, Form, scan};
 use inst_terms::{Terms, Word, pack, pack_outcome, read_outcome, unpack};
 use std::alloc::Global;
 
@@ -29,9 +29,9 @@ pub fn due(alloc: Global, at: Moment) -> Result<Option<(Moment, u16)>, Fault> {
 
 /// The command of a line, where one pass can tell it.
 pub fn command_word(line: &[u8]) -> Option<&str> {
-    let fields = scan(line)?; // `None`: read the line by a tree
-    match fields.cmd {
-        Field::Text(word) => Some(word), // "position" for {"cmd":"position"}
-        _ => None,
+    let mut fields = Fields::new();
+    match (scan(line, &mut fields), fields.cmd) {
+        (Form::Plain, Field::Text(word)) => Some(word), // "position" for {"cmd":"position"}
+        _ => None, // in another form it is to be read by a tree
     }
 }

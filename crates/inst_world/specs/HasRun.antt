@@ -1,7 +1,8 @@
--- What a world of slots over one board has run: a list of steps since an opening. Its histories are the model's, and
--- its board has, at each place, the live transfer that the model has there with its outcome, and nothing else. That
--- one thread holds all slots is this hub's own choice.
-use Rattle.std.specs.Prelude.{◌≡◌, ◌⊎◌, ℕ, ◌<◌, true, List, ◌∷◌, length, slice_get, Option, Some, None}
+-- What a world of slots over one board has run: a list of steps since an opening. Its histories are
+-- the model's, and its board has, at each place, the live transfer that the model has there with
+-- its outcome, and nothing else. That one thread holds all slots is this hub's own choice.
+use Rattle.std.specs.Prelude.{◌≡◌, ◌⊎◌, ℕ, ◌<◌, true, List, ◌∷◌, length, slice_get, Option, Some}
+use Rattle.std.specs.Prelude.{None}
 use Rattle.inst_settings.specs.Settings.{HubSettings, participants}
 use Rattle.inst_settings.specs.Lawful.{IsSettings}
 use Rattle.inst_command.specs.declared.outcome.Outcome.{Outcome}
@@ -12,7 +13,7 @@ use Rattle.inst_command.specs.declared.step.Step.TheVariants.{Ask, Deliver, Lear
 use Rattle.inst_journal.specs.declared.event.Event.{Event}
 use Rattle.inst_journal.specs.Reply.{copies}
 use Rattle.inst_terms.specs.declared.terms.Terms.{Terms}
-use Rattle.inst_board.specs.declared.place.Place.{Place}
+use Rattle.inst_command.specs.declared.place.Place.{Place}
 use Rattle.inst_board.specs.Standing.{Standing, unused, pending, decided}
 use Rattle.inst_board.specs.Plain.{Contents, standing_at, plain_knows}
 use Rattle.inst_board.specs.Laws.{SayTheSame}
@@ -33,8 +34,8 @@ pub record World : Type 0 where
 abbrev pub journal_of : World → ℕ → List Event
 journal_of world p = events_of (slice_get world.books p)
 
-abbrev pub settings_of : World → HubSettings
-settings_of world = world.board.settings
+abbrev pub world_settings : World → HubSettings
+world_settings world = world.board.settings
 
 -- the books of the participant p over this board; each live transfer that came to it has its place
 pub record IsMember (s : HubSettings) (board : Contents) (p : ℕ) (book : Book) : Type 0 where
@@ -45,10 +46,12 @@ pub record IsMember (s : HubSettings) (board : Contents) (p : ℕ) (book : Book)
 
 -- one book for each participant, over one board
 pub record IsWorld (world : World) : Type 0 where
-  pub one_each : length world.books ≡ participants (settings_of world)
-  pub member : (p : ℕ) (book : Book) → slice_get world.books p ≡ Some book → IsMember (settings_of world) world.board p book
+  pub one_each : length world.books ≡ participants (world_settings world)
+  pub member : (p : ℕ) (book : Book) → slice_get world.books p ≡ Some book →
+      IsMember (world_settings world) world.board p book
 
--- a place of a transfer with these terms and this deadline stands with this outcome, if any, whenever it was decided
+-- a place of a transfer with these terms and this deadline stands with this outcome, if any,
+-- whenever it was decided
 abbrev pub StandsWith : Terms → ℕ → Option Outcome → Standing → Type 0
 StandsWith terms d None p = p ≡ pending terms d
 StandsWith terms d (Some o) p = (moment : ℕ) × (p ≡ decided terms d o moment)
@@ -56,7 +59,8 @@ StandsWith terms d (Some o) p = (moment : ℕ) × (p ≡ decided terms d o momen
 abbrev pub terms_of : Transfer → Terms
 terms_of x = terms_to x.to x.cents x.id
 
--- a place stands for this transfer of an originator whose transfers have these outcomes; unused, where there is none
+-- a place stands for this transfer of an originator whose transfers have these outcomes; unused,
+-- where there is none
 abbrev pub StandsFor : HubSettings → (List ℕ → Option Outcome) → Option Transfer → Standing → Type 0
 StandsFor s outcomes None p = p ≡ unused
 StandsFor s outcomes (Some x) p = StandsWith (terms_of x) (deadline s x) (outcomes x.id) p
@@ -64,28 +68,32 @@ StandsFor s outcomes (Some x) p = StandsWith (terms_of x) (deadline s x) (outcom
 -- each place of the board stands for the live transfer that the model has there, after these steps
 abbrev pub IsBoardOf : HubSettings → Opening → List Step → Contents → Type 0
 IsBoardOf s O L board = (p index : ℕ) →
-    StandsFor s (outcome s O L p) (at_place p (history s O L p) index) (standing_at board (place_at p index))
+    StandsFor s (outcome s O L p) (at_place p (history s O L p) index)
+    (standing_at board (place_at p index))
 
 -- The world has run these steps since this opening
 -- histories: each book is the participant's history
 -- board: and the board has the outcomes
 pub record HasRun (O : Opening) (L : List Step) (world : World) : Type 0 where
-  pub opening : IsOpening (settings_of world) O
-  pub steps : IsInterleaving (settings_of world) L
-  pub histories : (p : ℕ) (book : Book) → slice_get world.books p ≡ Some book → book.events ≡ history (settings_of world) O L p
-  pub board : IsBoardOf (settings_of world) O L world.board
+  pub opening : IsOpening (world_settings world) O
+  pub steps : IsInterleaving (world_settings world) L
+  pub histories : (p : ℕ) (book : Book) → slice_get world.books p ≡ Some book →
+      book.events ≡ history (world_settings world) O L p
+  pub board : IsBoardOf (world_settings world) O L world.board
 
 -- the world has run some steps since some opening
 abbrev pub HasRunSomething : World → Type 0
 HasRunSomething world = (O : Opening) × (L : List Step) × HasRun O L world
 
--- from the first world to the second the step was run, whatever was run before, and answered as the model answers it
+-- from the first world to the second the step was run, whatever was run before, and answered as the
+-- model answers it
 abbrev pub Runs : World → Step → Answer → World → Type 0
 Runs old step answered new = (O : Opening) (L : List Step) → HasRun O L old →
-    (answered ≡ answer (settings_of old) O L step) × HasRun O (step ∷ L) new
+    (answered ≡ answer (world_settings old) O L step) × HasRun O (step ∷ L) new
 
--- The step needs memory where these have been run: an ask that keeps an event, or whose reply is a copy of unread
--- entries or of lines; and each other step that finds something new, which it keeps. No refused ask does, and no repeat
+-- The step needs memory where these have been run: an ask that keeps an event, or whose reply is a
+-- copy of unread entries or of lines; and each other step that finds something new, which it keeps.
+-- No refused ask does, and no repeat
 abbrev pub NeedsMemory : HubSettings → Opening → List Step → Step → Type 0
 NeedsMemory s O L (Ask ask) = (copies (history s O L ask.who) ask.command ≡ true)
     ⊎ (length (history s O L ask.who) < length (history s O (Ask ask ∷ L) ask.who))
@@ -95,9 +103,11 @@ NeedsMemory s O L (Expire who index at) = answer s O L (Expire who index at) ≡
 
 -- the step needs memory at this world, whatever was run before
 abbrev pub TakesMemory : World → Step → Type 0
-TakesMemory world step = (O : Opening) (L : List Step) → HasRun O L world → NeedsMemory (settings_of world) O L step
+TakesMemory world step =
+    (O : Opening) (L : List Step) → HasRun O L world → NeedsMemory (world_settings world) O L step
 
--- the answer is the model's, at a hub with these settings that has run some steps since some opening
+-- the answer is the model's, at a hub with these settings that has run some steps since some
+-- opening
 pub record IsOfModel (s : HubSettings) (step : Step) (answered : Answer) : Type 0 where
   pub lawful : IsSettings s
   pub opening : Opening
@@ -108,6 +118,7 @@ pub record IsOfModel (s : HubSettings) (step : Step) (answered : Answer) : Type 
 
 -- the second world is as the first: the same books, and the board says the same of each place
 pub record IsAsBefore (old new : World) : Type 0 where
-  pub settings_are : settings_of new ≡ settings_of old
+  pub settings_are : world_settings new ≡ world_settings old
   pub books_are : new.books ≡ old.books
-  pub board_says : (place : Place) → SayTheSame (standing_at new.board place) (standing_at old.board place)
+  pub board_says : (place : Place) →
+      SayTheSame (standing_at new.board place) (standing_at old.board place)

@@ -1,8 +1,10 @@
--- The headline: what each run of the hub promises, said of what the run returned. A participant gets the same of every two
--- runs in which it sees the same, whatever else goes on in them; a transfer has one outcome (EPC004-16, chapter 4: a
--- confirmation or rejection is decided); its money is settled or released at most once; the positions sum to the net funding
--- and what is untold; and the books fit one another. This hub's own promise.
-use Rattle.std.specs.Prelude.{◌≡◌, ℕ, ◌+◌, ◌≤◌, pos, ◌+ℤ◌, true, false, List, [], ◌++◌, reverse, slice_get, take, Option, Some, is_some, Contains}
+-- The headline: what each run of the hub promises, said of what the run returned. A participant
+-- gets the same of every two runs in which it sees the same, whatever else goes on in them; a
+-- transfer has one outcome (EPC004-16, chapter 4: a confirmation or rejection is decided); its
+-- money is settled or released at most once; the positions sum to the net funding and what is
+-- untold; and the books fit one another. This hub's own promise.
+use Rattle.std.specs.Prelude.{◌≡◌, ℕ, ◌+◌, ◌≤◌, pos, ◌+ℤ◌, true, false, List, [], ◌++◌, reverse}
+use Rattle.std.specs.Prelude.{slice_get, take, Option, Some, is_some, Contains}
 use Rattle.inst_settings.specs.Settings.{HubSettings, is_participant}
 use Rattle.inst_command.specs.declared.outcome.Outcome.{Outcome}
 use Rattle.inst_command.specs.declared.outcome.State.TheVariants.{Decided}
@@ -27,7 +29,8 @@ use Rattle.inst_model.specs.Trace.{trace, own_answers}
 use Rattle.inst_model.specs.Transfer.{Transfer, transfer}
 use Rattle.inst_model.specs.Untold.{total, signed_total, if_untold, untold_by, untold}
 
--- what a run was given, in order, and what it returned: the journal of each participant, and an answer to each step
+-- what a run was given, in order, and what it returned: the journal of each participant, and an
+-- answer to each step
 pub record Run : Type 0 where
   pub opening : Opening
   pub steps : List Step
@@ -36,21 +39,26 @@ pub record Run : Type 0 where
 
 -- the steps were run since the opening, and returned this
 abbrev pub run_of : Opening → List Step → (ℕ → List Event) → List Answer → Run
-run_of O steps journals answers = record { opening = O; steps = steps; journals = journals; answers = answers }
+run_of O steps journals answers =
+    record { opening = O; steps = steps; journals = journals; answers = answers }
 
--- a hub with these settings ran so: its journals are the model's histories, and its answers the model's
+-- a hub with these settings ran so: its journals are the model's histories, and its answers the
+-- model's
 pub record IsRun (s : HubSettings) (run : Run) : Type 0 where
   pub opens : IsOpening s run.opening
   pub fits : IsInterleaving s (reverse run.steps)
-  pub journals_are : (p : ℕ) → is_participant s p ≡ true → run.journals p ≡ history s run.opening (reverse run.steps) p
+  pub journals_are : (p : ℕ) → is_participant s p ≡ true →
+      run.journals p ≡ history s run.opening (reverse run.steps) p
   pub nobody_else : (p : ℕ) → is_participant s p ≡ false → run.journals p ≡ []
   pub answers_are : run.answers ≡ trace s run.opening (reverse run.steps)
 
--- isolation: in two runs of these steps the participant begins with the same book, and sees the same in the same order:
--- its own commands with their readings and what each finds, the transfers that come to it, the outcomes that it is told
-pub record SeesTheSame (s : HubSettings) (p : ℕ) (O P : Opening) (one other : List Step) : Type 0 where
-  pub same_beginning : beginning O p ≡ beginning P p
-  pub same_view : view s O (reverse one) p ≡ view s P (reverse other) p
+-- isolation: in two runs of these steps the participant begins with the same book, and sees the
+-- same in the same order: its own commands with their readings and what each finds, the transfers
+-- that come to it, the outcomes that it is told
+pub record SeesTheSame (s : HubSettings) (p : ℕ) (O P : Opening) (one other : List Step) : Type 0
+  where
+    pub same_beginning : beginning O p ≡ beginning P p
+    pub same_view : view s O (reverse one) p ≡ view s P (reverse other) p
 
 -- it got the same of both runs
 pub record GotTheSame (p : ℕ) (one other : Run) : Type 0 where
@@ -65,58 +73,65 @@ abbrev pub IsIsolated : HubSettings → Run → Type 0
 IsIsolated s run = (other : Run) → IsRun s other → (p : ℕ) → is_participant s p ≡ true →
     SeesTheSame s p run.opening other.opening run.steps other.steps → GotTheSame p run other
 
--- one outcome: the outcome of the transfer after all steps of the run, and after the first k of them
-abbrev pub outcome_in : HubSettings → Run → ℕ → List ℕ → Option Outcome
-outcome_in s run from id = outcome s run.opening (reverse run.steps) from id
+-- one outcome: the outcome of the transfer after all steps of the run, and after the first k of
+-- them
+abbrev pub run_outcome : HubSettings → Run → ℕ → List ℕ → Option Outcome
+run_outcome s run from id = outcome s run.opening (reverse run.steps) from id
 
 abbrev pub outcome_after : HubSettings → Run → ℕ → ℕ → List ℕ → Option Outcome
 outcome_after s run k from id = outcome s run.opening (reverse (take k run.steps)) from id
 
--- the journal of a participant after the first k steps of the run, as the run of these alone would return it
+-- the journal of a participant after the first k steps of the run, as the run of these alone would
+-- return it
 abbrev pub journal_after : HubSettings → Run → ℕ → ℕ → List Event
 journal_after s run k p = history s run.opening (reverse (take k run.steps)) p
 
--- each outcome that is answered is the transfer's as it stands then, and so is each that any journal has booked by then,
--- which it has booked in the end too; each that is booked in the end is the transfer's in the end; and once there is one it
--- is the same whatever steps follow
+-- each outcome that is answered is the transfer's as it stands then, and so is each that any
+-- journal has booked by then, which it has booked in the end too; each that is booked in the end is
+-- the transfer's in the end; and once there is one it is the same whatever steps follow
 pub record HasOneOutcome (s : HubSettings) (run : Run) : Type 0 where
   pub answered : (k from : ℕ) (id : List ℕ) (o : Outcome) →
-      slice_get run.answers k ≡ Some (Reply (State from id (Decided o))) → outcome_after s run (k + 1) from id ≡ Some o
+      slice_get run.answers k ≡ Some (Reply (State from id (Decided o))) →
+      outcome_after s run (k + 1) from id ≡ Some o
   pub booked_then : (k p from : ℕ) (id : List ℕ) (o : Outcome) →
       Contains (journal_after s run k p) (Booked from id o) → outcome_after s run k from id ≡ Some o
   pub booked_for_good : (k p from : ℕ) (id : List ℕ) (o : Outcome) → is_participant s p ≡ true →
-      Contains (journal_after s run k p) (Booked from id o) → Contains (run.journals p) (Booked from id o)
+      Contains (journal_after s run k p) (Booked from id o) →
+      Contains (run.journals p) (Booked from id o)
   pub booked_is : (p from : ℕ) (id : List ℕ) (o : Outcome) → is_participant s p ≡ true →
-      Contains (run.journals p) (Booked from id o) → outcome_in s run from id ≡ Some o
+      Contains (run.journals p) (Booked from id o) → run_outcome s run from id ≡ Some o
   pub for_good : (k from : ℕ) (id : List ℕ) (o : Outcome) → outcome_after s run k from id ≡ Some o →
-      (more : List Step) → outcome s run.opening (reverse (take k run.steps ++ more)) from id ≡ Some o
+      (more : List Step) →
+      outcome s run.opening (reverse (take k run.steps ++ more)) from id ≡ Some o
 
--- once: no transfer is booked twice in a history; what is taken is reserved until it is booked, and then debited or free;
--- what came is credited exactly if it is booked accepted
+-- once: no transfer is booked twice in a history; what is taken is reserved until it is booked, and
+-- then debited or free; what came is credited exactly if it is booked accepted
 abbrev pub SettlesOnce : HubSettings → Run → Type 0
 SettlesOnce s run = (p : ℕ) → is_participant s p ≡ true → IsSettledOnce p (run.journals p)
 
 -- each outcome is booked by the originator
 abbrev pub AllAreTold : HubSettings → Run → Type 0
 AllAreTold s run = (p : ℕ) (id : List ℕ) (o : Outcome) → is_participant s p ≡ true →
-    outcome_in s run p id ≡ Some o → is_some (booked p id (run.journals p)) ≡ true
+    run_outcome s run p id ≡ Some o → is_some (booked p id (run.journals p)) ≡ true
 
--- sums: no money is made or lost, what is untold is still reserved at its originator, in sum and transfer by transfer, and
--- nobody is overdrawn
+-- sums: no money is made or lost, what is untold is still reserved at its originator, in sum and
+-- transfer by transfer, and nobody is overdrawn
 pub record AddsUp (s : HubSettings) (run : Run) : Type 0 where
   pub sum : pos (total s (λ p. position (run.journals p)))
-      ≡ (signed_total s (λ p. net (run.journals p)) +ℤ pos (untold s run.opening (reverse run.steps)))
+      ≡ (signed_total s (λ p.
+      net (run.journals p)) +ℤ pos (untold s run.opening (reverse run.steps)))
   pub all_told : AllAreTold s run →
       pos (total s (λ p. position (run.journals p))) ≡ signed_total s (λ p. net (run.journals p))
   pub untold_is_reserved : (p : ℕ) → is_participant s p ≡ true →
       untold_by s run.opening (reverse run.steps) p ≤ reserved (run.journals p)
   pub each_untold_is_reserved : (p : ℕ) (id : List ℕ) (to cents stamp : ℕ) →
       Contains (run.journals p) (Taken id to cents stamp) →
-      if_untold (outcome_in s run p id) (booked p id (run.journals p)) cents
+      if_untold (run_outcome s run p id) (booked p id (run.journals p)) cents
       ≤ reservation (run.journals p) (Taken id to cents stamp)
   pub never_overdrawn : (p : ℕ) → is_participant s p ≡ true → IsNeverOverdrawn (run.journals p)
 
--- fit: what came was sent with the same terms, both sides book the same outcome, and what is paid is received
+-- fit: what came was sent with the same terms, both sides book the same outcome, and what is paid
+-- is received
 abbrev pub BooksOfFit : HubSettings → Run → Type 0
 BooksOfFit s run = BooksFit s run.journals
 
@@ -127,7 +142,7 @@ IsLocal s run = (other : Run) → IsRun s other → (p : ℕ) (id : List ℕ) (x
     transfer id (run.journals p) ≡ Some x → transfer id (other.journals p) ≡ Some x →
     decisive run.opening p id (steps_on s run.opening (reverse run.steps) p id)
     ≡ decisive other.opening p id (steps_on s other.opening (reverse other.steps) p id) →
-    outcome_in s run p id ≡ outcome_in s other p id
+    run_outcome s run p id ≡ run_outcome s other p id
 
 -- The headline of a run, all of it
 -- is_run: its journals are the model's histories, and its answers the model's

@@ -1,18 +1,20 @@
--- What has a place of a hub that has run steps: a transfer that is pending there, and one of this identifier. Places are
--- this hub's own choice.
+-- What has a place of a hub that has run steps: a transfer that is pending there, and one of this
+-- identifier. Places are this hub's own choice.
 use Rattle.std.specs.Prelude.{◌≡◌, ℕ, List, Some, None}
 use Rattle.inst_settings.specs.Settings.{HubSettings}
 use Rattle.inst_command.specs.declared.step.Step.{Step}
-use Rattle.inst_board.specs.declared.place.Place.{Place}
+use Rattle.inst_command.specs.declared.place.Place.{Place}
 use Rattle.inst_model.specs.Opening.{Opening}
 use Rattle.inst_model.specs.Transfer.{Transfer, at_place}
 use Rattle.inst_model.specs.Hub.{history, outcome}
 
 -- a transfer without an outcome has the place
 abbrev pub IsPendingAt : HubSettings → Opening → List Step → Place → Type 0
-IsPendingAt s O L place = (x : Transfer) × (at_place place.owner (history s O L place.owner) place.index ≡ Some x)
+IsPendingAt s O L place =
+    (x : Transfer) × (at_place place.owner (history s O L place.owner) place.index ≡ Some x)
     × (outcome s O L place.owner x.id ≡ None)
 
 -- the originator's live transfer with this identifier has the place
 abbrev pub IsPlaceOf : HubSettings → Opening → List Step → ℕ → List ℕ → Place → Type 0
-IsPlaceOf s O L from id place = (x : Transfer) × (at_place from (history s O L from) place.index ≡ Some x) × (x.id ≡ id)
+IsPlaceOf s O L from id place =
+    (x : Transfer) × (at_place from (history s O L from) place.index ≡ Some x) × (x.id ≡ id)

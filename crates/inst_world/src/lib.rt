@@ -1,4 +1,5 @@
-//! A hub in one thread with all its slots: steps, whole runs of steps, and how it opens again from journals.
+//! A hub in one thread with all its slots: steps, whole runs of steps, and how it opens again from
+//! journals.
 #![tactic(auto)]
 
 pub mod laws;

@@ -11,8 +11,8 @@ use inst_command::Step;
 use inst_settings::Settings;
 use std::alloc::{AllocError, Global};
 
-/// Two runs, each of a hub that opens for the first time, in which the participant `who` sees the same:
-/// whatever the others do, it gets the same of both.
+/// Two runs, each of a hub that opens for the first time, in which the participant `who` sees the
+/// same: whatever the others do, it gets the same of both.
 ///
 /// ```text
 /// let (quiet, busy) = run_both(alloc, &settings, 1, &alone, &among_others)?;
@@ -29,9 +29,14 @@ pub fn run_both(
     requires other { IsInterleaving settings.now other.now }
     requires participant { is_participant settings.now who ≡ true }
     requires same { SeesTheSame settings.now who Opening.First Opening.First one.now other.now }
-    ensures one { IfOk result (λ r. KeepsTheHeadline settings.now (run_of Opening.First one.now (journal_of r.0.0) r.0.1.answers)) }
-    ensures other { IfOk result (λ r. KeepsTheHeadline settings.now (run_of Opening.First other.now (journal_of r.1.0) r.1.1.answers)) }
-    ensures isolation { IfOk result (λ r. GotTheSame who (run_of Opening.First one.now (journal_of r.0.0) r.0.1.answers)
+    ensures one { IfOk result (λ r.
+        KeepsTheHeadline settings.now
+        (run_of Opening.First one.now (journal_of r.0.0) r.0.1.answers)) }
+    ensures other { IfOk result (λ r.
+        KeepsTheHeadline settings.now
+        (run_of Opening.First other.now (journal_of r.1.0) r.1.1.answers)) }
+    ensures isolation { IfOk result (λ r.
+        GotTheSame who (run_of Opening.First one.now (journal_of r.0.0) r.0.1.answers)
         (run_of Opening.First other.now (journal_of r.1.0) r.1.1.answers)) }
 {
     let first = World::run(alloc, settings, one)?;

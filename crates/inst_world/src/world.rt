@@ -1,8 +1,11 @@
-ghost use Rattle.std.specs.Prelude.{◌≡◌, ℕ, true, List, [], reverse, option_map, Some, None, IfOk, OnErr, IfSome};
+ghost use Rattle.std.specs.Prelude.{◌≡◌, ◌<◌, ◌^◌, ℕ, true, List, [], reverse, option_map, Some};
+ghost use Rattle.std.specs.Prelude.{None, IfOk, OnErr, IfSome};
 ghost use Rattle.inst_settings.specs.Settings.{is_participant};
 ghost use Rattle.inst_settings.specs.Lawful.{IsSettings};
 ghost use Rattle.inst_command.specs.Step.{step_fits};
+ghost use Rattle.inst_journal.specs.Money.{position};
 ghost use Rattle.inst_journal.specs.Sound.{IsSound};
+ghost use Rattle.inst_journal.specs.Statement.{statement_part};
 ghost use Rattle.inst_model.specs.Opening.{Opening};
 ghost use Rattle.inst_model.specs.Interleaving.{IsInterleaving};
 ghost use Rattle.inst_model.specs.Trace.{trace};
@@ -10,7 +13,8 @@ ghost use Rattle.inst_model.specs.Transfer.{Transfer, at_place, deadline};
 ghost use Rattle.inst_command.specs.declared.step.Step.{Step};
 ghost use Rattle.inst_model.specs.Hub.{history, outcome};
 ghost use Rattle.inst_slot.specs.Book.{place_at};
-ghost use Rattle.inst_world.specs.HasRun.{IsWorld, HasRun, Runs, IsOfModel, IsAsBefore, TakesMemory, journal_of};
+ghost use Rattle.inst_world.specs.HasRun.{IsWorld, HasRun, Runs, IsOfModel, IsAsBefore};
+ghost use Rattle.inst_world.specs.HasRun.{TakesMemory, journal_of};
 ghost use Rattle.inst_world.specs.Places.{IsPendingAt, IsPlaceOf};
 ghost use Rattle.inst_world.specs.Headline.{run_of, KeepsTheHeadline};
 
@@ -20,8 +24,8 @@ mod stepping;
 
 use crate::trace::Trace;
 use inst_base::{Ident, Moment};
-use inst_board::{Board, Look, Place, PlainBoard};
-use inst_command::{Answer, Items, Step};
+use inst_board::{Board, Look, PlainBoard};
+use inst_command::{Answer, Items, Lines, Place, Step};
 use inst_journal::Journal;
 use inst_settings::Settings;
 use inst_slot::Slot;
@@ -33,7 +37,7 @@ use std::marker::Model;
 /// ```text
 /// let mut world = World::open(alloc, &settings)?;
 /// world.step(&step)?            // the answer, a refusal too
-/// world.journal(0).position()   // what participant 0 has
+/// world.position(0)             // what participant 0 has
 /// ```
 #[derive(Drop)]
 pub struct World {
@@ -60,7 +64,8 @@ impl Model for World {
 impl World {
     /// A hub that opens for the first time.
     pub fn open(alloc: Global, settings: &Settings) -> Result<World, AllocError>
-        ensures ok { IfOk result (λ world. (world.board.settings ≡ settings.now) × HasRun Opening.First [] world) }
+        ensures ok { IfOk result (λ world. (world.board.settings ≡ settings.now)
+            × HasRun Opening.First [] world) }
     {
         let settings = settings.copy()?;
         let board = PlainBoard::new(alloc, &settings)?;
@@ -86,11 +91,43 @@ impl World {
     pub fn journal(&self, who: u8) -> &Journal
         requires { is_participant self.now.board.settings who ≡ true }
         ensures events { result.now.events ≡ journal_of self.now who }
-        ensures history { (O : Opening) (L : List Step) → HasRun O L self.now → result.now.events ≡ history self.now.board.settings O L who }
+        ensures history { (O : Opening) (L : List Step) → HasRun O L self.now →
+            result.now.events ≡ history self.now.board.settings O L who }
         ensures lawful { IsSettings self.now.board.settings }
         ensures sound { IsSound self.now.board.settings who result.now.events }
     {
         self.slots[usize::from(who)].journal()
+    }
+
+    /// Returns the position of a participant in cents, in constant time: net funding and credits
+    /// less debits.
+    pub fn position(&self, who: u8) -> u128
+        requires { is_participant self.now.board.settings who ≡ true }
+        ensures history { (O : Opening) (L : List Step) → HasRun O L self.now →
+            result ≡ position (history self.now.board.settings O L who) }
+        ensures within { result < 2 ^ 64 }
+    {
+        self.slots[usize::from(who)].position()
+    }
+
+    /// Returns at most `count` lines of a participant's statement since the last opening, after the
+    /// first `skip`. It costs the lines that it returns.
+    ///
+    /// # Errors
+    ///
+    /// Returns `AllocError` if memory is refused.
+    pub fn statement(
+        &self,
+        alloc: Global,
+        who: u8,
+        skip: u64,
+        count: u32,
+    ) -> Result<Lines, AllocError>
+        requires { is_participant self.now.board.settings who ≡ true }
+        ensures { IfOk result (λ lines. (O : Opening) (L : List Step) → HasRun O L self.now →
+            lines ≡ statement_part (history self.now.board.settings O L who) skip count) }
+    {
+        self.slots[usize::from(who)].statement(alloc, skip, count)
     }
 
     /// The slots of the participants, by number. The board is dropped.
@@ -110,7 +147,8 @@ impl World {
         ensures model { IfOk result (λ answer. IsOfModel self.old.board.settings step.now answer) }
         ensures err { OnErr result (IsAsBefore self.old self.new) }
         ensures memory { OnErr result (TakesMemory self.old step.now) }
-        ensures unrun { OnErr result ((O : Opening) (L : List Step) → HasRun O L self.old → HasRun O L self.new) }
+        ensures unrun { OnErr result ((O : Opening) (L : List Step) → HasRun O L self.old →
+            HasRun O L self.new) }
         ensures settings { self.new.board.settings ≡ self.old.board.settings }
     {
         // The invariant is known only where a field is used.
@@ -121,9 +159,13 @@ impl World {
     /// The beneficiary of the transfer at the place, if one was taken there.
     pub fn beneficiary_at(&mut self, place: Place) -> Option<u8>
         ensures beneficiary { (O : Opening) (L : List Step) → HasRun O L self.old →
-            result ≡ option_map (λ x. x.to) (at_place place.owner (history self.old.board.settings O L place.owner) place.index) }
-        ensures participant { IfSome result (λ to. is_participant self.old.board.settings to ≡ true) }
-        ensures owner { IfSome result (λ to. is_participant self.old.board.settings place.owner ≡ true) }
+            result ≡ option_map (λ x.
+            x.to) (at_place place.owner (history self.old.board.settings O L place.owner)
+            place.index) }
+        ensures participant { IfSome result (λ to.
+            is_participant self.old.board.settings to ≡ true) }
+        ensures owner { IfSome result (λ to.
+            is_participant self.old.board.settings place.owner ≡ true) }
         ensures same { self.new ≡ self.old }
     {
         match self.board.look(place) {
@@ -135,8 +177,10 @@ impl World {
     /// The deadline of the transfer at the place, if one is pending there.
     pub fn pending_until(&mut self, place: Place) -> Option<Moment>
         ensures deadline { (O : Opening) (L : List Step) → HasRun O L self.old → (x : Transfer) →
-            at_place place.owner (history self.old.board.settings O L place.owner) place.index ≡ Some x →
-            outcome self.old.board.settings O L place.owner x.id ≡ None → result ≡ Some (deadline self.old.board.settings x) }
+            at_place place.owner (history self.old.board.settings O L place.owner) place.index
+            ≡ Some x →
+            outcome self.old.board.settings O L place.owner x.id ≡ None →
+            result ≡ Some (deadline self.old.board.settings x) }
         ensures pending { (O : Opening) (L : List Step) → HasRun O L self.old →
             IfSome result (λ _. IsPendingAt self.old.board.settings O L place) }
         ensures same { self.new ≡ self.old }
@@ -150,8 +194,10 @@ impl World {
     /// The place of the originator's live transfer with this identifier.
     pub fn place_of(&self, from: u8, id: &Ident) -> Option<Place>
         requires participant { is_participant self.now.board.settings from ≡ true }
-        ensures place { (O : Opening) (L : List Step) → HasRun O L self.now → (index : ℕ) (x : Transfer) →
-            at_place from (history self.now.board.settings O L from) index ≡ Some x → x.id ≡ id.now → result ≡ Some (place_at from index) }
+        ensures place { (O : Opening) (L : List Step) → HasRun O L self.now →
+            (index : ℕ) (x : Transfer) →
+            at_place from (history self.now.board.settings O L from) index ≡ Some x →
+            x.id ≡ id.now → result ≡ Some (place_at from index) }
         ensures named { (O : Opening) (L : List Step) → HasRun O L self.now →
             IfSome result (IsPlaceOf self.now.board.settings O L from id.now) }
         ensures owner { IfSome result (λ place. place.owner ≡ from) }
@@ -159,19 +205,23 @@ impl World {
         self.slots[usize::from(from)].place_of(from, id)
     }
 
-    /// Runs the steps in order, at a hub that opens for the first time. Refused memory ends the run.
+    /// Runs the steps in order, at a hub that opens for the first time. Refused memory ends the
+    /// run.
     ///
-    /// What it returns keeps the headline: whoever sees the same in another run gets the same of it, a
-    /// transfer has one outcome, its money is settled or released at most once, the positions sum to the
-    /// net funding and what is untold, and the books fit one another.
+    /// What it returns keeps the headline: whoever sees the same in another run gets the same of
+    /// it, a transfer has one outcome, its money is settled or released at most once, the positions
+    /// sum to the net funding and what is untold, and the books fit one another.
     pub fn run(
         alloc: Global,
         settings: &Settings,
         steps: &[Step],
     ) -> Result<(World, Trace), AllocError>
         requires fits { IsInterleaving settings.now steps.now }
-        ensures ran { IfOk result (λ r. (r.0.board.settings ≡ settings.now) × HasRun Opening.First (reverse steps.now) r.0) }
-        ensures headline { IfOk result (λ r. KeepsTheHeadline settings.now (run_of Opening.First steps.now (journal_of r.0) r.1.answers)) }
+        ensures ran { IfOk result (λ r. (r.0.board.settings ≡ settings.now)
+            × HasRun Opening.First (reverse steps.now) r.0) }
+        ensures headline { IfOk result (λ r.
+            KeepsTheHeadline settings.now
+            (run_of Opening.First steps.now (journal_of r.0) r.1.answers)) }
     {
         let mut world = World::open(alloc, settings)?;
         let trace = world.run_steps(alloc, steps)?;
@@ -182,7 +232,8 @@ impl World {
     fn run_steps(&mut self, alloc: Global, steps: &[Step]) -> Result<Trace, AllocError>
         requires fits { IsInterleaving self.old.board.settings steps.now }
         ensures ok { IfOk result (λ t. (O : Opening) → HasRun O [] self.old →
-            HasRun O (reverse steps.now) self.new × (t.answers ≡ trace self.old.board.settings O (reverse steps.now))) }
+            HasRun O (reverse steps.now) self.new
+            × (t.answers ≡ trace self.old.board.settings O (reverse steps.now))) }
         ensures settings { self.new.board.settings ≡ self.old.board.settings }
     {
         let mut answers = Vec::new(alloc);

@@ -1,2 +1,2 @@
 mod Echoes
-mod Ready
+mod DiskReadyForHub

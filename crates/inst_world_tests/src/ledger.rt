@@ -1,4 +1,5 @@
-//! Worked rows of one participant's books: each is answered by the ledger and, on the same events, by the plain functions.
+//! Worked rows of one participant's books: each is answered by the ledger and, on the same events,
+//! by the plain functions.
 mod answering;
 pub(crate) mod asked;
 mod beneficiary;

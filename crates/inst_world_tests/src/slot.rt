@@ -1,4 +1,5 @@
-//! Tests of slots: worked rows on the slots of three participants over one plain board, with 2 places and 4 fundings.
+//! Tests of slots: worked rows on the slots of three participants over one plain board, with 2
+//! places and 4 fundings.
 mod answers;
 mod cases;
 mod confirmations;

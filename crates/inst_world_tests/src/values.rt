@@ -1,4 +1,5 @@
-//! Tests of what stands below the books: amounts, settings, statement lines, words, boards, deadlines and bytes.
+//! Tests of what stands below the books: amounts, settings, statement lines, words, boards,
+//! deadlines and bytes.
 mod boards;
 mod bounds;
 mod bytes;

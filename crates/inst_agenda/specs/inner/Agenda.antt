@@ -1,7 +1,8 @@
 -- How a run's agenda changes: what is noted, awaited, moved and taken out.
-use Rattle.std.specs.Prelude.{◌≡◌, ◌⊎◌, ℕ, Bool, true, false, ◌&&◌, ◌||◌, nat_eq, nat_lt, [], ◌∷◌, Option, Some, None}
+use Rattle.std.specs.Prelude.{◌≡◌, ◌⊎◌, ℕ, Bool, true, false, ◌&&◌, ◌||◌, nat_eq, nat_lt, [], ◌∷◌}
+use Rattle.std.specs.Prelude.{Option, Some, None}
 use Rattle.inst_base.specs.TimeLimit.{is_due}
-use Rattle.inst_board.specs.declared.place.Place.{Place}
+use Rattle.inst_command.specs.declared.place.Place.{Place}
 use Rattle.inst_agenda.specs.Agenda.{Agenda, is_place, is_entry, waits, is_next}
 
 -- whether one place comes before another: by originator, and of one originator by index
@@ -11,13 +12,16 @@ comes_before one other = nat_lt one.0 other.0 || (nat_eq one.0 other.0 && nat_lt
 -- the place is one of the next, and nothing else changed
 pub record Notes (old new : Agenda) (place : Place) : Type 0 where
   pub waiting_is : new.waiting ≡ old.waiting
-  pub next_are : (owner index : ℕ) → is_next new owner index ≡ (is_next old owner index || is_place place.owner place.index (owner, index))
+  pub next_are : (owner index : ℕ) →
+      is_next new owner index
+      ≡ (is_next old owner index || is_place place.owner place.index (owner, index))
 
 -- the place waits for the moment, and nothing else changed
 pub record Waits (old new : Agenda) (moment : ℕ) (place : Place) : Type 0 where
   pub next_is : new.next ≡ old.next
   pub waiting_are : (m owner index : ℕ) →
-      waits new m owner index ≡ (waits old m owner index || is_entry moment place.owner place.index (m, (owner, index)))
+      waits new m owner index
+      ≡ (waits old m owner index || is_entry moment place.owner place.index (m, (owner, index)))
 
 -- the first that waits is due and was taken out
 pub record TakesDue (old new : Agenda) (at moment : ℕ) (place : Place) : Type 0 where
@@ -27,7 +31,8 @@ pub record TakesDue (old new : Agenda) (at moment : ℕ) (place : Place) : Type 
 
 -- nothing that waits is due
 abbrev pub NothingIsDue : Agenda → ℕ → Type 0
-NothingIsDue agenda at = (m owner index : ℕ) → waits agenda m owner index ≡ true → is_due m at ≡ false
+NothingIsDue agenda at =
+    (m owner index : ℕ) → waits agenda m owner index ≡ true → is_due m at ≡ false
 
 -- what waits and is due is taken out, if anything is
 abbrev pub TakesAnyDue : Agenda → Agenda → ℕ → Option (ℕ × Place) → Type 0
@@ -36,10 +41,12 @@ TakesAnyDue old new at (Some taken) = TakesDue old new at taken.0 taken.1
 
 -- some that waited are among the next, and nothing else changed
 pub record Moves (old new : Agenda) : Type 0 where
-  pub waits_on : (m owner index : ℕ) → waits new m owner index ≡ true → waits old m owner index ≡ true
+  pub waits_on : (m owner index : ℕ) → waits new m owner index ≡ true →
+      waits old m owner index ≡ true
   pub waits_still : (m owner index : ℕ) → waits old m owner index ≡ true →
       (waits new m owner index ≡ true) ⊎ (is_next new owner index ≡ true)
-  pub next_still : (owner index : ℕ) → is_next old owner index ≡ true → is_next new owner index ≡ true
+  pub next_still : (owner index : ℕ) → is_next old owner index ≡ true →
+      is_next new owner index ≡ true
   pub next_from : (owner index : ℕ) → is_next new owner index ≡ true →
       (is_next old owner index ≡ true) ⊎ ((m : ℕ) × (waits old m owner index ≡ true))
 

@@ -1,5 +1,5 @@
--- How a short text lies in an array: its bytes, which are ASCII, and zeros up to the array's end. This
--- hub's own choice.
+-- How a short text lies in an array: its bytes, which are ASCII, and zeros up to the array's end.
+-- This hub's own choice.
 use Rattle.std.specs.Prelude.{◌≡◌, ℕ, ◌-◌, ◌≤◌, List, length, take, drop, replicate}
 use Rattle.std.specs.Str.{IsAscii}
 

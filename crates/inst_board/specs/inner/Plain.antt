@@ -7,7 +7,8 @@ use Rattle.inst_board.specs.declared.plain.Kept.TheVariants.{Unused}
 -- in the second list the terms stand at their rank, and all others stay
 pub record PutsTerms (old : List Terms) (rank : ℕ) (terms : Terms) (new : List Terms) : Type 0 where
   pub here : slice_get new rank ≡ Some terms
-  pub elsewhere : (j : ℕ) (other : Terms) → j ≢ rank → slice_get old j ≡ Some other → slice_get new j ≡ Some other
+  pub elsewhere : (j : ℕ) (other : Terms) → j ≢ rank → slice_get old j ≡ Some other →
+      slice_get new j ≡ Some other
 
 -- in the second list the value stands at its rank, and all others stay
 pub record Puts (old : List Kept) (rank : ℕ) (value : Kept) (new : List Kept) : Type 0 where

@@ -6,11 +6,12 @@ use Rattle.inst_books.specs.declared.fault.BookFault.TheVariants.{Memory}
 use Rattle.inst_books.specs.Reading.{Entry}
 use Rattle.inst_books.specs.Books.{with_event}
 
--- The event that a line says was put into its book, or it is told why not: memory was refused, or the line is a bad
--- one.
-abbrev pub Keeps : Result Entry BookFault → Result (Unit {0}) BookFault → List (List Event) → List (List Event) →
+-- The event that a line says was put into its book, or it is told why not: memory was refused, or
+-- the line is a bad one.
+abbrev pub KeepsEvent : Result Entry BookFault → Result (Unit {0}) BookFault → List (List Event) →
+    List (List Event) →
     Type 0
-Keeps (Ok entry) (Ok done) before after = after ≡ with_event entry.0 entry.1 before
-Keeps (Ok entry) (Err fault) before after = fault ≡ Memory
-Keeps (Err bad) (Ok done) before after = ⊥
-Keeps (Err bad) (Err fault) before after = (fault ≡ Memory) ⊎ (fault ≡ bad)
+KeepsEvent (Ok entry) (Ok done) before after = after ≡ with_event entry.0 entry.1 before
+KeepsEvent (Ok entry) (Err fault) before after = fault ≡ Memory
+KeepsEvent (Err bad) (Ok done) before after = ⊥
+KeepsEvent (Err bad) (Err fault) before after = (fault ≡ Memory) ⊎ (fault ≡ bad)

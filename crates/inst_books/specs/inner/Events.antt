@@ -6,4 +6,5 @@ use Rattle.inst_settings.specs.Settings.{same_text}
 -- the names of fundings, and of outcomes without a reason
 abbrev pub is_name : List ℕ → Bool
 is_name name =
-    list_any (same_text name) (codes "funded" ∷ codes "defunded" ∷ codes "accepted" ∷ codes "timed_out" ∷ [])
+    list_any (same_text name) (codes "funded" ∷ codes "defunded" ∷ codes "accepted"
+    ∷ codes "timed_out" ∷ [])

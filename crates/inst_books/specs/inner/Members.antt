@@ -1,4 +1,5 @@
--- The members of an event's object as text, before it is known that no name and no text of theirs has to be escaped.
+-- The members of an event's object as text, before it is known that no name and no text of theirs
+-- has to be escaped.
 use Rattle.std.specs.Prelude.{ℕ, List, ◌++◌, codes, decimal}
 
 -- the begin of an object, with the participant in whose book it stands

@@ -2,14 +2,16 @@
 use super::SharedBoard;
 use crate::words::{pack_terms, read_word};
 use inst_base::Moment;
-use inst_board::{Board, Glance, Look, Place, Wish};
-use inst_command::Outcome;
+use inst_board::{Board, Look, PlaceState, Wish};
+use inst_command::{Outcome, Place};
 use inst_terms::{Terms, Word};
 
 impl Board for SharedBoard {
     ghost use Rattle.std.proofs.Common.{refl, ◌∙◌};
-    ghost use Rattle.inst_cell.specs.Held.{settings_of, knows as known_by, has_role as role_of, wrote as written_by, stood as stood_by, Stays as IsLater};
-    ghost use Rattle.inst_board.specs.Plain.{number_of};
+    ghost use Rattle.inst_cell.specs.Held.{settings_of, knows as known_by, has_role as role_of};
+    ghost use Rattle.inst_cell.specs.Held.{wrote as written_by, stood as stood_by};
+    ghost use Rattle.inst_cell.specs.Held.{Stays as IsLater};
+    ghost use Rattle.inst_board.specs.Plain.{place_number};
     ghost use Rattle.inst_cell.specs.View.{known_standing};
     ghost use Rattle.inst_cell.specs.Held.{view_of, roles_same};
 
@@ -27,7 +29,13 @@ impl Board for SharedBoard {
 
     ghost stays_still = { λ a. record { settings = refl; table = refl; roles = refl } };
 
-    ghost stays_on = { λ a b c p q. record { settings = q.settings ∙ p.settings; table = q.table ∙ p.table; roles = q.roles ∙ p.roles } };
+    ghost stays_on = { λ a b c p q.
+        record {
+          settings = q.settings ∙ p.settings;
+          table = q.table ∙ p.table;
+          roles =
+              q.roles ∙ p.roles;
+        } };
 
     ghost stays_settings = { λ a b p. p.settings };
 
@@ -35,7 +43,11 @@ impl Board for SharedBoard {
 
     ghost stood_seldom = { λ b k t o known role was. was t known role };
 
-    ghost knows_one = { λ b k. (known_standing (view_of b) (number_of (settings_of b) k), λ a h. b.one (number_of (settings_of b) k) a h.1) };
+    ghost knows_one = { λ b k. (
+      known_standing (view_of b) (place_number (settings_of b) k),
+      λ a h.
+          b.one (place_number (settings_of b) k) a h.1,
+    ) };
 
     ghost knows_places = { λ b k a h. h.0 };
 
@@ -70,12 +82,12 @@ impl Board for SharedBoard {
         }
     }
 
-    fn glance(&mut self, place: Place) -> Glance {
+    fn place_state(&mut self, place: Place) -> PlaceState {
         let word = self.load(place);
         match read_word(word) {
-            Word::Unused => Glance::Unused,
-            Word::Pending(deadline) => Glance::Pending(deadline),
-            Word::Decided(outcome, _) => Glance::Decided(outcome),
+            Word::Unused => PlaceState::Unused,
+            Word::Pending(deadline) => PlaceState::Pending(deadline),
+            Word::Decided(outcome, _) => PlaceState::Decided(outcome),
         }
     }
 

@@ -7,8 +7,9 @@ use super::SharedBoard;
 use crate::steps::{Tell, Unite, Vouching};
 
 impl SharedBoard {
-    /// Each then knows what either knew. What the other knew of a board's own places, and of the answers
-    /// of its participants, the board knew already. It costs a load for each of the two boards.
+    /// Each then knows what either knew. What the other knew of a board's own places, and of the
+    /// answers of its participants, the board knew already. It costs a load for each of the two
+    /// boards.
     pub fn meet(&mut self, other: &mut SharedBoard)
         requires one { AtOneTable self.old other.old }
         ensures mine { KnowsBoth self.old other.old self.new }

@@ -1,9 +1,11 @@
-//! How the words of a hub are made, with a seat for each of its slots, and one for the sight of each teller.
+//! How the words of a hub are made, with a seat for each of its slots, and one for the sight of
+//! each teller.
 ghost use Rattle.std.specs.Prelude.{◌≡◌, ◌⊎◌, ◌↔◌, Err, IfOk, IfErr};
-ghost use Rattle.inst_cell.specs.View.{first_view, with_role, without_role, told};
+ghost use Rattle.inst_cell.specs.View.{first_view, with_role, without_role, informed_view};
 ghost use Rattle.inst_board.specs.declared.about.Fact.{Fact};
 ghost use Rattle.inst_cell.specs.Held.{settings_of, view_of, knows, AtOneTable};
-ghost use Rattle.inst_cell.specs.Opening.{HasAllRoles, IsWhole, AreDealt, AreAdmitted, AreOpened, MayOpen};
+ghost use Rattle.inst_cell.specs.Opening.{HasAllRoles, IsWhole, AreDealt, AreAdmitted, AreOpened};
+ghost use Rattle.inst_cell.specs.Opening.{MayOpen};
 
 use super::SharedBoard;
 use crate::Sight;
@@ -21,8 +23,10 @@ pub const MOST_TELLERS: u8 = 16;
 impl SharedBoard {
     /// A new board with the first of its roles, which knows as much.
     fn hand_over(&mut self) -> Result<SharedBoard, AllocError>
-        ensures new { IfOk result (λ b. AtOneTable self.old b × (view_of b ≡ with_role (view_of self.old))) }
-        ensures old { IfOk result (λ b. AtOneTable self.old self.new × (view_of self.new ≡ without_role (view_of self.old))) }
+        ensures new { IfOk result (λ b. AtOneTable self.old b
+            × (view_of b ≡ with_role (view_of self.old))) }
+        ensures old { IfOk result (λ b. AtOneTable self.old self.new
+            × (view_of self.new ≡ without_role (view_of self.old))) }
     {
         let table = Arc::try_clone(&self.table)?;
         let seat = self.table.shared.split_seat::<HandOver>(&mut self.seat);
@@ -37,8 +41,10 @@ impl SharedBoard {
 
     /// A new board without roles, which knows as much.
     fn copy(&mut self) -> Result<SharedBoard, AllocError>
-        ensures new { IfOk result (λ b. AtOneTable self.old b × (view_of b ≡ told (view_of self.old))) }
-        ensures old { IfOk result (λ b. AtOneTable self.old self.new × (view_of self.new ≡ view_of self.old)) }
+        ensures new { IfOk result (λ b. AtOneTable self.old b
+            × (view_of b ≡ informed_view (view_of self.old))) }
+        ensures old { IfOk result (λ b. AtOneTable self.old self.new
+            × (view_of self.new ≡ view_of self.old)) }
     {
         let table = Arc::try_clone(&self.table)?;
         let seat = self.table.shared.split_seat::<Tell>(&mut self.seat);
@@ -53,7 +59,8 @@ impl SharedBoard {
 
     /// A board with all roles, which knows nothing.
     fn whole(alloc: Global, settings: &Settings) -> Result<SharedBoard, AllocError>
-        ensures board { IfOk result (λ b. (settings_of b ≡ settings.now) × (view_of b ≡ first_view settings.now)) }
+        ensures board { IfOk result (λ b. (settings_of b ≡ settings.now)
+            × (view_of b ≡ first_view settings.now)) }
     {
         let participants = settings.participants();
         let places = settings.places();
@@ -77,7 +84,8 @@ impl SharedBoard {
     fn admit(&mut self, alloc: Global, tellers: u8) -> Result<Vec<Sight>, AllocError>
         requires { (f : Fact) → ¬ knows self.old f }
         ensures sights { IfOk result (λ all. AreAdmitted self.old tellers all.items) }
-        ensures same { IfOk result (λ _. AtOneTable self.old self.new × (view_of self.new ≡ view_of self.old)) }
+        ensures same { IfOk result (λ _. AtOneTable self.old self.new
+            × (view_of self.new ≡ view_of self.old)) }
     {
         let mut all = Vec::new(alloc);
         for _next in 0..tellers {
@@ -87,9 +95,9 @@ impl SharedBoard {
         Ok(all)
     }
 
-    /// A hub that begins to open: one board with the roles of all participants, which knows nothing, and
-    /// a sight for each teller, which knows nothing. `BadSettings` where tellers are not 1 to 16,
-    /// `Memory` where there is no room.
+    /// A hub that begins to open: one board with the roles of all participants, which knows
+    /// nothing, and a sight for each teller, which knows nothing. `BadSettings` where tellers are
+    /// not 1 to 16, `Memory` where there is no room.
     pub fn open_whole(
         alloc: Global,
         settings: &Settings,
@@ -108,8 +116,8 @@ impl SharedBoard {
         Ok((all, sights))
     }
 
-    /// The boards of the participants, by number, each with its role alone: they know what this one, which
-    /// has all roles, knew.
+    /// The boards of the participants, by number, each with its role alone: they know what this
+    /// one, which has all roles, knew.
     pub fn deal(self, alloc: Global) -> Result<Vec<SharedBoard>, AllocError>
         requires { HasAllRoles self }
         ensures boards { IfOk result (λ boards. AreDealt self boards.items) }
@@ -123,9 +131,9 @@ impl SharedBoard {
         Ok(boards)
     }
 
-    /// A hub that opens: a board for each participant, by number, with its role and a seat of its own,
-    /// and a sight for each teller, which knows nothing. `BadSettings` where tellers are not 1 to 16,
-    /// `Memory` where there is no room.
+    /// A hub that opens: a board for each participant, by number, with its role and a seat of its
+    /// own, and a sight for each teller, which knows nothing. `BadSettings` where tellers are not 1
+    /// to 16, `Memory` where there is no room.
     pub fn open(
         alloc: Global,
         settings: &Settings,

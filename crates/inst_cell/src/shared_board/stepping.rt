@@ -9,8 +9,8 @@ ghost use Rattle.inst_board.specs.declared.about.About.{About};
 ghost use Rattle.inst_board.specs.declared.about.About.TheVariants.{Opened, HasTerms, Due};
 ghost use Rattle.inst_board.specs.Standing.{IsPlace, pending, about};
 ghost use Rattle.inst_board.specs.Learning.{IsAnswer};
-ghost use Rattle.inst_board.specs.Plain.{number_of};
-ghost use Rattle.inst_cell.specs.View.{learnt, with_note};
+ghost use Rattle.inst_board.specs.Plain.{place_number};
+ghost use Rattle.inst_cell.specs.View.{view_after_learning, with_note};
 ghost use Rattle.inst_cell.specs.Steps.{Shows};
 ghost use Rattle.inst_cell.specs.Held.{settings_of, view_of, knows, has_role, wrote, Stays};
 
@@ -18,8 +18,7 @@ use super::SharedBoard;
 use crate::steps::{Deciding, Loading, LoadingTerm, Noting, PlaceOpening};
 use crate::words::{decided_word, pending_word};
 use inst_base::Moment;
-use inst_board::Place;
-use inst_command::Outcome;
+use inst_command::{Outcome, Place};
 use inst_terms::{Terms, unpack};
 
 impl SharedBoard {
@@ -27,7 +26,9 @@ impl SharedBoard {
     pub(super) fn load(&mut self, place: Place) -> u64
         requires { IsPlace (settings_of self.old) place }
         ensures stays { Stays self.old self.new }
-        ensures shows { Shows ⊥ (number_of (settings_of self.old) place) (view_of self.old) result (view_of self.new) }
+        ensures shows { Shows ⊥ (place_number (settings_of self.old) place) (view_of self.old)
+            result
+            (view_of self.new) }
     {
         let word = self.first_word(place) + 5;
         self.table.shared.load::<Loading>(&mut self.seat, word)
@@ -39,7 +40,8 @@ impl SharedBoard {
         requires index { index < 5 }
         ensures stays { Stays self.old self.new }
         ensures view { view_of self.new ≡ view_of self.old }
-        ensures term { (t : Terms) → knows self.old (about place (HasTerms t)) → IsTerms t × (result ≡ slice_index (words_of t) index) }
+        ensures term { (t : Terms) → knows self.old (about place (HasTerms t)) →
+            IsTerms t × (result ≡ slice_index (words_of t) index) }
     {
         let word = self.first_word(place) + index;
         self.table.shared.load::<LoadingTerm>(&mut self.seat, word)
@@ -71,7 +73,9 @@ impl SharedBoard {
         requires own { has_role self.old place.owner }
         requires unused { ¬ knows self.old (about place Opened) }
         ensures stays { Stays self.old self.new }
-        ensures view { view_of self.new ≡ with_note (view_of self.old) (number_of (settings_of self.old) place * 6 + index) value }
+        ensures view { view_of self.new
+            ≡ with_note (view_of self.old) (place_number (settings_of self.old) place * 6
+            + index) value }
     {
         let word = self.first_word(place) + index;
         self.table
@@ -88,7 +92,9 @@ impl SharedBoard {
         requires deadline { 1 ≤ deadline }
         ensures stays { Stays self.old self.new }
         ensures learns { (t : Terms) → wrote self.old place t
-            → view_of self.new ≡ learnt (view_of self.old) (number_of (settings_of self.old) place) (pending t deadline) false }
+            → view_of self.new
+            ≡ view_after_learning (view_of self.old) (place_number (settings_of self.old) place)
+            (pending t deadline) false }
         ensures moment { IsTrue (is_moment deadline) }
         ensures new { (a : About) → ¬ knows self.old (about place a) }
     {
@@ -110,10 +116,13 @@ impl SharedBoard {
     ) -> u64
         requires in_time { InTime (settings_of self.old).margin outcome.now deadline at }
         requires due { knows self.old (about place (Due deadline)) }
-        requires terms { (t : Terms) × knows self.old (about place (HasTerms t)) × (IsAnswer outcome.now → has_role self.old t.to)
+        requires terms { (t : Terms) × knows self.old (about place (HasTerms t))
+            × (IsAnswer outcome.now → has_role self.old t.to)
             × (has_role self.old place.owner ⊎ has_role self.old t.to) }
         ensures stays { Stays self.old self.new }
-        ensures shows { Shows (result ≡ outcome_number outcome.now at) (number_of (settings_of self.old) place) (view_of self.old) result (view_of self.new) }
+        ensures shows { Shows (result
+            ≡ outcome_number outcome.now at) (place_number (settings_of self.old) place)
+            (view_of self.old) result (view_of self.new) }
         ensures moved { result ≢ number deadline 0 0 }
         ensures word { IsOutcome outcome.now × IsTrue (is_moment at) }
     {

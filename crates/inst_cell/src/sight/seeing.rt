@@ -1,7 +1,8 @@
 //! What a teller sees of the shared words.
 ghost use Rattle.std.specs.Prelude.{◌≡◌, ◌≢◌};
 ghost use Rattle.inst_command.specs.declared.outcome.Outcome.{Outcome};
-ghost use Rattle.inst_command.specs.declared.outcome.State.TheVariants.{Unused, Decided as IsDecided};
+ghost use Rattle.inst_command.specs.declared.outcome.State.TheVariants.{Unused};
+ghost use Rattle.inst_command.specs.declared.outcome.State.TheVariants.{Decided as IsDecided};
 ghost use Rattle.inst_board.specs.declared.about.About.TheVariants.{Opened, Decided};
 ghost use Rattle.inst_board.specs.Standing.{about};
 ghost use Rattle.inst_cell.specs.Held.{Stays, AtOneTable};
@@ -18,8 +19,10 @@ impl Sight {
     pub fn peek(&mut self, ticket: &Ticket) -> State
         ensures peek { Peeks self.old ticket.now result self.new }
         ensures opened { sees self.old (about ticket.now Opened) → result ≢ Unused }
-        ensures outcome { (o : Outcome) → sees self.old (about ticket.now (Decided o)) → result ≡ IsDecided o }
-        ensures shown { (o : Outcome) → result ≡ IsDecided o → sees self.new (about ticket.now (Decided o)) }
+        ensures outcome { (o : Outcome) → sees self.old (about ticket.now (Decided o)) →
+            result ≡ IsDecided o }
+        ensures shown { (o : Outcome) → result ≡ IsDecided o →
+            sees self.new (about ticket.now (Decided o)) }
         ensures stays { Stays (board_of self.old) (board_of self.new) }
     {
         match self.board.look(ticket.place()) {
@@ -34,7 +37,8 @@ impl Sight {
         requires one { AtOneTable (board_of self.old) (board_of other.old) }
         ensures mine { KnowsBoth (board_of self.old) (board_of other.old) (board_of self.new) }
         ensures yours { KnowsBoth (board_of self.old) (board_of other.old) (board_of other.new) }
-        ensures stays { Stays (board_of self.old) (board_of self.new) × Stays (board_of other.old) (board_of other.new) }
+        ensures stays { Stays (board_of self.old) (board_of self.new)
+            × Stays (board_of other.old) (board_of other.new) }
     {
         self.board.meet(&mut other.board);
     }

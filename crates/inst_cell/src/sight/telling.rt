@@ -9,11 +9,11 @@ ghost use Rattle.inst_cell.specs.Seen.{board_of};
 
 use super::Sight;
 use crate::{SharedBoard, Ticket};
-use inst_board::Place;
+use inst_command::Place;
 
 impl SharedBoard {
-    /// The sight then knows what the board knows of the place, which is known opened, and of all others.
-    /// The ticket names the place. The board has and knows what it had and knew.
+    /// The sight then knows what the board knows of the place, which is known opened, and of all
+    /// others. The ticket names the place. The board has and knows what it had and knew.
     pub fn tell(&mut self, sight: &mut Sight, place: Place) -> Ticket
         requires one { AtOneTable self.old (board_of sight.old) }
         requires opened { knows self.old (about place Opened) }
@@ -26,7 +26,8 @@ impl SharedBoard {
         Ticket::of(place)
     }
 
-    /// The board then knows what the sight knew too. Of its own participants' places that is nothing new.
+    /// The board then knows what the sight knew too. Of its own participants' places that is
+    /// nothing new.
     pub fn join_sight(&mut self, sight: Sight)
         requires one { AtOneTable self.old (board_of sight) }
         ensures both { KnowsBoth self.old (board_of sight) self.new }

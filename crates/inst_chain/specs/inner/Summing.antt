@@ -1,10 +1,12 @@
 -- What was read of a log so far.
-use Rattle.std.specs.Prelude.{◌≡◌, ◌⊎◌, ◌<◌, ◌^◌, ◌∷◌, ℕ, Bool, true, false, List, [], ◌++◌, length, drop, Option, Some, Vec, MatchOption, MatchResult, Result}
+use Rattle.std.specs.Prelude.{◌≡◌, ◌⊎◌, ◌<◌, ◌^◌, ◌∷◌, ℕ, Bool, true, false, List, [], ◌++◌, length}
+use Rattle.std.specs.Prelude.{drop, Option, Some, Vec, MatchOption, MatchResult, Result}
 use Rattle.std.specs.declared.alloc.Global.{Global}
-use Rattle.inst_log.specs.Layout.{recovered, blocks}
+use Rattle.inst_log.specs.Layout.{recovered_lines, blocks}
 use Rattle.inst_log.specs.Pieces.{HasCut, stops}
 use Rattle.inst_log.specs.declared.error.LogError.{LogError}
-use Rattle.inst_log.specs.declared.error.LogError.TheVariants.{Disk, Memory, Full, Write, Told, OtherSettings, NoLog}
+use Rattle.inst_log.specs.declared.error.LogError.TheVariants.{Disk, Memory, Full, Write, Told}
+use Rattle.inst_log.specs.declared.error.LogError.TheVariants.{OtherSettings, NoLog}
 use Rattle.inst_chain.specs.Chain.{is_mark, mark_with, said}
 use Rattle.inst_chain.specs.Checking.{Stands}
 use Rattle.inst_chain.specs.Verifying.{IsDamagedAfter}
@@ -23,12 +25,15 @@ IsFirst first lines = MatchOption first (lines ≡ []) (λ line. HasFirst lines 
 pub record Sees (seen : Seen) (lines : List (List ℕ)) : Type 0 where
   pub first : IsFirst seen.first lines
   pub count : length (blocks lines) < 2 ^ 64 → seen.lines ≡ length (said lines)
-  pub digest : (before : List (List ℕ)) (mark : List ℕ) → lines ≡ before ++ mark ∷ [] → is_mark mark ≡ true → length mark ≡ 67
+  pub digest : (before : List (List ℕ)) (mark : List ℕ) → lines ≡ before ++ mark ∷ [] →
+      is_mark mark ≡ true → length mark ≡ 67
       → mark ≡ mark_with seen.digest.text
 
 -- whatever lines follow these, a file of them is damaged so
 abbrev pub AreWrong : List (List ℕ) → Prefix → Type 0
-AreWrong lines right = (file : List ℕ) (later : List (List ℕ)) → recovered file ≡ lines ++ later → length file < 2 ^ 64
+AreWrong lines right =
+    (file : List ℕ) (later : List (List ℕ)) → recovered_lines file ≡ lines ++ later →
+    length file < 2 ^ 64
     → IsDamagedAfter file right
 
 -- the same, and their marks were checked
@@ -55,7 +60,8 @@ pub record HasReadAll (reading : Reading) (file : List ℕ) : Type 0 where
 -- what a tally says of the marks, and whether the closed byte follows the lines
 abbrev pub IsChain : Tally → Bool → Result Digest Prefix → Type 0
 IsChain tally is_shut result = MatchOption tally.wrong
-    (MatchResult result (λ digest. (is_shut ≡ true) × (tally.checker.sealed ≡ true) × (digest ≡ tally.seen.digest))
+    (MatchResult result (λ digest. (is_shut ≡ true) × (tally.checker.sealed ≡ true)
+    × (digest ≡ tally.seen.digest))
     (λ right. (right ≡ tally.checker.right) × (is_shut ≡ true → tally.checker.sealed ≡ false)))
     (λ right. MatchResult result (λ digest. ⊥) (λ r. r ≡ right))
 

@@ -1,7 +1,8 @@
 -- What the threads of a crew begin with and do, one by one. This hub's own choice.
-use Rattle.std.specs.Prelude.{◌≡◌, ℕ, ◌-◌, ◌^◌, min, List, [], ◌∷◌, ◌++◌, map, length, sum_by, slice_get, Some, Result, IfOk}
+use Rattle.std.specs.Prelude.{◌≡◌, ℕ, ◌-◌, ◌^◌, min, List, [], ◌∷◌, ◌++◌, map, length, sum_by}
+use Rattle.std.specs.Prelude.{slice_get, Some, Result, IfOk}
 use Rattle.std.specs.declared.alloc.AllocError.{AllocError}
-use Rattle.inst_board.specs.declared.place.Place.{Place}
+use Rattle.inst_command.specs.declared.place.Place.{Place}
 use Rattle.inst_command.specs.declared.outcome.State.{State}
 use Rattle.inst_desk.specs.declared.desk.Desk.{Desk}
 use Rattle.inst_desk.specs.declared.hand.Hand.{Hand}
@@ -10,7 +11,7 @@ use Rattle.inst_desk.specs.declared.job.Job.{Job}
 use Rattle.inst_desk.specs.Desk.{IsHandOf, taken_of, WasEmpty}
 use Rattle.inst_hub.specs.declared.hub.Hub.{Hub}
 use Rattle.inst_hub.specs.declared.teller.Teller.{Teller}
-use Rattle.inst_hub.specs.Calls.{IsOf}
+use Rattle.inst_hub.specs.Calls.{IsTellerOf}
 use Rattle.inst_crew.specs.declared.crew.Crew.{Crew}
 use Rattle.inst_crew.specs.declared.shift.Shift.{Shift}
 use Rattle.inst_crew.specs.declared.worker.Worker.{Worker}
@@ -26,26 +27,34 @@ abbrev pub tellers_of : List Worker → List Teller
 tellers_of workers = map (λ w. w.teller) workers
 
 -- the worker has a hand of the desk and a teller of the hub
-pub record IsReady (hub : Hub) (d : Desk) (w : Worker) : Type 0 where
+pub record HasHandAndTeller (hub : Hub) (d : Desk) (w : Worker) : Type 0 where
   pub hand : IsHandOf d w.hand
-  pub teller : IsOf hub w.teller
+  pub teller : IsTellerOf hub w.teller
 
 abbrev pub AreReady : Hub → Desk → List Worker → Type 0
-AreReady hub d workers = (i : ℕ) (w : Worker) → slice_get workers i ≡ Some w → IsReady hub d w
+AreReady hub d workers =
+    (i : ℕ) (w : Worker) → slice_get workers i ≡ Some w → HasHandAndTeller hub d w
 
 -- from s to r the ask was put to the hub, and what was seen of its transfer kept
 abbrev pub ServesOne : Hub → Ask → Shift → Shift → Type 0
-ServesOne hub ask s r = (more : List (Place × State)) × (r.states.items ≡ s.states.items ++ more) × IsServed hub ask s.teller r.teller more
+ServesOne hub ask s r =
+    (more : List (Place × State)) × (r.states.items ≡ s.states.items ++ more)
+    × IsServed hub ask s.teller r.teller more
 
 -- the jobs that the worker's hand took more were served
 abbrev pub ServesAll : Hub → Worker → Shift → Type 0
-ServesAll hub w s = (jobs : List Job) × (taken_of s.hand ≡ taken_of w.hand ++ jobs) × Serves hub jobs w.teller s.teller s.states.items
+ServesAll hub w s =
+    (jobs : List Job) × (taken_of s.hand ≡ taken_of w.hand ++ jobs)
+    × Serves hub jobs w.teller s.teller s.states.items
 
--- from this worker on, this was done: the jobs that its hand took more and that fit are answered, and what it saw is known
+-- from this worker on, this was done: the jobs that its hand took more and that fit are answered,
+-- and what it saw is known
 pub record Works (hub : Hub) (d : Desk) (w : Worker) (s : Shift) : Type 0 where
   pub hand : IsLaterHand d w.hand s.hand
   pub teller : IsLaterTeller hub w.teller s.teller
-  pub answered : s.answered ≡ min (fitting hub.settings (taken_of s.hand) - fitting hub.settings (taken_of w.hand)) (2 ^ 64 - 1)
+  pub answered : s.answered
+      ≡ min (fitting hub.settings (taken_of s.hand)
+      - fitting hub.settings (taken_of w.hand)) (2 ^ 64 - 1)
   pub states : AreSeen s.teller s.states.items
   pub served : ServesAll hub w s
 
@@ -55,9 +64,11 @@ pub record HasEnded (hub : Hub) (d : Desk) (w : Worker) (s : Shift) : Type 0 whe
   pub emptied : WasEmpty s.hand
 
 -- each of these worked, in order, unless memory was refused to it
-pub record AllWork (hub : Hub) (d : Desk) (workers : List Worker) (results : List (Result Shift AllocError)) : Type 0 where
+pub record AllWork (hub : Hub) (d : Desk) (workers : List Worker)
+    (results : List (Result Shift AllocError)) : Type 0 where
   pub enough : length results ≡ length workers
-  pub each : (i : ℕ) (w : Worker) (r : Result Shift AllocError) → slice_get workers i ≡ Some w → slice_get results i ≡ Some r → IfOk r (HasEnded hub d w)
+  pub each : (i : ℕ) (w : Worker) (r : Result Shift AllocError) → slice_get workers i ≡ Some w →
+      slice_get results i ≡ Some r → IfOk r (HasEnded hub d w)
 
 -- the states of all of these
 abbrev pub states_of : List Shift → List (Place × State)

@@ -56,7 +56,8 @@ impl Desk {
     fn gather(&self, hands: Vec<Hand>) -> Hand
         requires { AreAllHandsOf self.now hands.items }
         ensures on { IsPassOf self.now.queue result.seat }
-        ensures all { account_of result ≡ account MOST_HANDS (put_together hands.items) (taken_together hands.items) }
+        ensures all { account_of result
+            ≡ account MOST_HANDS (put_together hands.items) (taken_together hands.items) }
     {
         let mut hands = hands.into_iter();
         let Some(first) = hands.next() else {
@@ -69,10 +70,12 @@ impl Desk {
         whole
     }
 
-    /// Ends the desk with all its hands: what was put was taken or is left, each job as often. It takes no memory.
+    /// Ends the desk with all its hands: what was put was taken or is left, each job as often. It
+    /// takes no memory.
     pub fn finish<R: Wait>(self, rt: &R, hands: Vec<Hand>) -> Tally
         requires { AreAllHandsOf self hands.items }
-        ensures jobs { EachAsOften (put_together hands.items) (taken_together hands.items ++ result.left.items) }
+        ensures jobs { EachAsOften (put_together hands.items) (taken_together hands.items
+            ++ result.left.items) }
         ensures put { result.put ≡ counted (put_together hands.items) }
         ensures taken { result.taken ≡ counted (taken_together hands.items) }
     {

@@ -48,8 +48,8 @@ impl Desk {
         Ok(all)
     }
 
-    /// A desk with room for so many jobs, 1 to 4,096, and so many hands, 1 to 16. `BadSettings` where they are not,
-    /// `Memory` where there is no room; no other call of a desk takes memory.
+    /// A desk with room for so many jobs, 1 to 4,096, and so many hands, 1 to 16. `BadSettings`
+    /// where they are not, `Memory` where there is no room; no other call of a desk takes memory.
     pub fn open(alloc: Global, capacity: u16, hands: u8) -> Result<(Desk, Vec<Hand>), Fault>
         ensures capacity { IfOk result (λ r. capacity_of r.0 ≡ capacity) }
         ensures enough { IfOk result (λ r. length r.1.items ≡ hands) }

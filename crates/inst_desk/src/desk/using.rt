@@ -1,7 +1,8 @@
 //! What hands do at a desk.
 ghost use Rattle.std.specs.Prelude.{◌≡◌, [], ◌∷◌, ◌++◌, None, IfErr, IfSome, OnOk, OnErr};
 ghost use Rattle.inst_desk.specs.Account.{LiesFirst};
-ghost use Rattle.inst_desk.specs.Desk.{account_of, put_of, taken_of, IsHandOf, IsSameHand, WasFull, WasEmpty};
+ghost use Rattle.inst_desk.specs.Desk.{account_of, put_of, taken_of, IsHandOf, IsSameHand, WasFull};
+ghost use Rattle.inst_desk.specs.Desk.{WasEmpty};
 
 use super::Desk;
 use crate::hand::Hand;
@@ -10,7 +11,8 @@ use crate::rule::{Putting, Taking};
 use std::sync::Wait;
 
 impl Desk {
-    /// Puts a job behind all others. It comes back only where the desk was full at a moment of the call.
+    /// Puts a job behind all others. It comes back only where the desk was full at a moment of the
+    /// call.
     pub fn put<R: Wait>(&self, rt: &R, hand: &mut Hand, job: Job) -> Result<(), Job>
         requires of { IsHandOf self.now hand.old }
         ensures of { IsHandOf self.now hand.new }

@@ -1,5 +1,5 @@
--- A hub that is opened again and again, each time from the books that it left. That a drill does so is this hub's own
--- choice.
+-- A hub that is opened again and again, each time from the books that it left. That a drill does so
+-- is this hub's own choice.
 use Rattle.std.specs.Prelude.{◌≡◌, ℕ, ◌<◌, Option, Some, None}
 use Rattle.inst_settings.specs.Settings.{HubSettings, participants}
 use Rattle.inst_journal.specs.Opened.{openings}

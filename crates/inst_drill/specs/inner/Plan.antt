@@ -24,13 +24,21 @@ pub record IsPlan (s : HubSettings) (plan : Plan) : Type 0 where
 
 -- participant 0 submits 100 cents to participant 1, with the stamp 0
 abbrev pub submission_of : ℕ → Ask
-submission_of number = record { who = 0; command = Submit (record { id = codes "D" ++ decimal number; to = 1; cents = 100; stamp = 0 }); at = 0 }
+submission_of number =
+    record {
+      who = 0;
+      command =
+          Submit (record { id = codes "D" ++ decimal number; to = 1; cents = 100; stamp = 0 });
+      at = 0;
+    }
 
 -- participant 1 confirms them at the last moment
 abbrev pub confirmation_of : Plan → ℕ → Ask
-confirmation_of plan number = record { who = 1; command = Confirm 0 (codes "D" ++ decimal number); at = plan.last }
+confirmation_of plan number =
+    record { who = 1; command = Confirm 0 (codes "D" ++ decimal number); at = plan.last }
 
--- the sweep of participant 0 by this teller at the deadline, when half of the transfers are confirmed
+-- the sweep of participant 0 by this teller at the deadline, when half of the transfers are
+-- confirmed
 pub record IsSweepOf (plan : Plan) (teller : Teller) (sweep : Sweep) : Type 0 where
   pub by : sweep.teller ≡ teller
   pub who : sweep.who ≡ 0

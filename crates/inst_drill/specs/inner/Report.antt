@@ -3,19 +3,21 @@ use Rattle.std.specs.Prelude.{◌≡◌, ◌≢◌, ◌+◌, ℕ, List, Some, sl
 use Rattle.inst_command.specs.declared.outcome.Outcome.{Outcome}
 use Rattle.inst_command.specs.declared.outcome.State.{State}
 use Rattle.inst_command.specs.declared.outcome.State.TheVariants.{Decided}
-use Rattle.inst_board.specs.declared.place.Place.{Place}
+use Rattle.inst_command.specs.declared.place.Place.{Place}
 use Rattle.inst_command.specs.declared.outcome.Outcome.TheVariants.{Accepted, TimedOut}
 use Rattle.inst_journal.specs.Opened.{is_opening}
 use Rattle.inst_journal.specs.declared.event.Event.{Event}
-use Rattle.inst_participant.specs.InTheBooks.{told}
+use Rattle.inst_participant.specs.InTheBooks.{state_in_books}
 use Rattle.inst_drill.specs.Report.{books_end}
 
 -- the pair is an outcome that the books don't tell
 abbrev pub Contradicts : (ℕ → List Event) → Place × State → Type 0
-Contradicts J pair = (outcome : Outcome) × (pair.1 ≡ Decided outcome) × (told J pair.0 ≢ Decided outcome)
+Contradicts J pair =
+    (outcome : Outcome) × (pair.1 ≡ Decided outcome) × (state_in_books J pair.0 ≢ Decided outcome)
 
 abbrev pub NoneContradicts : (ℕ → List Event) → List (Place × State) → Type 0
-NoneContradicts J states = (i : ℕ) (pair : Place × State) → slice_get states i ≡ Some pair → ¬ Contradicts J pair
+NoneContradicts J states =
+    (i : ℕ) (pair : Place × State) → slice_get states i ≡ Some pair → ¬ Contradicts J pair
 
 -- so many acceptances and time-outs are counted after one more event
 abbrev pub counted_after : Event → ℕ → ℕ → ℕ × ℕ

@@ -12,4 +12,6 @@ IsRising pairs = AllPairs (λ one other. comes_before one other ≡ true) pairs
 abbrev pub IsPlace : List (ℕ × ℕ) → ℕ × ℕ → Result ℕ ℕ → Type 0
 IsPlace pairs pair (Ok n) = slice_get pairs n ≡ Some pair
 IsPlace pairs pair (Err n) =
-    (n ≤ length pairs) × IsPartitionPoint (λ other. comes_before other pair ≡ true) (λ other. comes_before pair other ≡ true) pairs n
+    (n ≤ length pairs)
+    × IsPartitionPoint (λ other. comes_before other pair ≡ true) (λ other.
+    comes_before pair other ≡ true) pairs n

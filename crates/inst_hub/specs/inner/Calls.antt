@@ -2,7 +2,7 @@
 use Rattle.std.specs.Prelude.{◌≡◌, List, [], ◌++◌, Option}
 use Rattle.inst_command.specs.declared.ask.Ask.{Ask}
 use Rattle.inst_command.specs.declared.reply.Reply.{Reply}
-use Rattle.inst_board.specs.declared.place.Place.{Place}
+use Rattle.inst_command.specs.declared.place.Place.{Place}
 use Rattle.inst_journal.specs.declared.event.Event.{Event}
 use Rattle.inst_row.specs.declared.view.Front.{Front}
 use Rattle.inst_hub.specs.declared.hub.Hub.{Hub}
@@ -19,4 +19,6 @@ pub record Follows (h : Hub) (f : Option FollowUp) (t u : Teller) : Type 0 where
 
 -- a call, and what is to follow from it
 abbrev pub Asks : Hub → Teller → Ask → (Reply × Option Place) × Option FollowUp → Teller → Type 0
-Asks h t ask r u = (call : IsCall h t ask r.0 [] u) × (r.1 ≡ follow_up_of call.left.slot.events ask.command r.0.0 r.0.1)
+Asks h t ask r u =
+    (call : IsCall h t ask r.0 [] u)
+    × (r.1 ≡ follow_up_of call.left.slot.events ask.command r.0.0 r.0.1)

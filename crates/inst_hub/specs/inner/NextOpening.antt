@@ -8,7 +8,8 @@ use Rattle.inst_cell.specs.declared.shared_board.SharedBoard.{SharedBoard}
 use Rattle.inst_participant.specs.declared.participant.Participant.{Participant}
 
 -- the book of the participant p, carried over an opening
-pub record IsCarriedBook (s : HubSettings) (books : ℕ → List Event) (p : ℕ) (book : Book) : Type 0 where
+pub record IsCarriedBook (s : HubSettings) (books : ℕ →
+    List Event) (p : ℕ) (book : Book) : Type 0 where
   pub settings_are : book.settings ≡ s
   pub who_is : book.who ≡ p
   pub events_are : book.events ≡ books p ++ Opened ∷ []

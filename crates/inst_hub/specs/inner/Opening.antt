@@ -8,7 +8,7 @@ use Rattle.inst_cell.specs.declared.sight.Sight.{Sight}
 use Rattle.inst_cell.specs.Opening.{IsOpened}
 use Rattle.inst_journal.specs.declared.event.Event.{Event}
 use Rattle.inst_participant.specs.declared.participant.Participant.{Participant}
-use Rattle.inst_participant.specs.Behind.{IsBehind}
+use Rattle.inst_participant.specs.LockLaw.{IsBehind}
 use Rattle.inst_hub.specs.Opening.{IsBlank}
 
 -- the boards of all participants, by number
@@ -23,16 +23,20 @@ unboxed (None ∷ all) = None ∷ unboxed all
 unboxed (Some x ∷ all) = Some x.value ∷ unboxed all
 
 -- the participants, by number, over these words, with these histories
-pub record AreBehind (words : SharedBoard) (n : ℕ) (J : ℕ → List Event) (all : List (Option Participant)) : Type 0 where
+pub record AreBehind (words : SharedBoard) (n : ℕ) (J : ℕ →
+    List Event) (all : List (Option Participant)) : Type 0 where
   pub enough : length all ≡ n
   pub each : (p : ℕ) → p < n →
-      (x : Participant) × (slice_get all p ≡ Some (Some x)) × IsBehind words p x × (x.slot.events ≡ J p)
+      (x : Participant) × (slice_get all p ≡ Some (Some x)) × IsBehind words p x
+      × (x.slot.events ≡ J p)
 
 -- the participants of these boards, by number, with no history
-pub record AreParticipants (boards : List SharedBoard) (all : List (Option Participant)) : Type 0 where
-  pub enough : length all ≡ length boards
-  pub each : (p : ℕ) (b : SharedBoard) → slice_get boards p ≡ Some b →
-      (x : Participant) × (slice_get all p ≡ Some (Some x)) × IsBehind b p x × (x.slot.events ≡ [])
+pub record AreParticipants (boards : List SharedBoard) (all : List (Option Participant)) : Type 0
+  where
+    pub enough : length all ≡ length boards
+    pub each : (p : ℕ) (b : SharedBoard) → slice_get boards p ≡ Some b →
+        (x : Participant) × (slice_get all p ≡ Some (Some x)) × IsBehind b p x
+        × (x.slot.events ≡ [])
 
 abbrev pub AreBlank : SharedBoard → List Sight → Type 0
 AreBlank words sights = (i : ℕ) (t : Sight) → slice_get sights i ≡ Some t → IsBlank words t

@@ -1,7 +1,7 @@
 //! Calls of a hub, under the locks of participants.
 ghost use Rattle.std.specs.Prelude.{◌≡◌, ◌<◌, true, IfOk, IfSome, OnErr};
 ghost use Rattle.inst_command.specs.Ask.{ask_fits};
-ghost use Rattle.inst_hub.specs.Calls.{IsOf, KnowsMore, HasCalled, IsLeft};
+ghost use Rattle.inst_hub.specs.Calls.{IsTellerOf, KnowsMore, HasCalled, IsLeftUnanswered};
 ghost use Rattle.inst_hub.specs.inner.Calls.{Follows, Asks};
 ghost use Rattle.inst_row.specs.Row.{size};
 
@@ -15,24 +15,26 @@ use std::alloc::AllocError;
 use std::sync::Wait;
 
 impl Hub {
-    /// What a command is answered, a refusal too, with a ticket where the reply tells of a live transfer. It waits
-    /// while another thread has the asker's lock, and then for the other side's, under which what follows is done:
-    /// the beneficiary gets what was taken, the other side learns an outcome. What follows and finds no memory is
-    /// dropped, and the reply stands. Where memory is refused nothing was changed.
+    /// What a command is answered, a refusal too, with a ticket where the reply tells of a live
+    /// transfer. It waits while another thread has the asker's lock, and then for the other side's,
+    /// under which what follows is done: the beneficiary gets what was taken, the other side learns
+    /// an outcome. What follows and finds no memory is dropped, and the reply stands. Where memory
+    /// is refused nothing was changed.
     pub fn call<R: Wait>(
         &self,
         rt: &R,
         teller: &mut Teller,
         ask: &Ask,
     ) -> Result<(Reply, Option<Ticket>), AllocError>
-        requires of { IsOf self.now teller.old }
+        requires of { IsTellerOf self.now teller.old }
         requires fits { ask_fits self.now.settings ask.now ≡ true }
         ensures { HasCalled self.now teller.old ask.now result teller.new }
     {
         self.call_with(rt, teller, ask, &Ungated)
     }
 
-    /// The same with a gate, which is passed once, after the event of the asker and before its lock is given back.
+    /// The same with a gate, which is passed once, after the event of the asker and before its lock
+    /// is given back.
     pub fn call_with<R: Wait, G: Gate>(
         &self,
         rt: &R,
@@ -40,7 +42,7 @@ impl Hub {
         ask: &Ask,
         gate: &G,
     ) -> Result<(Reply, Option<Ticket>), AllocError>
-        requires of { IsOf self.now teller.old }
+        requires of { IsTellerOf self.now teller.old }
         requires fits { ask_fits self.now.settings ask.now ≡ true }
         ensures { HasCalled self.now teller.old ask.now result teller.new }
     {
@@ -57,13 +59,13 @@ impl Hub {
         ask: &Ask,
         gate: &G,
     ) -> Result<((Reply, Option<Ticket>), Option<FollowUp>), AllocError>
-        requires of { IsOf self.now teller.old }
+        requires of { IsTellerOf self.now teller.old }
         requires fits { ask_fits self.now.settings ask.now ≡ true }
-        ensures of { IsOf self.now teller.new }
+        ensures of { IsTellerOf self.now teller.new }
         ensures knows { KnowsMore teller.old teller.new }
         ensures call { IfOk result (λ r. Asks self.now teller.old ask.now r teller.new) }
         ensures lock { IfOk result (λ r. IfSome r.1 (λ f. f.who < size self.now.row)) }
-        ensures left { OnErr result (IsLeft self.now teller.old ask.now teller.new) }
+        ensures left { OnErr result (IsLeftUnanswered self.now teller.old ask.now teller.new) }
     {
         let lock = usize::from(ask.who);
         let mut participant = self.row.take(rt, &mut teller.seat, lock);
@@ -76,18 +78,18 @@ impl Hub {
 
     /// Does what follows under the other side's lock; what finds no memory is dropped.
     fn follow<R: Wait>(&self, rt: &R, teller: &mut Teller, follow_up: Option<FollowUp>)
-        requires of { IsOf self.now teller.old }
+        requires of { IsTellerOf self.now teller.old }
         requires lock { IfSome follow_up (λ f. f.who < size self.now.row) }
-        ensures of { IsOf self.now teller.new }
+        ensures of { IsTellerOf self.now teller.new }
         ensures knows { KnowsMore teller.old teller.new }
         ensures follows { Follows self.now follow_up teller.old teller.new }
     {
-        let Some(FollowUp { who, errand, place }) = follow_up else {
+        let Some(FollowUp { who, kind, place }) = follow_up else {
             return
         };
         let lock = usize::from(who);
         let mut participant = self.row.take(rt, &mut teller.seat, lock);
-        let _ = participant.follow(errand, place);
+        let _ = participant.follow(kind, place);
         self.row.give(&mut teller.seat, lock, participant);
     }
 }

@@ -1,5 +1,6 @@
 //! How a hub is taken apart when it closes.
-ghost use Rattle.std.specs.Prelude.{◌≡◌, ◌↔◌, ℕ, ◌<◌, ◌≤◌, [], List, map, length, slice_get, Some, IfOk, IfErr, vec_capacity};
+ghost use Rattle.std.specs.Prelude.{◌≡◌, ◌↔◌, ℕ, ◌<◌, ◌≤◌, [], List, map, length, slice_get, Some};
+ghost use Rattle.std.specs.Prelude.{IfOk, IfErr, vec_capacity};
 ghost use mathlib.Core.List.{IsPrefix};
 ghost use Rattle.inst_board.specs.declared.about.Fact.{Fact};
 ghost use Rattle.inst_cell.specs.Held.{knows};
@@ -17,8 +18,8 @@ ghost use Rattle.inst_hub.specs.Closing.{OneHasSeen, HandsBack};
 ghost use Rattle.inst_hub.specs.inner.Closing.{AreSeated, AreTakenOut};
 
 use super::Hub;
-use crate::behind::Behind;
-use crate::outset::Outset;
+use crate::initial_state::InitialState;
+use crate::lock_law::LockLaw;
 use crate::teller::Teller;
 use inst_base::mention;
 use inst_cell::SharedBoard;
@@ -31,9 +32,9 @@ use std::alloc::{AllocError, Global};
 use std::fmt;
 use thiserror::Error;
 
-type Row = LockRow<Box<Participant>, Event, Outset, Behind>;
+type Row = LockRow<Box<Participant>, Event, InitialState, LockLaw>;
 
-type Seat = RowSeat<Box<Participant>, Event, Outset>;
+type Seat = RowSeat<Box<Participant>, Event, InitialState>;
 
 /// Why a hub wasn't taken apart.
 #[derive(Drop, Error)]
@@ -50,8 +51,8 @@ impl fmt::Debug for TakeFault {
     }
 }
 
-/// One seat with the parts of all tellers' seats, which has seen exactly what one of them had; what the tellers see with
-/// goes into a list with room for it.
+/// One seat with the parts of all tellers' seats, which has seen exactly what one of them had; what
+/// the tellers see with goes into a list with room for it.
 fn gather(row: &Row, tellers: Vec<Teller>, sights: &mut Vec<inst_cell::Sight>) -> Seat
     requires some { 0 < size row.now }
     requires seated { AreSeated (row_id row.now) (key_of row.now) tellers.items }
@@ -98,17 +99,23 @@ fn empty(row: Row, seat: Seat, slots: &mut Vec<Slot>, boards: &mut Vec<SharedBoa
 }
 
 impl Hub {
-    /// The parts of the hub: the slots of its participants, each with the last history that a teller has seen, over one
-    /// board with the roles of all that knows what each teller knew. It waits for no lock, since nobody else has the hub.
-    /// Where memory is refused it hands the hub and its tellers back as they were.
+    /// The parts of the hub: the slots of its participants, each with the last history that a
+    /// teller has seen, over one board with the roles of all that knows what each teller knew. It
+    /// waits for no lock, since nobody else has the hub. Where memory is refused it hands the hub
+    /// and its tellers back as they were.
     pub fn take_apart(self, alloc: Global, tellers: Vec<Teller>) -> Result<Parts, TakeFault>
         requires of { AreOf self tellers.items }
         requires parts { HaveAllParts tellers.items }
         ensures settings { IfOk result (λ parts. hub_of parts ≡ self.settings) }
-        ensures parts { IfOk result (λ parts. (O : Opening) → IsOpening self.settings O → HasOpened O self → IsPartsOf O parts) }
-        ensures goes_on { IfOk result (λ parts. (i : ℕ) (t : Teller) (p : ℕ) (h : List Event) → slice_get tellers.items i ≡ Some t → p < participants self.settings → HasSeen p h t.seat → IsPrefix h (histories_of parts p)) }
-        ensures last { IfOk result (λ parts. (p : ℕ) → p < participants self.settings → OneHasSeen tellers.items p (histories_of parts p)) }
-        ensures knows { IfOk result (λ parts. (i : ℕ) (t : Teller) (f : Fact) → slice_get tellers.items i ≡ Some t → knows_of t f → knows (board_of parts) f) }
+        ensures parts { IfOk result (λ parts. (O : Opening) → IsOpening self.settings O →
+            HasOpened O self → IsPartsOf O parts) }
+        ensures goes_on { IfOk result (λ parts. (i : ℕ) (t : Teller) (p : ℕ) (h : List Event) →
+            slice_get tellers.items i ≡ Some t → p < participants self.settings →
+            HasSeen p h t.seat → IsPrefix h (histories_of parts p)) }
+        ensures last { IfOk result (λ parts. (p : ℕ) → p < participants self.settings →
+            OneHasSeen tellers.items p (histories_of parts p)) }
+        ensures knows { IfOk result (λ parts. (i : ℕ) (t : Teller) (f : Fact) →
+            slice_get tellers.items i ≡ Some t → knows_of t f → knows (board_of parts) f) }
         ensures err { IfErr result (HandsBack self tellers.items) }
     {
         let locks = self.row.len();
@@ -132,7 +139,8 @@ fn rooms(
     tellers: usize,
 ) -> Result<(Vec<Slot>, Vec<SharedBoard>, Vec<inst_cell::Sight>), AllocError>
     ensures none { IfOk result (λ r. (r.0.items ≡ []) × (r.1.items ≡ []) × (r.2.items ≡ [])) }
-    ensures room { IfOk result (λ r. (locks ≤ vec_capacity r.0) × (locks ≤ vec_capacity r.1) × (tellers ≤ vec_capacity r.2)) }
+    ensures room { IfOk result (λ r. (locks ≤ vec_capacity r.0) × (locks ≤ vec_capacity r.1)
+        × (tellers ≤ vec_capacity r.2)) }
 {
     let slots = Vec::with_capacity(alloc, locks)?;
     let boards = Vec::with_capacity(alloc, locks)?;

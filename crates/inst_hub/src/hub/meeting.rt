@@ -1,12 +1,13 @@
 //! What tellers see, and what they tell each other.
 ghost use Rattle.std.specs.Prelude.{◌≡◌, ◌≢◌};
 ghost use Rattle.inst_command.specs.declared.outcome.Outcome.{Outcome};
-ghost use Rattle.inst_command.specs.declared.outcome.State.TheVariants.{Unused, Decided as IsDecided};
+ghost use Rattle.inst_command.specs.declared.outcome.State.TheVariants.{Unused};
+ghost use Rattle.inst_command.specs.declared.outcome.State.TheVariants.{Decided as IsDecided};
 ghost use Rattle.inst_board.specs.declared.about.About.TheVariants.{Opened, Decided};
 ghost use Rattle.inst_board.specs.Standing.{about};
 ghost use Rattle.inst_cell.specs.Seen.{Peeks};
 ghost use Rattle.inst_hub.specs.declared.hub.Hub.{Hub};
-ghost use Rattle.inst_hub.specs.Calls.{IsOf, KnowsMore, KnowBoth, knows_of};
+ghost use Rattle.inst_hub.specs.Calls.{IsTellerOf, KnowsMore, KnowBoth, knows_of};
 
 use super::Hub;
 use crate::teller::Teller;
@@ -14,14 +15,16 @@ use inst_cell::Ticket;
 use inst_command::State;
 
 impl Teller {
-    /// How the ticket's transfer stands now, which is at least what the teller knows. It loads, waits for no lock and
-    /// takes no memory.
+    /// How the ticket's transfer stands now, which is at least what the teller knows. It loads,
+    /// waits for no lock and takes no memory.
     pub fn peek(&mut self, ticket: &Ticket) -> State
         ensures peek { Peeks self.old.sight ticket.now result self.new.sight }
         ensures opened { knows_of self.old (about ticket.now Opened) → result ≢ Unused }
-        ensures outcome { (o : Outcome) → knows_of self.old (about ticket.now (Decided o)) → result ≡ IsDecided o }
-        ensures shown { (o : Outcome) → result ≡ IsDecided o → knows_of self.new (about ticket.now (Decided o)) }
-        ensures of { (hub : Hub) → IsOf hub self.old → IsOf hub self.new }
+        ensures outcome { (o : Outcome) → knows_of self.old (about ticket.now (Decided o)) →
+            result ≡ IsDecided o }
+        ensures shown { (o : Outcome) → result ≡ IsDecided o →
+            knows_of self.new (about ticket.now (Decided o)) }
+        ensures of { (hub : Hub) → IsTellerOf hub self.old → IsTellerOf hub self.new }
         ensures knows { KnowsMore self.old self.new }
     {
         self.sight.peek(ticket)
@@ -29,11 +32,11 @@ impl Teller {
 }
 
 impl Hub {
-    /// Each of two tellers then knows what either knew, of places and of histories. It waits for no lock and takes no
-    /// memory.
+    /// Each of two tellers then knows what either knew, of places and of histories. It waits for no
+    /// lock and takes no memory.
     pub fn meet(&self, one: &mut Teller, two: &mut Teller)
-        requires of { IsOf self.now one.old × IsOf self.now two.old }
-        ensures of { IsOf self.now one.new × IsOf self.now two.new }
+        requires of { IsTellerOf self.now one.old × IsTellerOf self.now two.old }
+        ensures of { IsTellerOf self.now one.new × IsTellerOf self.now two.new }
         ensures knows { KnowBoth one.old two.old one.new × KnowBoth two.old one.old two.new }
     {
         one.sight.meet(&mut two.sight);

@@ -18,7 +18,7 @@ ghost use Rattle.inst_hub.specs.inner.NextOpening.{AreCarried, pairs, seated};
 
 use super::Hub;
 use super::opening::admit;
-use crate::outset::Outset;
+use crate::initial_state::InitialState;
 use crate::teller::Teller;
 use inst_base::{Fault, mention};
 use inst_cell::SharedBoard;
@@ -35,10 +35,12 @@ use std::snapshot::Snapshot;
 /// Opens the places of all live transfers on the board that has all roles.
 fn open_places(slots: &[Slot], whole: &mut SharedBoard)
     requires whole { IsWhole (settings_of whole.old) whole.old }
-    requires carried { (books : ℕ → List Event) × AreCarried (settings_of whole.old) books slots.now }
+    requires carried { (books : ℕ → List Event)
+        × AreCarried (settings_of whole.old) books slots.now }
     ensures stays { Stays whole.old whole.new }
     ensures known { (books : ℕ → List Event) → AreCarried (settings_of whole.old) books slots.now →
-        (f : Fact) → knows whole.new f ↔ IsOpenedBelow (settings_of whole.old) books (participants (settings_of whole.old)) f }
+        (f : Fact) → knows whole.new f ↔
+        IsOpenedBelow (settings_of whole.old) books (participants (settings_of whole.old)) f }
 {
     for slot in slots {
         slot.open_places(whole);
@@ -66,7 +68,8 @@ fn seat(
     Ok(all)
 }
 
-/// The participants with these journals, each carried over an opening, over the words of the board that has all roles.
+/// The participants with these journals, each carried over an opening, over the words of the board
+/// that has all roles.
 fn carry_over(
     alloc: Global,
     settings: &Settings,
@@ -75,7 +78,9 @@ fn carry_over(
 ) -> Result<Vec<Option<Box<Participant>>>, AllocError>
     requires journals { CanOpenFrom settings.now journals.now }
     requires whole { IsWhole settings.now whole }
-    ensures ok { IfOk result (λ all. AreBehind whole (participants settings.now) (histories_from journals.now) (unboxed all.items)) }
+    ensures ok { IfOk result (λ all.
+        AreBehind whole (participants settings.now) (histories_from journals.now)
+        (unboxed all.items)) }
 {
     let slots = World::open_from(alloc, settings, journals)?.into_slots();
     let mut whole = whole;
@@ -85,10 +90,11 @@ fn carry_over(
 }
 
 impl Hub {
-    /// A hub that opens again from these journals, one for each participant by number, with as many tellers as are
-    /// wanted, which know of no place, and that each history begins with its journal and an opening. What was pending
-    /// goes on, what was decided gives its place back. The journals stay as they are. `BadSettings` where the tellers
-    /// are not 1 to 16, `Memory` where there is no room for copies of the journals and for the places.
+    /// A hub that opens again from these journals, one for each participant by number, with as many
+    /// tellers as are wanted, which know of no place, and that each history begins with its journal
+    /// and an opening. What was pending goes on, what was decided gives its place back. The
+    /// journals stay as they are. `BadSettings` where the tellers are not 1 to 16, `Memory` where
+    /// there is no room for copies of the journals and for the places.
     pub fn open_from(
         alloc: Global,
         settings: Settings,
@@ -99,7 +105,9 @@ impl Hub {
         ensures settings { IfOk result (λ r. r.0.settings ≡ settings) }
         ensures enough { IfOk result (λ r. length r.1.items ≡ tellers) }
         ensures of { IfOk result (λ r. AreOf r.0 r.1.items) }
-        ensures new { IfOk result (λ r. AreNew (row_id r.0.row) (key_of r.0.row) (first_fronts (participants settings) (histories_from journals.now)) r.1.items) }
+        ensures new { IfOk result (λ r.
+            AreNew (row_id r.0.row) (key_of r.0.row)
+            (first_fronts (participants settings) (histories_from journals.now)) r.1.items) }
         ensures parts { IfOk result (λ r. HaveAllParts r.1.items) }
         ensures opened { IfOk result (λ r. HasOpened (FromBooks (books_of journals.now)) r.0) }
         ensures bad { (result ≡ Err Fault.BadSettings) ↔ ¬ MayOpen tellers }
@@ -108,7 +116,7 @@ impl Hub {
         let (whole, sights) = SharedBoard::open_whole(alloc, &settings, tellers)?;
         let words = Snapshot::of(&whole);
         let all = carry_over(alloc, &settings, journals, whole)?;
-        let outset = Outset {
+        let outset = InitialState {
             words,
             all: Snapshot::of(&all),
         };

@@ -6,15 +6,15 @@ ghost use Rattle.inst_cell.specs.Opening.{MayOpen, IsOpened};
 ghost use Rattle.inst_row.specs.Row.{row_id, key_of, size};
 ghost use Rattle.inst_row.specs.Seated.{IsOn, HasAll, view_of};
 ghost use Rattle.inst_model.specs.Opening.{First};
-ghost use Rattle.inst_participant.specs.Behind.{IsBehind};
+ghost use Rattle.inst_participant.specs.LockLaw.{IsBehind};
 ghost use Rattle.inst_hub.specs.Founding.{HasOpened};
 ghost use Rattle.inst_hub.specs.Calls.{AreOf};
 ghost use Rattle.inst_hub.specs.Opening.{AreNew, first_fronts, HaveAllParts};
 ghost use Rattle.inst_hub.specs.inner.Opening.{AreBoards, unboxed, AreParticipants, AreBlank};
 
 use super::Hub;
-use crate::behind::Behind;
-use crate::outset::Outset;
+use crate::initial_state::InitialState;
+use crate::lock_law::LockLaw;
 use crate::teller::Teller;
 use inst_base::{Fault, mention};
 use inst_cell::SharedBoard;
@@ -61,9 +61,9 @@ fn participants(
     Ok(all)
 }
 
-type Row = LockRow<Box<Participant>, Event, Outset, Behind>;
+type Row = LockRow<Box<Participant>, Event, InitialState, LockLaw>;
 
-type Seat = RowSeat<Box<Participant>, Event, Outset>;
+type Seat = RowSeat<Box<Participant>, Event, InitialState>;
 
 /// The tellers that see so, each with a seat on the row; together they have all its parts.
 pub(super) fn admit(
@@ -75,9 +75,11 @@ pub(super) fn admit(
     requires some { 0 < size row.now }
     requires on { IsOn (row_id row.now) (key_of row.now) seat }
     requires all { HasAll seat }
-    requires sights { MayOpen (length sights.items) × AreBlank (key_of row.now).words.value sights.items }
+    requires sights { MayOpen (length sights.items)
+        × AreBlank (key_of row.now).words.value sights.items }
     ensures enough { IfOk result (λ all. length all.items ≡ length sights.items) }
-    ensures new { IfOk result (λ all. AreNew (row_id row.now) (key_of row.now) (view_of seat).fronts all.items) }
+    ensures new { IfOk result (λ all.
+        AreNew (row_id row.now) (key_of row.now) (view_of seat).fronts all.items) }
     ensures parts { IfOk result (λ all. HaveAllParts all.items) }
 {
     let mut seat = seat;
@@ -95,13 +97,16 @@ pub(super) fn admit(
 }
 
 impl Hub {
-    /// A hub that opens for the first time, with as many tellers as are wanted, which know of no place, and that
-    /// all histories begin empty. `BadSettings` where these are not 1 to 16, `Memory` where there is no room.
+    /// A hub that opens for the first time, with as many tellers as are wanted, which know of no
+    /// place, and that all histories begin empty. `BadSettings` where these are not 1 to 16,
+    /// `Memory` where there is no room.
     pub fn open(alloc: Global, settings: Settings, tellers: u8) -> Result<(Hub, Vec<Teller>), Fault>
         ensures settings { IfOk result (λ r. r.0.settings ≡ settings) }
         ensures enough { IfOk result (λ r. length r.1.items ≡ tellers) }
         ensures of { IfOk result (λ r. AreOf r.0 r.1.items) }
-        ensures new { IfOk result (λ r. AreNew (row_id r.0.row) (key_of r.0.row) (first_fronts (participants settings) (λ p. [])) r.1.items) }
+        ensures new { IfOk result (λ r.
+            AreNew (row_id r.0.row) (key_of r.0.row) (first_fronts (participants settings) (λ p.
+            [])) r.1.items) }
         ensures parts { IfOk result (λ r. HaveAllParts r.1.items) }
         ensures opened { IfOk result (λ r. HasOpened First r.0) }
         ensures bad { (result ≡ Err Fault.BadSettings) ↔ ¬ MayOpen tellers }
@@ -113,7 +118,7 @@ impl Hub {
         };
         let words = Snapshot::of(first);
         let all = participants(alloc, &settings, boards)?;
-        let outset = Outset {
+        let outset = InitialState {
             words,
             all: Snapshot::of(&all),
         };

@@ -1,7 +1,7 @@
 //! Sweeps of a hub: what a participant does by itself about all its transfers.
 ghost use Rattle.std.specs.Prelude.{◌≡◌, true};
 ghost use Rattle.inst_settings.specs.Settings.{is_participant};
-ghost use Rattle.inst_hub.specs.Calls.{IsOf, KnowsMore};
+ghost use Rattle.inst_hub.specs.Calls.{IsTellerOf, KnowsMore};
 ghost use Rattle.inst_hub.specs.Sweeping.{IsSweep};
 
 use super::Hub;
@@ -11,12 +11,13 @@ use std::alloc::AllocError;
 use std::sync::Wait;
 
 impl Hub {
-    /// Under the lock of the participant `who`, for which it waits: each own transfer with nothing booked expires if it
-    /// may at this reading, in order of deadline and place; each forwarded one with nothing booked is learnt, in order
-    /// of arrival; and of each other originator, by number, the places from 0 to the first unused one are looked at, and
-    /// what is new there comes. How many of these were new, at most 2^32 - 1. Refused memory ends it: what
-    /// was done before stands, and nothing is done after it. The cost grows with the number of the live transfers that
-    /// came to the participant, and of all places in use.
+    /// Under the lock of the participant `who`, for which it waits: each own transfer with nothing
+    /// booked expires if it may at this reading, in order of deadline and place; each forwarded one
+    /// with nothing booked is learnt, in order of arrival; and of each other originator, by number,
+    /// the places from 0 to the first unused one are looked at, and what is new there comes. How
+    /// many of these were new, at most 2^32 - 1. Refused memory ends it: what was done before
+    /// stands, and nothing is done after it. The cost grows with the number of the live transfers
+    /// that came to the participant, and of all places in use.
     pub fn sweep<R: Wait>(
         &self,
         rt: &R,
@@ -24,9 +25,9 @@ impl Hub {
         who: u8,
         at: Moment,
     ) -> Result<u32, AllocError>
-        requires of { IsOf self.now teller.old }
+        requires of { IsTellerOf self.now teller.old }
         requires participant { is_participant self.now.settings who ≡ true }
-        ensures of { IsOf self.now teller.new }
+        ensures of { IsTellerOf self.now teller.new }
         ensures knows { KnowsMore teller.old teller.new }
         ensures sweep { IsSweep self.now teller.old who at result teller.new }
     {

@@ -4,7 +4,7 @@ ghost use Rattle.inst_hub.specs.Calls.{AreOf};
 ghost use Rattle.inst_hub.specs.Opening.{HaveAllParts};
 ghost use Rattle.inst_close.specs.Closing.{IsOpenedSo};
 
-use crate::asking::{ACCEPTED, Deed, Line, Told, play_by};
+use crate::asking::{ACCEPTED, Deed, ExpectedCall, Line, play_by};
 use crate::close::closing::{closed, opened, opened_again};
 use crate::comparing::same;
 use crate::tellers::played;
@@ -20,7 +20,8 @@ use std::sync::Wait;
 /// What is paid in the openings, one after the other.
 const IDS: [&str; 10] = ["T1", "T2", "T3", "T4", "T5", "T6", "T7", "T8", "T9", "T10"];
 
-/// The books of this opening, in which participant 0 gets 1,000 cents and pays 300 of them to participant 1.
+/// The books of this opening, in which participant 0 gets 1,000 cents and pays 300 of them to
+/// participant 1.
 fn paid<R: Wait + Abort>(
     rt: &R,
     alloc: Global,
@@ -32,9 +33,19 @@ fn paid<R: Wait + Abort>(
     requires opened { (O : Opening) × IsOpenedSo O opened.0 }
 {
     let lines = [
-        Line(0, Deed::Fund(id, 1_000), 0, Told::Done),
-        Line(0, Deed::Submit(id, 300, 1_000), 1_000, Told::Taken(true)),
-        Line(1, Deed::Confirm(id), 2_000, Told::State(ACCEPTED, true)),
+        Line(0, Deed::Fund(id, 1_000), 0, ExpectedCall::Done),
+        Line(
+            0,
+            Deed::Submit(id, 300, 1_000),
+            1_000,
+            ExpectedCall::Taken(true),
+        ),
+        Line(
+            1,
+            Deed::Confirm(id),
+            2_000,
+            ExpectedCall::State(ACCEPTED, true),
+        ),
     ];
     let (hub, mut tellers) = opened;
     let played = play_by(rt, &hub, &mut tellers, 0, &lines);
@@ -71,8 +82,8 @@ fn counted(journal: &Journal) -> Kept {
     for event in journal.events() {
         match event {
             Event::Opened => counted.opened = counted.opened.saturating_add(1),
-            Event::Funded { cents, .. } => {
-                counted.funded = counted.funded.saturating_add(cents.get());
+            Event::Funded(funding) => {
+                counted.funded = counted.funded.saturating_add(funding.cents.get());
             }
             Event::Taken { .. } => counted.taken = counted.taken.saturating_add(1),
             Event::Forwarded { .. } => counted.forwarded = counted.forwarded.saturating_add(1),
@@ -92,17 +103,18 @@ const FIRST_AND_LAST: [Line<'static>; 2] = [
         0,
         Deed::Investigate("T1"),
         2_000,
-        Told::State(ACCEPTED, false),
+        ExpectedCall::State(ACCEPTED, false),
     ),
     Line(
         0,
         Deed::Investigate("T10"),
         2_000,
-        Told::State(ACCEPTED, false),
+        ExpectedCall::State(ACCEPTED, false),
     ),
 ];
 
-/// Compares what both participants have, what all sum to, and what the originator is told in the next opening.
+/// Compares what both participants have, what all sum to, and what the originator is told in the
+/// next opening.
 fn loses_nothing<R: Wait + Abort>(rt: &R, alloc: Global, books: &Books) -> Result<(), Fault> {
     let originator = Kept {
         opened: 9,

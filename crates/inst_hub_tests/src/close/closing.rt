@@ -1,11 +1,12 @@
-//! A hub of two tellers is closed with one transfer confirmed and one pending, and another opens from its books.
+//! A hub of two tellers is closed with one transfer confirmed and one pending, and another opens
+//! from its books.
 ghost use Rattle.std.specs.Prelude.{IfOk};
 ghost use Rattle.inst_model.specs.Opening.{Opening};
 ghost use Rattle.inst_hub.specs.Calls.{AreOf};
 ghost use Rattle.inst_hub.specs.Opening.{HaveAllParts};
 ghost use Rattle.inst_close.specs.Closing.{IsOpenedSo};
 
-use crate::asking::{ACCEPTED, Deed, Line, SUBMITTED, Told, play_by};
+use crate::asking::{ACCEPTED, Deed, ExpectedCall, Line, SUBMITTED, play_by};
 use crate::comparing::same;
 use crate::tellers::played;
 use inst_base::{Code, Fault};
@@ -52,7 +53,7 @@ const SECOND: [Line<'static>; 1] = [Line(
     0,
     Deed::Submit("T2", 5_000, 1_000),
     1_000,
-    Told::Taken(true),
+    ExpectedCall::Taken(true),
 )];
 
 /// The first is confirmed.
@@ -60,10 +61,11 @@ const CONFIRMED: [Line<'static>; 1] = [Line(
     1,
     Deed::Confirm("T1"),
     2_000,
-    Told::State(ACCEPTED, true),
+    ExpectedCall::State(ACCEPTED, true),
 )];
 
-/// Participant 0 submits two transfers, and the first is confirmed through the second teller: the tickets of both.
+/// Participant 0 submits two transfers, and the first is confirmed through the second teller: the
+/// tickets of both.
 fn one_confirmed<R: Wait + Abort>(
     rt: &R,
     hub: &Hub,
@@ -80,7 +82,8 @@ fn one_confirmed<R: Wait + Abort>(
     first.zip(second).ok_or(Fault::UnknownTransfer)
 }
 
-/// The books of a hub in which one transfer was confirmed and one stayed pending, with the tickets of both.
+/// The books of a hub in which one transfer was confirmed and one stayed pending, with the tickets
+/// of both.
 fn first_books<R: Wait + Abort>(rt: &R, alloc: Global) -> Result<(Books, (Ticket, Ticket)), Fault> {
     let (hub, mut tellers) = opened(alloc)?;
     let tickets = one_confirmed(rt, &hub, &mut tellers);
@@ -126,7 +129,7 @@ const CONFIRMED_LATER: [Line<'static>; 1] = [Line(
     1,
     Deed::Confirm("T2"),
     2_000,
-    Told::State(ACCEPTED, true),
+    ExpectedCall::State(ACCEPTED, true),
 )];
 
 /// Compares what its confirmation in the next opening tells, and the books of that opening.
@@ -158,8 +161,13 @@ fn joined(alloc: Global, books: &Books, code: &str) -> Result<(Hub, Vec<Teller>)
 
 /// The money of the first participant and of the one that joined.
 const MONEY: [Line<'static>; 2] = [
-    Line(0, Deed::Position, 1_002, Told::Money(30_000, 5_000, 25_000)),
-    Line(3, Deed::Position, 1_002, Told::Money(0, 0, 0)),
+    Line(
+        0,
+        Deed::Position,
+        1_002,
+        ExpectedCall::Money(30_000, 5_000, 25_000),
+    ),
+    Line(3, Deed::Position, 1_002, ExpectedCall::Money(0, 0, 0)),
 ];
 
 #[test]

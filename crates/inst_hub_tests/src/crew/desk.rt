@@ -4,7 +4,7 @@ ghost use Rattle.inst_desk.specs.Desk.{IsHandOf, parts_of};
 ghost use Rattle.inst_desk.specs.declared.desk.opening.TheConstants.{MOST_HANDS};
 
 use inst_base::{Fault, Moment};
-use inst_command::{Ask, Command};
+use inst_command::{Ask, Command, Query};
 use inst_desk::{Desk, Hand, Job, Tally};
 use std::alloc::Global;
 use std::sync::Wait;
@@ -12,7 +12,7 @@ use std::sync::Wait;
 fn job(number: u32) -> Result<Job, Fault> {
     let ask = Ask {
         who: 0,
-        command: Command::Position,
+        command: Command::Query(Query::Position),
         at: Moment::new(0, 1_000)?,
     };
     Ok(Job { number, ask })
@@ -133,7 +133,8 @@ fn open_for_two(alloc: Global) -> Result<(Desk, Hand, Hand), Fault>
     Ok((desk, first, second))
 }
 
-// The first hand only puts, and the second one only takes: it gets each job, and no job comes back while there is room.
+// The first hand only puts, and the second one only takes: it gets each job, and no job comes back
+// while there is room.
 #[test]
 fn desk_of_two_hands(rt: HostRuntime) -> Result<(), Fault> {
     let (desk, mut puts, mut takes) = open_for_two(rt.alloc())?;

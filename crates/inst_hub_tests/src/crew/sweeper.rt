@@ -1,7 +1,7 @@
 //! A crew keeps what it saw, and its sweeper sweeps.
 ghost use Rattle.std.specs.Prelude.{◌≡◌, ◌<◌, IfOk, length};
 ghost use Rattle.inst_desk.specs.Desk.{AreHandsOf};
-ghost use Rattle.inst_hub.specs.Calls.{IsOf, AreOf};
+ghost use Rattle.inst_hub.specs.Calls.{IsTellerOf, AreOf};
 ghost use Rattle.inst_crew.specs.Crew.{MaySweep};
 
 use crate::asking::{Deed, answer, asked};
@@ -21,7 +21,7 @@ use std::thread::Threads;
 
 /// One sweep of participant 0 at 11000.
 fn sweep(hub: &Hub, teller: Teller) -> Result<Sweep, Fault>
-    requires { IsOf hub.now teller }
+    requires { IsTellerOf hub.now teller }
     ensures { IfOk result (MaySweep hub.now) }
 {
     if !hub.settings().has_participant(0) {
@@ -40,8 +40,8 @@ fn first_seen(crew: &Crew) -> Result<(Ticket, State), Fault> {
     crew.states.first().copied().ok_or(Fault::UnknownTransfer)
 }
 
-/// Compares what the crew saw of its one transfer, and what the sweeper's teller sees of it after a sweep beside another
-/// crew.
+/// Compares what the crew saw of its one transfer, and what the sweeper's teller sees of it after a
+/// sweep beside another crew.
 fn swept<R: Threads + Wait + Sync + Abort>(
     rt: &R,
     alloc: Global,
@@ -78,7 +78,7 @@ fn submitted_and_swept<R: Threads + Wait + Sync + Abort>(
 ) -> Result<(), Fault>
     requires one { length tellers.items ≡ 1 }
     requires tellers { AreOf hub.now tellers.items }
-    requires second { IsOf hub.now second }
+    requires second { IsTellerOf hub.now second }
 {
     let sweep = sweep(hub, second)?;
     let submission = asked(0, Deed::Submit("T1", 20_000, 1_000), 1_000)?;

@@ -1,4 +1,5 @@
-//! Two threads truly run at once: the one that is in the lock of participant 0 waits until the other is in that of 2.
+//! Two threads truly run at once: the one that is in the lock of participant 0 waits until the
+//! other is in that of 2.
 ghost use Rattle.std.specs.Prelude.{◌≡◌, length};
 ghost use Rattle.inst_hub.specs.Calls.{AreOf};
 

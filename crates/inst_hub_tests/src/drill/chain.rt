@@ -29,7 +29,8 @@ fn expected(alloc: Global) -> Result<Vec<u8>, Fault> {
     Ok(lines)
 }
 
-/// Both sides have the transfer once, over 100 cents, with one outcome, and the same: whether it is accepted.
+/// Both sides have the transfer once, over 100 cents, with one outcome, and the same: whether it is
+/// accepted.
 fn is_accepted(originator: Kept, beneficiary: Kept) -> Option<bool> {
     let accepted = originator.accepted;
     let expected = Kept {
@@ -50,7 +51,8 @@ fn is_accepted(originator: Kept, beneficiary: Kept) -> Option<bool> {
     Some(accepted == 1)
 }
 
-/// How many transfers of an opening were accepted; `None` where the books of one aren't as they are to be.
+/// How many transfers of an opening were accepted; `None` where the books of one aren't as they are
+/// to be.
 fn accepted_in(alloc: Global, books: &Books, opening: u32) -> Result<Option<u64>, Fault> {
     let mut accepted = 0u64;
     if books.settings().participants() < 2 {
@@ -70,8 +72,8 @@ fn accepted_in(alloc: Global, books: &Books, opening: u32) -> Result<Option<u64>
     Ok(Some(accepted))
 }
 
-/// How many transfers were accepted over all openings, and the lines that say so of each; `None` where the books of one
-/// aren't as they are to be.
+/// How many transfers were accepted over all openings, and the lines that say so of each; `None`
+/// where the books of one aren't as they are to be.
 fn accepted_in_all(alloc: Global, books: &Books) -> Result<Option<(u64, Vec<u8>)>, Fault> {
     let mut all = 0u64;
     let mut lines = Vec::new(alloc);
@@ -87,8 +89,8 @@ fn accepted_in_all(alloc: Global, books: &Books) -> Result<Option<(u64, Vec<u8>)
     Ok(Some((all, lines)))
 }
 
-/// What the books of both sides are to be, where so much was paid: how often they were opened from, what was funded,
-/// and their positions.
+/// What the books of both sides are to be, where so much was paid: how often they were opened from,
+/// what was funded, and their positions.
 fn are_of(books: &Books, paid: u64) -> bool {
     if books.settings().participants() < 2 {
         return false;

@@ -63,7 +63,8 @@ impl Kept {
     }
 }
 
-/// What the book has of the transfer of a drill with this number, which is counted over all openings from 1.
+/// What the book has of the transfer of a drill with this number, which is counted over all
+/// openings from 1.
 pub(crate) fn kept_of(alloc: Global, journal: &Journal, number: u32) -> Result<Kept, Fault> {
     let text = format!(in alloc; "D{number}")?;
     let id = Ident::new(text.as_str())?;
@@ -87,7 +88,7 @@ pub(crate) fn funded(journal: &Journal) -> (u32, u64) {
     for event in journal.events() {
         match event {
             Event::Opened => opened = opened.saturating_add(1),
-            Event::Funded { cents, .. } => funded = funded.saturating_add(cents.get()),
+            Event::Funded(funding) => funded = funded.saturating_add(funding.cents.get()),
             _ => {}
         }
     }

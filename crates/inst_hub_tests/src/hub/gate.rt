@@ -1,5 +1,6 @@
-//! A call that has one participant's lock holds up other calls of that participant, and nobody else.
-ghost use Rattle.inst_hub.specs.Calls.{IsOf, AreOf};
+//! A call that has one participant's lock holds up other calls of that participant, and nobody
+//! else.
+ghost use Rattle.inst_hub.specs.Calls.{IsTellerOf, AreOf};
 
 use crate::asking::{Deed, answer};
 use crate::comparing::same;
@@ -18,7 +19,8 @@ use std::thread::{Threads, join, yield_now};
 /// How many turns a gate lets others run after all that can be done meanwhile is done.
 const LINGERS: u32 = 1_000;
 
-/// A gate that waits inside the lock of participant 0 until two others are done, and notes what it saw.
+/// A gate that waits inside the lock of participant 0 until two others are done, and notes what it
+/// saw.
 #[derive(Drop)]
 struct Waits {
     /// The gate and the three other threads are here.
@@ -75,7 +77,8 @@ struct Passed {
     overtaken: bool,
 }
 
-/// What it is to see: it was passed once, and the others were answered meanwhile, but for the one that waits for its lock.
+/// What it is to see: it was passed once, and the others were answered meanwhile, but for the one
+/// that waits for its lock.
 const PASSED: Passed = Passed {
     passes: 1,
     who: 0,
@@ -99,7 +102,7 @@ impl Gate for Waits {
 
 /// Asks the position of participant 0, with the gate passed inside its lock.
 fn held<R: Wait>(rt: &R, hub: &Hub, teller: &mut Teller, gate: &Waits) -> Result<(), Fault>
-    requires { IsOf hub.now teller.old }
+    requires { IsTellerOf hub.now teller.old }
 {
     answer(rt, hub, teller, 0, Deed::Position, 1_000, gate)?;
     Ok(())
@@ -114,7 +117,7 @@ fn answered<R: Wait>(
     gate: &Waits,
     done: &Start,
 ) -> Result<(), Fault>
-    requires { IsOf hub.now teller.old }
+    requires { IsTellerOf hub.now teller.old }
 {
     gate.begin();
     answer(rt, hub, teller, who, Deed::Position, 1_000, &Ungated)?;
@@ -139,7 +142,7 @@ fn apart<R: Threads + Wait + Sync>(
     ticket: &Ticket,
     gate: &Waits,
 ) -> Result<State, Fault>
-    requires { IsOf hub.now asker.old }
+    requires { IsTellerOf hub.now asker.old }
 {
     let (answered, state) = join(
         rt,
@@ -149,7 +152,8 @@ fn apart<R: Threads + Wait + Sync>(
     answered.map(|_| state)
 }
 
-/// What is seen of the transfer while participant 0 is asked by one thread, and participant 2 by another.
+/// What is seen of the transfer while participant 0 is asked by one thread, and participant 2 by
+/// another.
 fn meanwhile<R: Threads + Wait + Sync>(
     rt: &R,
     hub: &Hub,
@@ -159,19 +163,20 @@ fn meanwhile<R: Threads + Wait + Sync>(
     ticket: &Ticket,
     gate: &Waits,
 ) -> Result<State, Fault>
-    requires { IsOf hub.now first.old × IsOf hub.now second.old }
+    requires { IsTellerOf hub.now first.old × IsTellerOf hub.now second.old }
 {
     let (queued, state) = join(
         rt,
         || answered(rt, hub, first, 0, gate, &gate.queued),
         || -> Result<State, Fault>
-            requires { IsOf hub.now second.now }
+            requires { IsTellerOf hub.now second.now }
         { apart(rt, hub, second, third, ticket, gate) },
     );
     queued.and(state)
 }
 
-/// Compares what is seen of a transfer while one of four tellers holds the lock of participant 0, and what its gate saw.
+/// Compares what is seen of a transfer while one of four tellers holds the lock of participant 0,
+/// and what its gate saw.
 fn lets_through<R: Threads + Wait + Sync + Abort>(
     rt: &R,
     hub: &Hub,
@@ -188,7 +193,7 @@ fn lets_through<R: Threads + Wait + Sync + Abort>(
         rt,
         || held(rt, hub, &mut first, &gate),
         || -> Result<State, Fault>
-            requires { IsOf hub.now second × IsOf hub.now third }
+            requires { IsTellerOf hub.now second × IsTellerOf hub.now third }
         {
             meanwhile(
                 rt,

@@ -1,7 +1,8 @@
-//! One thread confirms transfers at the last moment in time while another investigates them at the deadline.
-ghost use Rattle.inst_hub.specs.Calls.{IsOf, AreOf};
+//! One thread confirms transfers at the last moment in time while another investigates them at the
+//! deadline.
+ghost use Rattle.inst_hub.specs.Calls.{IsTellerOf, AreOf};
 
-use crate::asking::{Deed, Line, Told, answer, play};
+use crate::asking::{Deed, ExpectedCall, Line, answer, play};
 use crate::comparing::same;
 use crate::hub::start::Start;
 use crate::tellers::{last, last_two};
@@ -28,8 +29,8 @@ fn name(alloc: Global, index: u16) -> Result<Ident, Fault> {
 
 /// Participant 0 is funded, and submits all.
 fn submit_all<R: Wait>(rt: &R, alloc: Global, hub: &Hub, teller: &mut Teller) -> Result<(), Fault>
-    requires { IsOf hub.now teller.old }
-    ensures { IsOf hub.now teller.new }
+    requires { IsTellerOf hub.now teller.old }
+    ensures { IsTellerOf hub.now teller.new }
 {
     answer(rt, hub, teller, 0, Deed::Fund("F1", FUNDS), 0, &Ungated)?;
     for index in 0..TRANSFERS {
@@ -47,8 +48,8 @@ struct Count {
     timed_out: u16,
 }
 
-/// What becomes of each transfer, once both sides have started: the originator asks at this reading how it stands, and
-/// the beneficiary confirms it.
+/// What becomes of each transfer, once both sides have started: the originator asks at this reading
+/// how it stands, and the beneficiary confirms it.
 fn decide_all<R: Wait>(
     rt: &R,
     alloc: Global,
@@ -58,7 +59,7 @@ fn decide_all<R: Wait>(
     at: u64,
     start: &Start,
 ) -> Result<Count, Fault>
-    requires { IsOf hub.now teller.old }
+    requires { IsTellerOf hub.now teller.old }
 {
     start.arrive();
     if !start.wait_for(2) {
@@ -75,7 +76,7 @@ fn decide_all<R: Wait>(
             _ => Deed::Confirm(id.text()),
         };
         let (found, _) = answer(rt, hub, teller, who, deed, at, &Ungated)?;
-        let Told::State(State::Decided(outcome), _) = found else {
+        let ExpectedCall::State(State::Decided(outcome), _) = found else {
             return Err(Fault::UnknownTransfer);
         };
         match outcome {
@@ -87,7 +88,8 @@ fn decide_all<R: Wait>(
     Ok(count)
 }
 
-/// Compares what both sides are answered in two threads: how many transfers are accepted and how many time out.
+/// Compares what both sides are answered in two threads: how many transfers are accepted and how
+/// many time out.
 fn race<R: Threads + Wait + Sync + Abort>(
     rt: &R,
     alloc: Global,
@@ -95,7 +97,7 @@ fn race<R: Threads + Wait + Sync + Abort>(
     first: &mut Teller,
     second: &mut Teller,
 ) -> Result<Count, Fault>
-    requires { IsOf hub.now first.old × IsOf hub.now second.old }
+    requires { IsTellerOf hub.now first.old × IsTellerOf hub.now second.old }
 {
     let start = Start::new();
     let (investigated, confirmed) = join(
@@ -107,25 +109,37 @@ fn race<R: Threads + Wait + Sync + Abort>(
     confirmed
 }
 
-/// Compares what the originator and the beneficiary then have, where so many transfers were accepted.
+/// Compares what the originator and the beneficiary then have, where so many transfers were
+/// accepted.
 fn have_money<R: Wait + Abort>(
     rt: &R,
     hub: &Hub,
     teller: &mut Teller,
     accepted: u16,
 ) -> Result<(), Fault>
-    requires { IsOf hub.now teller.old }
+    requires { IsTellerOf hub.now teller.old }
 {
     let paid = u64::from(accepted) * 200;
     let left = FUNDS.saturating_sub(paid);
     let lines = [
-        Line(0, Deed::Position, 11_000, Told::Money(left, 0, left)),
-        Line(1, Deed::Position, 11_000, Told::Money(paid, 0, paid)),
+        Line(
+            0,
+            Deed::Position,
+            11_000,
+            ExpectedCall::Money(left, 0, left),
+        ),
+        Line(
+            1,
+            Deed::Position,
+            11_000,
+            ExpectedCall::Money(paid, 0, paid),
+        ),
     ];
     play(rt, hub, teller, &lines).map(|_| ())
 }
 
-/// All transfers are submitted, and raced for by the first two of three tellers: compares what it comes to.
+/// All transfers are submitted, and raced for by the first two of three tellers: compares what it
+/// comes to.
 fn agree<R: Threads + Wait + Sync + Abort>(
     rt: &R,
     alloc: Global,
@@ -143,7 +157,8 @@ fn agree<R: Threads + Wait + Sync + Abort>(
     have_money(rt, hub, &mut third, count.accepted)
 }
 
-// Both sides are told the same of each transfer, so they count the same, and the money is where it was decided to be.
+// Both sides are told the same of each transfer, so they count the same, and the money is where it
+// was decided to be.
 #[test]
 fn two_threads_agree(rt: HostRuntime) -> Result<(), Fault> {
     let alloc = rt.alloc();

@@ -1,8 +1,9 @@
-//! A hub that opens again from the journals of a hub in one thread, which was closed with a transfer pending.
+//! A hub that opens again from the journals of a hub in one thread, which was closed with a
+//! transfer pending.
 ghost use Rattle.std.specs.Prelude.{◌≡◌, IfOk};
 ghost use Rattle.inst_model.specs.Rows as rows;
 
-use crate::asking::{ACCEPTED, Deed, Line, Told};
+use crate::asking::{ACCEPTED, Deed, ExpectedCall, Line};
 use crate::tellers::played;
 use inst_base::Fault;
 use inst_command::Step;
@@ -52,9 +53,24 @@ fn plays<R: Wait + Abort>(rt: &R, alloc: Global, lines: &[Line<'_>]) -> Result<(
 
 /// The originator's money, the confirmation of what was pending, and the money afterwards.
 const GOES_ON: [Line<'static>; 3] = [
-    Line(0, Deed::Position, 2_000, Told::Money(49_900, 100, 49_800)),
-    Line(1, Deed::Confirm("T2"), 2_000, Told::State(ACCEPTED, true)),
-    Line(0, Deed::Position, 2_000, Told::Money(49_800, 0, 49_800)),
+    Line(
+        0,
+        Deed::Position,
+        2_000,
+        ExpectedCall::Money(49_900, 100, 49_800),
+    ),
+    Line(
+        1,
+        Deed::Confirm("T2"),
+        2_000,
+        ExpectedCall::State(ACCEPTED, true),
+    ),
+    Line(
+        0,
+        Deed::Position,
+        2_000,
+        ExpectedCall::Money(49_800, 0, 49_800),
+    ),
 ];
 
 #[test]
@@ -67,7 +83,7 @@ const SETTLED: [Line<'static>; 1] = [Line(
     0,
     Deed::Investigate("T1"),
     3_000,
-    Told::State(ACCEPTED, false),
+    ExpectedCall::State(ACCEPTED, false),
 )];
 
 // It has no place any more.

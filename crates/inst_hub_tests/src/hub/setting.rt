@@ -1,5 +1,5 @@
 //! A transfer that is submitted.
-ghost use Rattle.inst_hub.specs.Calls.{IsOf};
+ghost use Rattle.inst_hub.specs.Calls.{IsTellerOf};
 
 use crate::asking::{SUBMITTED, play};
 use inst_base::Fault;
@@ -13,8 +13,8 @@ pub(crate) fn submitted<R: Wait + Abort>(
     hub: &Hub,
     teller: &mut Teller,
 ) -> Result<Ticket, Fault>
-    requires { IsOf hub.now teller.old }
-    ensures { IsOf hub.now teller.new }
+    requires { IsTellerOf hub.now teller.old }
+    ensures { IsTellerOf hub.now teller.new }
 {
     let ticket = play(rt, hub, teller, &SUBMITTED)?;
     ticket.ok_or(Fault::UnknownTransfer)

@@ -1,7 +1,7 @@
 //! What sweeps count, and in which order they bring transfers.
-ghost use Rattle.inst_hub.specs.Calls.{IsOf, AreOf};
+ghost use Rattle.inst_hub.specs.Calls.{IsTellerOf, AreOf};
 
-use crate::asking::{Deed, Line, Told, answer, play};
+use crate::asking::{Deed, ExpectedCall, Line, answer, play};
 use crate::comparing::same;
 use crate::hub::setting::submitted;
 use crate::hub::start::Start;
@@ -22,21 +22,21 @@ const INVESTIGATED: [Line<'static>; 4] = [
         0,
         Deed::Investigate("T1"),
         10_999,
-        Told::State(State::Pending, true),
+        ExpectedCall::State(State::Pending, true),
     ),
     Line(
         0,
         Deed::Investigate("T1"),
         11_000,
-        Told::State(TIMED_OUT, true),
+        ExpectedCall::State(TIMED_OUT, true),
     ),
-    Line(0, Deed::Sweep, 11_000, Told::New(0)),
-    Line(1, Deed::Sweep, 11_000, Told::New(0)),
+    Line(0, Deed::Sweep, 11_000, ExpectedCall::New(0)),
+    Line(1, Deed::Sweep, 11_000, ExpectedCall::New(0)),
 ];
 
 /// Compares what they tell and count of a transfer that is submitted.
 fn investigates<R: Wait + Abort>(rt: &R, hub: &Hub, teller: &mut Teller) -> Result<(), Fault>
-    requires { IsOf hub.now teller.old }
+    requires { IsTellerOf hub.now teller.old }
 {
     submitted(rt, hub, teller)?;
     play(rt, hub, teller, &INVESTIGATED).map(|_| ())
@@ -50,7 +50,8 @@ fn what_an_investigation_finds_is_learnt(rt: HostRuntime) -> Result<(), Fault> {
     investigates(&rt, &hub, &mut teller)
 }
 
-/// A gate that waits inside the locks of two originators until a sweep has brought what both submitted.
+/// A gate that waits inside the locks of two originators until a sweep has brought what both
+/// submitted.
 #[derive(Drop)]
 struct Holds {
     /// Both transfers are taken, and nobody was told of them.
@@ -67,22 +68,23 @@ impl Gate for Holds {
 }
 
 /// What a sweep of participant 1 counts once both transfers are held.
-const BROUGHT: [Line<'static>; 1] = [Line(1, Deed::Sweep, 1_000, Told::New(2))];
+const BROUGHT: [Line<'static>; 1] = [Line(1, Deed::Sweep, 1_000, ExpectedCall::New(2))];
 
 /// What another counts afterwards, and what is fetched.
 const FETCHED: [Line<'static>; 2] = [
-    Line(1, Deed::Sweep, 1_000, Told::New(0)),
-    Line(1, Deed::Fetch, 1_000, Told::Came(0, 2)),
+    Line(1, Deed::Sweep, 1_000, ExpectedCall::New(0)),
+    Line(1, Deed::Fetch, 1_000, ExpectedCall::Came(0, 2)),
 ];
 
-/// Compares what a sweep of participant 1 counts once both are held, and what another counts and brings, in order.
+/// Compares what a sweep of participant 1 counts once both are held, and what another counts and
+/// brings, in order.
 fn brought<R: Wait + Abort>(
     rt: &R,
     hub: &Hub,
     teller: &mut Teller,
     gate: &Holds,
 ) -> Result<(), Fault>
-    requires { IsOf hub.now teller.old }
+    requires { IsTellerOf hub.now teller.old }
 {
     gate.held.wait_for(2);
     let first = play(rt, hub, teller, &BROUGHT);
@@ -90,9 +92,10 @@ fn brought<R: Wait + Abort>(
     first.and(play(rt, hub, teller, &FETCHED)).map(|_| ())
 }
 
-/// Submits a transfer of the participant, which its beneficiary isn't told of before the sweep is done.
+/// Submits a transfer of the participant, which its beneficiary isn't told of before the sweep is
+/// done.
 fn held<R: Wait>(rt: &R, hub: &Hub, teller: &mut Teller, who: u8, gate: &Holds) -> Result<(), Fault>
-    requires { IsOf hub.now teller.old }
+    requires { IsTellerOf hub.now teller.old }
 {
     let deed = Deed::Submit("T1", 20_000, 1_000);
     answer(rt, hub, teller, who, deed, 1_000, gate)?;
@@ -107,7 +110,7 @@ fn both<R: Threads + Wait + Sync>(
     second: &mut Teller,
     gate: &Holds,
 ) -> Result<(), Fault>
-    requires { IsOf hub.now first.old × IsOf hub.now second.old }
+    requires { IsTellerOf hub.now first.old × IsTellerOf hub.now second.old }
 {
     let (first, second) = join(
         rt,
@@ -119,8 +122,8 @@ fn both<R: Threads + Wait + Sync>(
 
 /// Participants 0 and 2 have money.
 const FUNDED: [Line<'static>; 2] = [
-    Line(0, Deed::Fund("F1", 50_000), 0, Told::Done),
-    Line(2, Deed::Fund("F1", 50_000), 0, Told::Done),
+    Line(0, Deed::Fund("F1", 50_000), 0, ExpectedCall::Done),
+    Line(2, Deed::Fund("F1", 50_000), 0, ExpectedCall::Done),
 ];
 
 /// Compares what the sweeps of the last of three tellers count and bring.
@@ -142,13 +145,14 @@ fn delivers<R: Threads + Wait + Sync + Abort>(
         rt,
         || brought(rt, hub, &mut third, &gate),
         || -> Result<(), Fault>
-            requires { IsOf hub.now first × IsOf hub.now second }
+            requires { IsTellerOf hub.now first × IsTellerOf hub.now second }
         { both(rt, hub, &mut first, &mut second, &gate) },
     );
     submitted.and(brought)
 }
 
-// A sweep gets what a beneficiary wasn't told of yet, by the originators' numbers, and what follows then brings nothing.
+// A sweep gets what a beneficiary wasn't told of yet, by the originators' numbers, and what follows
+// then brings nothing.
 #[test]
 fn sweep_delivers(rt: HostRuntime) -> Result<(), Fault> {
     let alloc = rt.alloc();
@@ -156,17 +160,18 @@ fn sweep_delivers(rt: HostRuntime) -> Result<(), Fault> {
     delivers(&rt, &hub, &mut tellers)
 }
 
-/// Sweeps of participant 0 before the deadline and at it, of participant 1, and of participant 0 again.
+/// Sweeps of participant 0 before the deadline and at it, of participant 1, and of participant 0
+/// again.
 const EXPIRED: [Line<'static>; 4] = [
-    Line(0, Deed::Sweep, 10_999, Told::New(0)),
-    Line(0, Deed::Sweep, 11_000, Told::New(1)),
-    Line(1, Deed::Sweep, 11_000, Told::New(1)),
-    Line(0, Deed::Sweep, 11_000, Told::New(0)),
+    Line(0, Deed::Sweep, 10_999, ExpectedCall::New(0)),
+    Line(0, Deed::Sweep, 11_000, ExpectedCall::New(1)),
+    Line(1, Deed::Sweep, 11_000, ExpectedCall::New(1)),
+    Line(0, Deed::Sweep, 11_000, ExpectedCall::New(0)),
 ];
 
 /// Compares what they count, and how the transfer then stands.
 fn times_out<R: Wait + Abort>(rt: &R, hub: &Hub, teller: &mut Teller) -> Result<(), Fault>
-    requires { IsOf hub.now teller.old }
+    requires { IsTellerOf hub.now teller.old }
 {
     let ticket = submitted(rt, hub, teller)?;
     play(rt, hub, teller, &EXPIRED)?;
@@ -181,16 +186,31 @@ fn sweeps_time_out_and_learn(rt: HostRuntime) -> Result<(), Fault> {
     times_out(&rt, &hub, &mut teller)
 }
 
-/// Three transfers, the first of which is due last, with sweeps of participant 0 before the last deadline and at it, and
-/// of participant 1.
+/// Three transfers, the first of which is due last, with sweeps of participant 0 before the last
+/// deadline and at it, and of participant 1.
 const DUE: [Line<'static>; 7] = [
-    Line(0, Deed::Fund("F1", 50_000), 0, Told::Done),
-    Line(0, Deed::Submit("T1", 100, 1_500), 1_000, Told::Taken(true)),
-    Line(0, Deed::Submit("T2", 100, 1_000), 1_000, Told::Taken(true)),
-    Line(0, Deed::Submit("T3", 100, 1_000), 1_000, Told::Taken(true)),
-    Line(0, Deed::Sweep, 11_499, Told::New(2)),
-    Line(0, Deed::Sweep, 11_500, Told::New(1)),
-    Line(1, Deed::Sweep, 11_500, Told::New(3)),
+    Line(0, Deed::Fund("F1", 50_000), 0, ExpectedCall::Done),
+    Line(
+        0,
+        Deed::Submit("T1", 100, 1_500),
+        1_000,
+        ExpectedCall::Taken(true),
+    ),
+    Line(
+        0,
+        Deed::Submit("T2", 100, 1_000),
+        1_000,
+        ExpectedCall::Taken(true),
+    ),
+    Line(
+        0,
+        Deed::Submit("T3", 100, 1_000),
+        1_000,
+        ExpectedCall::Taken(true),
+    ),
+    Line(0, Deed::Sweep, 11_499, ExpectedCall::New(2)),
+    Line(0, Deed::Sweep, 11_500, ExpectedCall::New(1)),
+    Line(1, Deed::Sweep, 11_500, ExpectedCall::New(3)),
 ];
 
 #[test]

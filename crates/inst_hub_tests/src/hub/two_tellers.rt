@@ -1,8 +1,8 @@
 //! One teller submits a transfer, and another confirms it.
 ghost use Rattle.std.specs.Prelude.{IfOk};
-ghost use Rattle.inst_hub.specs.Calls.{IsOf, AreOf};
+ghost use Rattle.inst_hub.specs.Calls.{IsTellerOf, AreOf};
 
-use crate::asking::{ACCEPTED, Deed, Line, Told, play};
+use crate::asking::{ACCEPTED, Deed, ExpectedCall, Line, play};
 use crate::comparing::same;
 use crate::hub::setting::submitted;
 use crate::tellers::last_two;
@@ -18,22 +18,27 @@ const CONFIRMED: [Line<'static>; 1] = [Line(
     1,
     Deed::Confirm("T1"),
     2_000,
-    Told::State(ACCEPTED, true),
+    ExpectedCall::State(ACCEPTED, true),
 )];
 
 /// What participant 0 is told of its money then.
-const PAID: [Line<'static>; 1] = [Line(0, Deed::Position, 2_000, Told::Money(30_000, 0, 30_000))];
+const PAID: [Line<'static>; 1] = [Line(
+    0,
+    Deed::Position,
+    2_000,
+    ExpectedCall::Money(30_000, 0, 30_000),
+)];
 
-/// What both see: the first when it has submitted, the second when it has confirmed, and the first before and after it
-/// meets the second.
+/// What both see: the first when it has submitted, the second when it has confirmed, and the first
+/// before and after it meets the second.
 fn see<R: Wait + Abort>(
     rt: &R,
     hub: &Hub,
     first: &mut Teller,
     second: &mut Teller,
 ) -> Result<[State; 4], Fault>
-    requires { IsOf hub.now first.old × IsOf hub.now second.old }
-    ensures { IfOk result (λ r. IsOf hub.now second.new) }
+    requires { IsTellerOf hub.now first.old × IsTellerOf hub.now second.old }
+    ensures { IfOk result (λ r. IsTellerOf hub.now second.new) }
 {
     let ticket = submitted(rt, hub, first)?;
     let submitted = first.peek(&ticket);

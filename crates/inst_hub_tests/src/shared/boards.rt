@@ -1,5 +1,5 @@
-//! What no contract says: that a peek loads, that two boards of one table see the same words, and that a
-//! hub opens with so many tellers.
+//! What no contract says: that a peek loads, that two boards of one table see the same words, and
+//! that a hub opens with so many tellers.
 ghost use Rattle.std.specs.Prelude.{◌≡◌, ◌≤◌, IfOk, length, slice_get, Some};
 ghost use Rattle.inst_board.specs.declared.about.About.TheVariants.{Opened};
 ghost use Rattle.inst_board.specs.declared.about.Fact.{Fact};
@@ -11,10 +11,10 @@ ghost use Rattle.inst_cell.specs.Seen.{board_of};
 
 use crate::comparing::{same, same_at};
 use inst_base::{Cents, Code, Fault, Ident, Moment, Reason};
-use inst_board::{Board, Glance, Look, Place, Wish};
+use inst_board::{Board, Look, PlaceState, Wish};
 use inst_cell::{MOST_TELLERS, SharedBoard, Sight};
-use inst_command::{Outcome, State};
-use inst_settings::{Numbers, Settings};
+use inst_command::{Outcome, Place, State};
+use inst_settings::{HubParameters, Settings};
 use inst_terms::Terms;
 use std::alloc::Global;
 use std::process::Abort;
@@ -24,11 +24,11 @@ fn settings(alloc: Global, margin: u32) -> Result<Settings, Fault>
     ensures { IfOk result (λ s. (participants s ≡ 2) × (s.places ≡ 2)) }
 {
     let codes = [Code::new("AAAADEFF")?, Code::new("BBBBFRPP")?];
-    let numbers = Numbers {
+    let numbers = HubParameters {
         places: 2,
         fundings: 4,
         margin,
-        ..Numbers::DEFAULT
+        ..HubParameters::DEFAULT
     };
     Settings::check(codes.to_vec(alloc)?, numbers)
 }
@@ -47,7 +47,8 @@ fn terms() -> Result<Terms, Fault>
 /// Both boards of a hub of two.
 fn both(mut boards: Vec<SharedBoard>) -> (SharedBoard, SharedBoard)
     requires { length boards.items ≡ 2 }
-    ensures { (slice_get boards.items 0 ≡ Some result.0) × (slice_get boards.items 1 ≡ Some result.1) }
+    ensures { (slice_get boards.items 0 ≡ Some result.0)
+        × (slice_get boards.items 1 ≡ Some result.1) }
 {
     let second = boards.pop();
     let first = boards.pop();
@@ -83,7 +84,8 @@ fn submit(board: &mut SharedBoard, place: Place, terms: &Terms, deadline: Moment
     board.open(place, deadline);
 }
 
-/// The boards of a hub of two, where the first participant's place was opened before they were dealt.
+/// The boards of a hub of two, where the first participant's place was opened before they were
+/// dealt.
 fn deal_two(
     alloc: Global,
     settings: &Settings,
@@ -115,16 +117,16 @@ fn answer(board: &mut SharedBoard, who: u8, place: Place, wish: Wish, at: Moment
 }
 
 /// What a glance shows of a place that a look shows opened.
-fn glanced(board: &mut SharedBoard, place: Place) -> Option<Glance> {
+fn glanced(board: &mut SharedBoard, place: Place) -> Option<PlaceState> {
     match board.look(place) {
         Look::Unused => None,
-        Look::Pending(_terms, _) => Some(board.glance(place)),
-        Look::Decided(_terms, _) => Some(board.glance(place)),
+        Look::Pending(_terms, _) => Some(board.place_state(place)),
+        Look::Decided(_terms, _) => Some(board.place_state(place)),
     }
 }
 
-/// What a caller sees before and after the beneficiary's wish at the reading, which it isn't told of, and
-/// how the transfer stands then.
+/// What a caller sees before and after the beneficiary's wish at the reading, which it isn't told
+/// of, and how the transfer stands then.
 fn seen_over(
     first: &mut SharedBoard,
     second: &mut SharedBoard,
@@ -132,7 +134,8 @@ fn seen_over(
     wish: Wish,
     at: u64,
 ) -> Result<(State, Option<Outcome>, State), Fault>
-    requires two { (participants (settings_of first.old) ≡ 2) × ((settings_of first.old).places ≡ 2) }
+    requires two { (participants (settings_of first.old) ≡ 2)
+        × ((settings_of first.old).places ≡ 2) }
     requires roles { has_role first.old 0 × has_role second.old 1 }
     requires nothing { (f : Fact) → ¬ knows first.old f }
     requires one { AtOneTable first.old (board_of sight.old) }
@@ -200,7 +203,7 @@ fn nothing_is_accepted_in_the_margin(rt: HostRuntime) -> Result<(), Fault> {
 }
 
 /// What a look and a glance show.
-fn both_shown(board: &mut SharedBoard, place: Place) -> (Look, Option<Glance>) {
+fn both_shown(board: &mut SharedBoard, place: Place) -> (Look, Option<PlaceState>) {
     (board.look(place), glanced(board, place))
 }
 
@@ -223,11 +226,11 @@ fn both_decide(
     );
     let pending = (
         Look::Pending(*terms, deadline),
-        Some(Glance::Pending(deadline)),
+        Some(PlaceState::Pending(deadline)),
     );
     let decided = (
         Look::Decided(*terms, Outcome::Accepted),
-        Some(Glance::Decided(Outcome::Accepted)),
+        Some(PlaceState::Decided(Outcome::Accepted)),
     );
     same(rt, found, (pending, Some(Outcome::Accepted), decided));
     Ok(())

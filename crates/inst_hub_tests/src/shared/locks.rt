@@ -1,5 +1,5 @@
-//! What no clause says: that a take comes back, at once or when the lock is given back, with the value that was left
-//! there, and that nothing is lost where two threads take one lock in turn.
+//! What no clause says: that a take comes back, at once or when the lock is given back, with the
+//! value that was left there, and that nothing is lost where two threads take one lock in turn.
 ghost use Rattle.std.specs.Prelude.{◌≡◌, ℕ, ◌<◌, IfOk, List};
 ghost use mathlib.Core.List.{IsPrefix};
 ghost use Rattle.inst_row.specs.Seated.{IsOn, IsFree, Has, HasAll, view_of};
@@ -59,8 +59,8 @@ fn open_two(alloc: Global) -> Result<(Row, Caller), AllocError>
     LockRow::open(alloc, books, &())
 }
 
-/// The guest writes itself into the book behind the lock. How many entries stood there before; `None` where
-/// memory is missing.
+/// The guest writes itself into the book behind the lock. How many entries stood there before;
+/// `None` where memory is missing.
 fn visit<R: Wait>(rt: &R, row: &Row, seat: &mut Caller, lock: usize, guest: u64) -> Option<usize>
     requires on { IsOn (row_id row.now) (key_of row.now) seat.old }
     requires lock { lock < size row.now }
@@ -105,12 +105,15 @@ fn visit_together<R: Threads + Wait + Sync>(
     one: Caller,
     two: Caller,
 ) -> ((Caller, bool), (Caller, bool))
-    requires on { IsOn (row_id row.now) (key_of row.now) one × IsOn (row_id row.now) (key_of row.now) two }
+    requires on { IsOn (row_id row.now) (key_of row.now) one
+        × IsOn (row_id row.now) (key_of row.now) two }
     requires two { 1 < size row.now }
     requires free { IsFree one × IsFree two }
-    ensures on { IsOn (row_id row.now) (key_of row.now) result.0.0 × IsOn (row_id row.now) (key_of row.now) result.1.0 }
+    ensures on { IsOn (row_id row.now) (key_of row.now) result.0.0
+        × IsOn (row_id row.now) (key_of row.now) result.1.0 }
     ensures free { IsFree result.0.0 × IsFree result.1.0 }
-    ensures parts { ((view_of result.0.0).parts ≡ (view_of one).parts) × ((view_of result.1.0).parts ≡ (view_of two).parts) }
+    ensures parts { ((view_of result.0.0).parts ≡ (view_of one).parts)
+        × ((view_of result.1.0).parts ≡ (view_of two).parts) }
 {
     join(
         rt,
@@ -138,7 +141,8 @@ fn wait_together<R: Threads + Wait + Sync>(
     mut two: Caller,
     mut three: Caller,
 ) -> (Option<usize>, Option<usize>)
-    requires on { IsOn (row_id row.now) (key_of row.now) two × IsOn (row_id row.now) (key_of row.now) three }
+    requires on { IsOn (row_id row.now) (key_of row.now) two
+        × IsOn (row_id row.now) (key_of row.now) three }
     requires two { 1 < size row.now }
     requires free { IsFree two × IsFree three }
 {
@@ -157,7 +161,9 @@ fn visit_in_turn<R: Threads + Wait + Clock + Sync>(
     two: Caller,
     three: Caller,
 ) -> (Option<usize>, Option<usize>)
-    requires on { IsOn (row_id row.now) (key_of row.now) one × IsOn (row_id row.now) (key_of row.now) two × IsOn (row_id row.now) (key_of row.now) three }
+    requires on { IsOn (row_id row.now) (key_of row.now) one
+        × IsOn (row_id row.now) (key_of row.now) two
+        × IsOn (row_id row.now) (key_of row.now) three }
     requires two { 1 < size row.now }
     requires free { IsFree one × IsFree two × IsFree three }
 {
@@ -166,7 +172,8 @@ fn visit_in_turn<R: Threads + Wait + Clock + Sync>(
         rt,
         move || give_late(rt, row, one, 1, book),
         move || -> (Option<usize>, Option<usize>)
-            requires on { IsOn (row_id row.now) (key_of row.now) two × IsOn (row_id row.now) (key_of row.now) three }
+            requires on { IsOn (row_id row.now) (key_of row.now) two
+                × IsOn (row_id row.now) (key_of row.now) three }
             requires two { 1 < size row.now }
             requires free { IsFree two × IsFree three }
         { wait_together(rt, row, two, three) },
@@ -230,7 +237,8 @@ fn visits(book: &Book, guest: u64) -> u64 {
     book.guests.iter().filter(|x| **x == guest).count() as u64
 }
 
-/// Both guests could always write, nobody stands in the first book, and each guest in the second one as often as it came.
+/// Both guests could always write, nobody stands in the first book, and each guest in the second
+/// one as often as it came.
 fn have_all_visits(rt: &impl Abort, written: (bool, bool), first: &Book, second: &Book) {
     let found = (first.guests.len(), visits(second, 1), visits(second, 2));
     same(rt, (written, found), ((true, true), (0, VISITS, VISITS)));

@@ -1,12 +1,15 @@
--- The names of the fields that lines have, in the order in which they are kept. Names are this hub's own choice.
+-- The names of the fields that lines have, in the order in which they are kept. Names are this
+-- hub's own choice.
 use Rattle.std.specs.Prelude.{ℕ, List, [], ◌∷◌, codes}
 use Rattle.std.specs.Str.{bytes_eq}
 use Rattle.std.specs.List.{position_or_len}
 
 abbrev pub names : List (List ℕ)
 names =
-    codes "cmd" ∷ codes "who" ∷ codes "at" ∷ codes "ref" ∷ codes "id" ∷ codes "to" ∷ codes "from" ∷ codes "cents"
-    ∷ codes "stamp" ∷ codes "reason" ∷ codes "max" ∷ codes "skip" ∷ codes "count" ∷ codes "step" ∷ codes "place" ∷ []
+    codes "cmd" ∷ codes "who" ∷ codes "at" ∷ codes "ref" ∷ codes "id" ∷ codes "to" ∷ codes "from"
+    ∷ codes "cents"
+    ∷ codes "stamp" ∷ codes "reason" ∷ codes "max" ∷ codes "skip" ∷ codes "count" ∷ codes "step"
+    ∷ codes "place" ∷ []
 
 -- the place of a name, or 15
 abbrev pub place_of : List ℕ → ℕ

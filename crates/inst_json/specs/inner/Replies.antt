@@ -5,4 +5,5 @@ use Rattle.inst_settings.specs.Settings.{same_text}
 
 -- the names of the states without a reason
 abbrev pub is_state_name : List ℕ → Bool
-is_state_name name = list_any (same_text name) (codes "pending" ∷ codes "accepted" ∷ codes "timed_out" ∷ [])
+is_state_name name =
+    list_any (same_text name) (codes "pending" ∷ codes "accepted" ∷ codes "timed_out" ∷ [])

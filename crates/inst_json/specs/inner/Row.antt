@@ -2,5 +2,5 @@
 use Rattle.std.specs.Prelude.{ℕ, ◌+◌, List, ◌++◌, length, take, drop}
 
 -- a row into which a text is put at a place
-abbrev pub put : List ℕ → ℕ → List ℕ → List ℕ
-put row at text = take at row ++ (text ++ drop (at + length text) row)
+abbrev pub row_with_text : List ℕ → ℕ → List ℕ → List ℕ
+row_with_text row at text = take at row ++ (text ++ drop (at + length text) row)

@@ -1,4 +1,5 @@
-//! Places where a line is no JSON, whatever follows. They are looked at only once a line is not plain.
+//! Places where a line is no JSON, whatever follows. They are looked at only once a line is not
+//! plain.
 ghost use Rattle.std.specs.Prelude.{◌≡◌, ◌-◌, ◌≤◌, ℕ, true, length, drop, slice_index, None};
 ghost use Rattle.json.specs.Text.{content, plain};
 ghost use Rattle.json.specs.Json.{read_key, value};
@@ -22,7 +23,8 @@ fn begins_value(byte: u8) -> bool
         || byte == b'n'
 }
 
-/// Whether the text that begins behind a quote breaks off: at the end of the line, or at a control byte.
+/// Whether the text that begins behind a quote breaks off: at the end of the line, or at a control
+/// byte.
 #[inline(always)]
 fn breaks_off(text: &[u8], from: usize) -> bool
     requires { from ≤ length text.now }
@@ -32,8 +34,8 @@ fn breaks_off(text: &[u8], from: usize) -> bool
     end >= text.len() || text[end] < 0x20
 }
 
-/// Whether neither a key nor the end of an object stands where one of them must. The end doesn't stand
-/// behind a comma.
+/// Whether neither a key nor the end of an object stands where one of them must. The end doesn't
+/// stand behind a comma.
 #[inline(never)]
 pub(crate) fn lacks_key(text: &[u8], from: usize) -> bool
     requires { from ≤ length text.now }
@@ -62,7 +64,8 @@ pub(crate) fn lacks_key(text: &[u8], from: usize) -> bool
 #[inline(never)]
 pub(crate) fn lacks_value(text: &[u8], from: usize) -> bool
     requires { from ≤ length text.now }
-    ensures { result ≡ true → (depth : ℕ) → value depth (punctuate fresh (lex between (drop from text.now))) ≡ None }
+    ensures { result ≡ true → (depth : ℕ) →
+        value depth (punctuate fresh (lex between (drop from text.now))) ≡ None }
 {
     let start = skip_space(text, from);
     if start >= text.len() {

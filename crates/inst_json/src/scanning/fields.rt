@@ -1,7 +1,7 @@
 //! What a line has under the names that lines know.
 ghost use Rattle.std.specs.Prelude.{◌≡◌, set};
 ghost use Rattle.inst_json.specs.inner.Names.{place_of};
-ghost use Rattle.inst_json.specs.LineFields.{listed, no_fields};
+ghost use Rattle.inst_json.specs.LineFields.{fields_in_order, no_fields};
 
 /// What a line has under one name.
 #[derive(Clone, Copy, Drop)]
@@ -39,7 +39,7 @@ impl<'a> Fields<'a> {
     /// No field.
     #[inline(always)]
     pub fn new() -> Fields<'a>
-        ensures { listed result ≡ no_fields }
+        ensures { fields_in_order result ≡ no_fields }
     {
         Fields {
             cmd: Field::Missing,
@@ -63,7 +63,8 @@ impl<'a> Fields<'a> {
     /// Puts what stands under a name into its field, where there is one.
     #[inline(always)]
     pub(crate) fn put(&mut self, name: &str, field: Field<'a>)
-        ensures { listed self.new ≡ set (listed self.old) (place_of name.now) field.entry }
+        ensures { fields_in_order self.new
+            ≡ set (fields_in_order self.old) (place_of name.now) field.entry }
     {
         match name {
             "cmd" => self.cmd = field,

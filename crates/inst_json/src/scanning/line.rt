@@ -1,10 +1,10 @@
 //! A whole line.
-ghost use Rattle.std.specs.Prelude.{◌≡◌, Some, None, IfSome};
+ghost use Rattle.std.specs.Prelude.{◌≡◌, Some, None};
 ghost use Rattle.std.specs.Str.{IsAscii};
 ghost use Rattle.serde_json.specs.Data.{Data};
 ghost use Rattle.serde_json.specs.Read.{read};
 ghost use Rattle.inst_json.specs.declared.scanning.form.Form.TheVariants.{Plain, Broken};
-ghost use Rattle.inst_json.specs.LineFields.{fields_of, fields_told, listed, no_fields};
+ghost use Rattle.inst_json.specs.LineFields.{fields_of, fields_told, fields_in_order, no_fields};
 
 use crate::scanning::broken::{lacks_key, lacks_value};
 use crate::scanning::fields::Fields;
@@ -12,26 +12,16 @@ use crate::scanning::form::Form;
 use crate::scanning::member::{key, scalar};
 use crate::scanning::parts::skip_space;
 
-/// The fields of a line that is a flat object of texts without escapes and whole numbers of
-/// at most 19 digits: JSON (RFC 8259) with its keys in any order and its white space, where of a key
-/// given twice the last counts. `None` for other lines, JSON or not: they are to be read in another way.
+/// Reads the fields of a line into `found`, which has none before. `Plain` if the line is a flat
+/// object of texts without escapes and whole numbers of at most 19 digits: JSON (RFC 8259) with its
+/// keys in any order and its white space; of a key given twice the last counts. `Broken` for most
+/// lines that are no JSON text, where the pass comes upon that by itself. `Other` for the rest,
+/// JSON or not, which are to be read in another way.
 #[inline(always)]
-pub fn scan<'a>(text: &'a [u8]) -> Option<Fields<'a>>
-    ensures { IfSome result (λ fields. (d : Data) × (read text.now ≡ Some d) × (fields_told fields ≡ fields_of d)) }
-{
-    let mut found: Fields<'a> = Fields::new();
-    match scan_into(text, &mut found) {
-        Form::Plain => Some(found),
-        Form::Broken | Form::Other => None,
-    }
-}
-
-/// The same into `found`, which has no field before: `Plain` only where the line is such an object.
-/// `Broken` is told of most lines that are no JSON text, where the pass comes upon that by itself.
-#[inline(always)]
-pub fn scan_into<'a>(text: &'a [u8], found: &mut Fields<'a>) -> Form
-    requires { listed found.old ≡ no_fields }
-    ensures value { result ≡ Plain → (d : Data) × (read text.now ≡ Some d) × (fields_told found.new ≡ fields_of d) }
+pub fn scan<'a>(text: &'a [u8], found: &mut Fields<'a>) -> Form
+    requires { fields_in_order found.old ≡ no_fields }
+    ensures value { result ≡ Plain →
+        (d : Data) × (read text.now ≡ Some d) × (fields_told found.new ≡ fields_of d) }
     ensures ascii { result ≡ Plain → IsAscii text.now }
     ensures broken { result ≡ Broken → read text.now ≡ None }
 {

@@ -16,7 +16,8 @@ pub(crate) fn key(text: &[u8], from: usize) -> Option<(&str, usize)>
     ensures within { IfSome result (λ p. (from < p.1) × (p.1 ≤ length text.now)) }
     ensures lexed { IfSome result (λ p. lex between (drop from text.now)
         ≡ token (string p.0.now) ∷ colon ∷ lex between (drop p.1 text.now)) }
-    ensures ascii { IfSome result (λ p. IsAscii (drop p.1 text.now) → IsAscii (drop from text.now)) }
+    ensures ascii { IfSome result (λ p. IsAscii (drop p.1 text.now) →
+        IsAscii (drop from text.now)) }
 {
     let start = skip_space(text, from);
     if start >= text.len() || text[start] != b'"' {
@@ -35,9 +36,11 @@ pub(crate) fn key(text: &[u8], from: usize) -> Option<(&str, usize)>
 pub(crate) fn scalar(text: &[u8], from: usize) -> Option<(Field<'_>, usize)>
     requires { from ≤ length text.now }
     ensures within { IfSome result (λ p. (from < p.1) × (p.1 ≤ length text.now)) }
-    ensures lexed { IfSome result (λ p. (t : Token) × (d : Data) × IsScalar t d × (data_of p.0 ≡ Some d)
+    ensures lexed { IfSome result (λ p. (t : Token) × (d : Data) × IsScalar t d
+        × (data_of p.0 ≡ Some d)
         × (lex between (drop from text.now) ≡ token t ∷ lex between (drop p.1 text.now))) }
-    ensures ascii { IfSome result (λ p. IsAscii (drop p.1 text.now) → IsAscii (drop from text.now)) }
+    ensures ascii { IfSome result (λ p. IsAscii (drop p.1 text.now) →
+        IsAscii (drop from text.now)) }
 {
     let start = skip_space(text, from);
     if start < text.len() && text[start] == b'"' {

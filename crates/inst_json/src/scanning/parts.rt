@@ -1,5 +1,6 @@
 //! The parts of a line: spaces, a plain text, a whole number.
-ghost use Rattle.std.specs.Prelude.{◌≡◌, ◌+◌, ◌<◌, ◌≤◌, ◌^◌, ◌++◌, ◌∷◌, [], true, false, not, map, length, drop, slice_index, Some, IfSome, decimal};
+ghost use Rattle.std.specs.Prelude.{◌≡◌, ◌+◌, ◌<◌, ◌≤◌, ◌^◌, ◌++◌, ◌∷◌, [], true, false, not, map};
+ghost use Rattle.std.specs.Prelude.{length, drop, slice_index, Some, IfSome, decimal};
 ghost use Rattle.std.specs.List.{prefix_len};
 ghost use Rattle.std.specs.Str.{IsAscii};
 ghost use Rattle.inst_json.specs.inner.Scalar.{is_text};
@@ -85,14 +86,17 @@ pub(crate) fn plain_end(text: &[u8], from: usize) -> usize
     plain_end_slowly(text, at)
 }
 
-/// The text that begins behind a quote, where it has no escape, and the place behind its closing quote.
+/// The text that begins behind a quote, where it has no escape, and the place behind its closing
+/// quote.
 #[inline(always)]
 pub(crate) fn string(text: &[u8], from: usize) -> Option<(&str, usize)>
     requires { from ≤ length text.now }
     ensures within { IfSome result (λ p. (from < p.1) × (p.1 ≤ length text.now)) }
     ensures value { IfSome result (λ p. content plain (drop from text.now) ≡ Some p.0.now) }
-    ensures rest { IfSome result (λ p. lex in_string (drop from text.now) ≡ lex between (drop p.1 text.now)) }
-    ensures ascii { IfSome result (λ p. IsAscii (drop p.1 text.now) → IsAscii (drop from text.now)) }
+    ensures rest { IfSome result (λ p.
+        lex in_string (drop from text.now) ≡ lex between (drop p.1 text.now)) }
+    ensures ascii { IfSome result (λ p. IsAscii (drop p.1 text.now) →
+        IsAscii (drop from text.now)) }
 {
     let end = plain_end(text, from);
     if end < text.len() && text[end] == b'"' {
@@ -147,7 +151,8 @@ pub(crate) fn whole(text: &[u8], from: usize) -> Option<(u64, usize)>
     ensures small { IfSome result (λ p. p.0 < 2 ^ 64) }
     ensures lexed { IfSome result (λ p. lex between (drop from text.now)
         ≡ token (number (decimal p.0)) ∷ lex between (drop p.1 text.now)) }
-    ensures ascii { IfSome result (λ p. IsAscii (drop p.1 text.now) → IsAscii (drop from text.now)) }
+    ensures ascii { IfSome result (λ p. IsAscii (drop p.1 text.now) →
+        IsAscii (drop from text.now)) }
 {
     let (value, end) = digits(text, from)?;
     if end < text.len() && ends_number(text[end]) {

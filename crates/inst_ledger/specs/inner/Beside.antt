@@ -1,14 +1,33 @@
 -- How a ledger's fundings are found, and what a booked transfer adds to its statement.
-use Rattle.std.specs.Prelude.{◌≡◌, ℕ, Option, Some, None, Bool, true, false, not, ◌&&◌, ◌==◌}
+use Rattle.std.specs.Prelude.{◌≡◌, ℕ, ◌+◌, Option, Some, None, Bool, true, false, not, ◌&&◌, ◌==◌}
+use Rattle.inst_command.specs.declared.funding.Funding.{Funding}
 use Rattle.inst_command.specs.declared.outcome.Outcome.{Outcome}
+use Rattle.inst_journal.specs.declared.event.Event.{Event}
+use Rattle.inst_journal.specs.declared.event.Event.TheVariants.{Funded, Defunded}
 use Rattle.inst_ledger.specs.declared.references.KeptFunding.{KeptFunding}
+use Rattle.inst_ledger.specs.declared.totals.Totals.{Totals}
 use Rattle.inst_transfers.specs.declared.transfer.Side.{Side}
 use Rattle.inst_transfers.specs.declared.transfer.Side.TheVariants.{Own, Other}
 use Rattle.inst_transfers.specs.declared.transfer.Transfer.{Transfer}
 use Rattle.inst_command.specs.declared.line.LineKind.TheVariants.{Received, Paid}
+use Rattle.inst_command.specs.declared.line.LineKind.TheVariants.{Funded as FundedKind}
+use Rattle.inst_command.specs.declared.line.LineKind.TheVariants.{Defunded as DefundedKind}
 use Rattle.inst_command.specs.declared.outcome.Outcome.TheVariants.{Accepted, Rejected, TimedOut}
 use Rattle.inst_statement.specs.declared.movement.Movement.{Movement}
 use Rattle.inst_statement.specs.KeptStatement.{Stated, MayAdd, Adds}
+
+-- the event of a fund or defund command, what it moves, and the totals with it
+abbrev pub funding_event : Bool → Funding → Event
+funding_event false funding = Funded funding
+funding_event true funding = Defunded funding
+
+abbrev pub funding_movement : Bool → ℕ → Movement
+funding_movement false cents = record { kind = FundedKind; other = None; cents = cents }
+funding_movement true cents = record { kind = DefundedKind; other = None; cents = cents }
+
+abbrev pub totals_with : Bool → ℕ → Totals → Totals
+totals_with false cents t = record { funded = t.funded + cents; defunded = t.defunded }
+totals_with true cents t = record { funded = t.funded; defunded = t.defunded + cents }
 
 -- whether both are defundings, or neither
 abbrev pub same_kind : Bool → Bool → Bool
@@ -21,10 +40,12 @@ is_funding_of is_defunding cents (Some funding) =
     same_kind funding.is_defunding is_defunding && (funding.cents == cents)
 is_funding_of is_defunding cents None = false
 
--- what an accepted transfer moves: the amount is paid to its beneficiary, or received from its originator
+-- what an accepted transfer moves: the amount is paid to its beneficiary, or received from its
+-- originator
 abbrev pub movement_by : ℕ → ℕ → Side → Movement
 movement_by from cents (Own to stamp) = record { kind = Paid; other = Some to; cents = cents }
-movement_by from cents (Other deadline) = record { kind = Received; other = Some from; cents = cents }
+movement_by from cents (Other deadline) =
+    record { kind = Received; other = Some from; cents = cents }
 
 -- what a booked transfer moves, where it is accepted
 abbrev pub movement_booked : ℕ → Transfer → Outcome → Option Movement

@@ -9,7 +9,8 @@ use Rattle.inst_ledger.specs.declared.sending.Sending.{Sending}
 
 -- whether just this is found to be sent
 abbrev pub is_sending : Submission → Option Sending → Bool
-is_sending x (Some sending) = (sending.to == x.to) && (sending.cents == x.cents) && (sending.stamp == x.stamp)
+is_sending x (Some sending) =
+    (sending.to == x.to) && (sending.cents == x.cents) && (sending.stamp == x.stamp)
 is_sending x None = false
 
 -- the amount of what was sent, where there is any
@@ -23,5 +24,5 @@ credit_of (Some forwarding) = forwarding.cents
 credit_of None = 0
 
 -- the outcome that the event books for the transfer of this key
-abbrev pub outcome_of : ℕ × List ℕ → Event → Option Outcome
-outcome_of key event = books key.0 key.1 event
+abbrev pub outcome_in_event : ℕ × List ℕ → Event → Option Outcome
+outcome_in_event key event = books key.0 key.1 event

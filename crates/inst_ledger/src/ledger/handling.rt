@@ -2,18 +2,20 @@
 ghost use Rattle.std.specs.Prelude.{◌≡◌, ◌≤◌, true, false, take, drop, length, IfOk, IsOk};
 ghost use Rattle.inst_base.specs.Fault.{IsUnlessMemory};
 ghost use Rattle.inst_command.specs.Ask.{command_fits, is_count};
-ghost use Rattle.inst_journal.specs.Reply.{is_new_funding, fund, defund, submit, answer_forwarded, confirm, reject, investigate, unread, hand_out, answered, copies};
+ghost use Rattle.inst_journal.specs.Reply.{is_new_funding, fund, defund, submit, answer_forwarded};
+ghost use Rattle.inst_journal.specs.Reply.{confirm, reject, investigate, unread, hand_out};
+ghost use Rattle.inst_journal.specs.Reply.{answered, copies};
 ghost use Rattle.inst_journal.specs.Statement.{statement_part};
 ghost use Rattle.inst_journal.specs.Sound.{Fits};
-ghost use Rattle.inst_ledger.specs.Book.{answer_to, submitted, taken, MayKeep};
+ghost use Rattle.inst_ledger.specs.Book.{answer_to, submission_result, submission_event, MayKeep};
 ghost use Rattle.inst_ledger.specs.Inbox.{entries_at};
 ghost use Rattle.inst_transfers.specs.State.{rows_of};
 ghost use Rattle.inst_transfers.specs.Held.{AreWithin};
 ghost use Rattle.inst_journal.specs.Money.{reserved, position, available};
 
 use super::Ledger;
-use inst_base::{Cents, Fault, Ident, Moment, mention};
-use inst_command::{Command, Entries, Entry, Lines, Outcome, Reply, Submission};
+use inst_base::{Fault, Ident, Moment, mention};
+use inst_command::{Command, Entries, Entry, Funding, Lines, Outcome, Query, Reply, Submission};
 use inst_journal::{Event, Handled, standing, still_pending};
 use inst_transfers::{Side, Transfer};
 use std::alloc::{AllocError, Global};
@@ -21,7 +23,8 @@ use std::alloc::{AllocError, Global};
 impl Ledger {
     /// Whether a fund or defund command is new, and no repeat; `Duplicate` and `Full` come first.
     fn is_new_funding(&self, reference: &Ident, is_repeat: bool) -> Result<bool, Fault>
-        ensures { result ≡ is_new_funding self.now.book.settings self.now.book.events reference.now is_repeat }
+        ensures { result ≡ is_new_funding self.now.book.settings self.now.book.events reference.now
+            is_repeat }
     {
         if is_repeat {
             return Ok(false);
@@ -36,30 +39,34 @@ impl Ledger {
     }
 
     /// Raises the net funding.
-    fn fund(&self, reference: Ident, cents: Cents) -> Result<Handled, Fault>
-        ensures { result ≡ fund self.now.book.settings self.now.book.events reference cents }
+    fn fund(&self, funding: &Funding) -> Result<Handled, Fault>
+        ensures { result ≡ fund self.now.book.settings self.now.book.events funding.now }
     {
-        let is_repeat = self.is_fund_repeat(&reference, cents);
-        let is_new = self.is_new_funding(&reference, is_repeat)?;
-        let event = Event::Funded { reference, cents };
+        let is_repeat = self.is_fund_repeat(funding);
+        let is_new = self.is_new_funding(&funding.reference, is_repeat)?;
+        let event = Event::Funded(*funding);
         Ok(Handled {
-            reply: Reply::Done { reference },
+            reply: Reply::Done {
+                reference: funding.reference,
+            },
             kept: is_new.then_some(event),
         })
     }
 
     /// Lowers the net funding: refused as `fund` is, and by `Shortage` above what is available.
-    fn defund(&self, reference: Ident, cents: Cents) -> Result<Handled, Fault>
-        ensures { result ≡ defund self.now.book.settings self.now.book.events reference cents }
+    fn defund(&self, funding: &Funding) -> Result<Handled, Fault>
+        ensures { result ≡ defund self.now.book.settings self.now.book.events funding.now }
     {
-        let is_repeat = self.is_defund_repeat(&reference, cents);
-        let is_new = self.is_new_funding(&reference, is_repeat)?;
-        if is_new && u128::from(cents.get()) > self.available() {
+        let is_repeat = self.is_defund_repeat(funding);
+        let is_new = self.is_new_funding(&funding.reference, is_repeat)?;
+        if is_new && u128::from(funding.cents.get()) > self.available() {
             return Err(Fault::Shortage);
         }
-        let event = Event::Defunded { reference, cents };
+        let event = Event::Defunded(*funding);
         Ok(Handled {
-            reply: Reply::Done { reference },
+            reply: Reply::Done {
+                reference: funding.reference,
+            },
             kept: is_new.then_some(event),
         })
     }
@@ -68,10 +75,12 @@ impl Ledger {
     /// `Duplicate`, `StampAhead`, `Expired`, `Full` and `Shortage`. It looks once at the table.
     pub fn is_new_submission(&self, at: Moment, submission: &Submission) -> Result<bool, Fault>
         requires { command_fits self.now.book.settings (Command.Submit submission.now) ≡ true }
-        ensures answer { submit self.now.book.settings self.now.book.who self.now.book.events at submission.now
-            ≡ submitted self.now.book.settings submission.now result }
+        ensures answer { submit self.now.book.settings self.now.book.who self.now.book.events at
+            submission.now
+            ≡ submission_result self.now.book.settings submission.now result }
         ensures fits { IfOk result (λ is_new. is_new ≡ true →
-            Fits self.now.book.settings self.now.book.who self.now.book.events (taken submission.now)) }
+            Fits self.now.book.settings self.now.book.who self.now.book.events
+            (submission_event submission.now)) }
     {
         let settings = self.settings();
         let &Submission {
@@ -109,7 +118,8 @@ impl Ledger {
     /// Reserves the amount, refused as `is_new_submission` is.
     fn submit(&self, at: Moment, submission: &Submission) -> Result<Handled, Fault>
         requires { command_fits self.now.book.settings (Command.Submit submission.now) ≡ true }
-        ensures { result ≡ submit self.now.book.settings self.now.book.who self.now.book.events at submission.now }
+        ensures { result ≡ submit self.now.book.settings self.now.book.who self.now.book.events at
+            submission.now }
     {
         let is_new = self.is_new_submission(at, submission)?;
         let &Submission {
@@ -131,8 +141,8 @@ impl Ledger {
         })
     }
 
-    /// Books what is found of a forwarded transfer, and answers `pending` where it is pending. Refused by
-    /// `UnknownTransfer` where it wasn't forwarded.
+    /// Books what is found of a forwarded transfer, and answers `pending` where it is pending.
+    /// Refused by `UnknownTransfer` where it wasn't forwarded.
     fn answer_forwarded(
         &self,
         from: u8,
@@ -150,8 +160,8 @@ impl Ledger {
         standing(from, id, pending, booked, found)
     }
 
-    /// Books what is found of a forwarded transfer. A confirmation that leaves it pending was read in the
-    /// margin before the deadline: it is refused as `Expired`.
+    /// Books what is found of a forwarded transfer. A confirmation that leaves it pending was read
+    /// in the margin before the deadline: it is refused as `Expired`.
     fn confirm(&self, from: u8, id: Ident, found: Option<Outcome>) -> Result<Handled, Fault>
         ensures { result ≡ confirm self.now.book.events from id found }
     {
@@ -178,10 +188,12 @@ impl Ledger {
         standing(who, id, still_pending(who, id), booked, found)
     }
 
-    /// The position, what of it is reserved, and what is available, in cents: what `handle` answers to `Position`.
+    /// The position, what of it is reserved, and what is available, in cents: what `handle` answers
+    /// to `Position`.
     pub fn position_reply(&self) -> Reply
         ensures { result ≡ Reply.Position
-            (position self.now.book.events) (reserved self.now.book.events) (available self.now.book.events) }
+            (position self.now.book.events) (reserved self.now.book.events)
+            (available self.now.book.events) }
     {
         Reply::Position {
             position: self.position() as u64,
@@ -192,8 +204,10 @@ impl Ledger {
 
     /// Where the table has the forwarded transfers that weren't handed out yet.
     fn rest(&self) -> &[usize]
-        ensures came { entries_at (rows_of self.now.book.who self.now.book.events) result.now ≡ unread self.now.book.events }
-        ensures within { AreWithin (length (rows_of self.now.book.who self.now.book.events)) result.now }
+        ensures came { entries_at (rows_of self.now.book.who self.now.book.events) result.now
+            ≡ unread self.now.book.events }
+        ensures within { AreWithin (length (rows_of self.now.book.who self.now.book.events))
+            result.now }
     {
         after(self.inbox.as_slice(), self.read)
     }
@@ -205,9 +219,11 @@ impl Ledger {
         self.rest().len()
     }
 
-    /// What came with the transfers at these positions of the table. It looks nothing up by its key.
+    /// What came with the transfers at these positions of the table. It looks nothing up by its
+    /// key.
     fn entries(&self, alloc: Global, positions: &[usize]) -> Result<Vec<Entry>, AllocError>
-        requires within { AreWithin (length (rows_of self.now.book.who self.now.book.events)) positions.now }
+        requires within { AreWithin (length (rows_of self.now.book.who self.now.book.events))
+            positions.now }
         ensures ok { IfOk result (λ entries. entries.items ≡
             entries_at (rows_of self.now.book.who self.now.book.events) positions.now) }
     {
@@ -219,9 +235,11 @@ impl Ledger {
         Ok(entries)
     }
 
-    /// The next unread forwarded transfers, at most `max` of them. It takes no memory where all are read.
+    /// The next unread forwarded transfers, at most `max` of them. It takes no memory where all are
+    /// read.
     fn unread(&self, alloc: Global, max: u32) -> Result<Vec<Entry>, AllocError>
-        ensures ok { IfOk result (λ entries. entries.items ≡ take max (unread self.now.book.events)) }
+        ensures ok { IfOk result (λ entries.
+            entries.items ≡ take max (unread self.now.book.events)) }
         ensures none { length (unread self.now.book.events) ≡ 0 → IsOk result }
     {
         let rest = self.rest();
@@ -231,7 +249,8 @@ impl Ledger {
         self.entries(alloc, &rest[..rest.len().min(max as usize)])
     }
 
-    /// Hands out the next unread forwarded transfers, at most `max` of them. `Memory` only where there are some.
+    /// Hands out the next unread forwarded transfers, at most `max` of them. `Memory` only where
+    /// there are some.
     fn fetch(&self, alloc: Global, max: u32) -> Result<Handled, Fault>
         requires { is_count max ≡ true }
         ensures reply { IsUnlessMemory result (hand_out (take max (unread self.now.book.events))) }
@@ -253,16 +272,27 @@ impl Ledger {
         })
     }
 
-    /// At most `count` lines after the first `skip` of the statement since the last opening, or `Memory`.
-    fn statement(&self, alloc: Global, skip: u64, count: u32) -> Result<Handled, Fault>
-        ensures { IsUnlessMemory result (answered (Reply.Statement (statement_part self.now.book.events skip count))) }
+    /// Returns at most `count` lines of the statement since the last opening, after the first
+    /// `skip`. It costs the lines that it returns.
+    ///
+    /// # Errors
+    ///
+    /// Returns `AllocError` if memory is refused.
+    pub fn statement(&self, alloc: Global, skip: u64, count: u32) -> Result<Lines, AllocError>
+        ensures { IfOk result (λ lines. lines ≡ statement_part self.now.book.events skip count) }
     {
         let events = self.journal.events();
-        let lines = self.statement.part(alloc, events, skip, count)?;
+        Ok(Lines::new(self.statement.part(alloc, events, skip, count)?))
+    }
+
+    /// Answers a question for statement lines, or `Memory`.
+    fn answer_statement(&self, alloc: Global, skip: u64, count: u32) -> Result<Handled, Fault>
+        ensures { IsUnlessMemory result
+            (answered (Reply.Statement (statement_part self.now.book.events skip count))) }
+    {
+        let lines = self.statement(alloc, skip, count)?;
         Ok(Handled {
-            reply: Reply::Statement {
-                lines: Lines::new(lines),
-            },
+            reply: Reply::Statement { lines },
             kept: None,
         })
     }
@@ -281,25 +311,28 @@ impl Ledger {
             result ≡ answer_to self.now.book command.now at found }
     {
         match command {
-            Command::Fund { reference, cents } => self.fund(*reference, *cents),
-            Command::Defund { reference, cents } => self.defund(*reference, *cents),
+            Command::Fund(funding) => self.fund(funding),
+            Command::Defund(funding) => self.defund(funding),
             Command::Submit(submission) => self.submit(at, submission),
             Command::Confirm { from, id } => self.confirm(*from, *id, found),
             Command::Reject { from, id, .. } => self.reject(*from, *id, found),
             Command::Investigate { id } => self.investigate(*id, found),
             Command::Fetch { max } => self.fetch(alloc, *max),
-            Command::Position => Ok(Handled {
+            Command::Query(Query::Position) => Ok(Handled {
                 reply: self.position_reply(),
                 kept: None,
             }),
-            Command::Statement { skip, count } => self.statement(alloc, *skip, *count),
+            Command::Query(Query::Statement { skip, count }) => {
+                self.answer_statement(alloc, *skip, *count)
+            }
         }
     }
 
     /// What a command, read at `at`, is answered, and the event that is to be kept of it, where its
-    /// transfer is found to have the outcome `found`. Refused by the first of `SelfTransfer` to `Shortage`
-    /// that holds; only a statement, and a fetch where something is unread, may answer `Memory`. A look at
-    /// a key is one look at a hash table; a statement and a fetch copy what they give.
+    /// transfer is found to have the outcome `found`. Refused by the first of `SelfTransfer` to
+    /// `Shortage` that holds; only a statement, and a fetch where something is unread, may answer
+    /// `Memory`. A look at a key is one look at a hash table; a statement and a fetch copy what
+    /// they give.
     pub fn handle(
         &self,
         alloc: Global,

@@ -1,7 +1,8 @@
 //! Events that are kept, with all that stands beside them.
 ghost use Rattle.std.specs.Prelude.{◌≡◌, ◌<◌, false, OnOk, OnErr, IsOk};
 ghost use Rattle.inst_journal.specs.Sound.{Fits};
-ghost use Rattle.inst_ledger.specs.inner.Beside.{movement_booked, MayAddIf, AddsIf};
+ghost use Rattle.inst_ledger.specs.inner.Beside.{funding_event, funding_movement, movement_booked};
+ghost use Rattle.inst_ledger.specs.inner.Beside.{MayAddIf, AddsIf};
 ghost use Rattle.inst_ledger.specs.Book.{with_event, brings_key};
 ghost use Rattle.inst_transfers.specs.Held.{IsFound};
 
@@ -9,60 +10,34 @@ use super::Ledger;
 use crate::references::KeptFunding;
 use crate::sending::Sending;
 use inst_base::{Cents, Ident, mention};
-use inst_command::{Entry, LineKind, Outcome};
+use inst_command::{Entry, Funding, LineKind, Outcome};
 use inst_journal::Event;
 use inst_statement::{KeptStatement, Movement};
 use inst_transfers::{Found, Side, Transfer};
 use std::alloc::AllocError;
 
 impl Ledger {
-    /// Keeps a funding.
-    fn keep_funded(&mut self, reference: Ident, cents: Cents) -> Result<(), AllocError>
-        requires { Fits self.old.book.settings self.old.book.who self.old.book.events (Event.Funded reference cents) }
-        ensures ok { OnOk result (self.new.book ≡ with_event self.old.book (Event.Funded reference cents)) }
+    /// Keeps a fund or defund command.
+    fn keep_funding(&mut self, is_defunding: bool, funding: Funding) -> Result<(), AllocError>
+        requires { Fits self.old.book.settings self.old.book.who self.old.book.events
+            (funding_event is_defunding funding) }
+        ensures ok { OnOk result (self.new.book ≡
+            with_event self.old.book (funding_event is_defunding funding)) }
         ensures err { OnErr result (self.new.book ≡ self.old.book) }
     {
-        let funding = KeptFunding {
-            is_defunding: false,
+        let Funding { reference, cents } = funding;
+        let kept = KeptFunding {
+            is_defunding,
             cents,
         };
-        let movement = Movement {
-            kind: LineKind::Funded,
-            other: None,
-            cents,
-        };
+        let event = funding_event(is_defunding, funding);
+        let movement = funding_movement(is_defunding, cents);
         let index = self.journal.events().len() as u32;
         self.journal.reserve()?;
         self.statement.reserve()?;
-        self.references.put(reference, funding)?;
-        self.journal.push(Event::Funded { reference, cents })?;
-        self.totals.funded += u128::from(cents.get());
-        self.statement.add(index, &movement);
-        self.fundings += 1;
-        Ok(())
-    }
-
-    /// Keeps a defunding.
-    fn keep_defunded(&mut self, reference: Ident, cents: Cents) -> Result<(), AllocError>
-        requires { Fits self.old.book.settings self.old.book.who self.old.book.events (Event.Defunded reference cents) }
-        ensures ok { OnOk result (self.new.book ≡ with_event self.old.book (Event.Defunded reference cents)) }
-        ensures err { OnErr result (self.new.book ≡ self.old.book) }
-    {
-        let funding = KeptFunding {
-            is_defunding: true,
-            cents,
-        };
-        let movement = Movement {
-            kind: LineKind::Defunded,
-            other: None,
-            cents,
-        };
-        let index = self.journal.events().len() as u32;
-        self.journal.reserve()?;
-        self.statement.reserve()?;
-        self.references.put(reference, funding)?;
-        self.journal.push(Event::Defunded { reference, cents })?;
-        self.totals.defunded += u128::from(cents.get());
+        self.references.put(reference, kept)?;
+        self.journal.push(event)?;
+        self.totals.keep(is_defunding, cents.get());
         self.statement.add(index, &movement);
         self.fundings += 1;
         Ok(())
@@ -104,7 +79,8 @@ impl Ledger {
         requires { Fits self.old.book.settings self.old.book.who self.old.book.events
             (Event.Forwarded entry.from entry.id entry.cents entry.deadline) }
         ensures ok { OnOk result (self.new.book ≡
-            with_event self.old.book (Event.Forwarded entry.from entry.id entry.cents entry.deadline)) }
+            with_event self.old.book
+            (Event.Forwarded entry.from entry.id entry.cents entry.deadline)) }
         ensures err { OnErr result (self.new.book ≡ self.old.book) }
     {
         let Entry {
@@ -135,7 +111,8 @@ impl Ledger {
     fn keep_booked(&mut self, from: u8, id: Ident, outcome: &Outcome) -> Result<(), AllocError>
         requires { Fits self.old.book.settings self.old.book.who self.old.book.events
             (Event.Booked from id outcome.now) }
-        ensures ok { OnOk result (self.new.book ≡ with_event self.old.book (Event.Booked from id outcome.now)) }
+        ensures ok { OnOk result (self.new.book
+            ≡ with_event self.old.book (Event.Booked from id outcome.now)) }
         ensures err { OnErr result (self.new.book ≡ self.old.book) }
         ensures room { 0 < self.old.room → IsOk result }
     {
@@ -144,7 +121,8 @@ impl Ledger {
         self.keep_found(&found, outcome)
     }
 
-    /// Books the outcome of a transfer that was found, and releases and moves its amount. It looks nothing up.
+    /// Books the outcome of a transfer that was found, and releases and moves its amount. It looks
+    /// nothing up.
     pub fn keep_found(&mut self, found: &Found, outcome: &Outcome) -> Result<(), AllocError>
         requires there { IsFound self.old.table found.now }
         requires fits { Fits self.old.book.settings self.old.book.who self.old.book.events
@@ -181,7 +159,8 @@ impl Ledger {
 
     /// Moves the read mark over what is handed out.
     fn keep_fetched(&mut self, count: u32) -> Result<(), AllocError>
-        requires { Fits self.old.book.settings self.old.book.who self.old.book.events (Event.Fetched count) }
+        requires { Fits self.old.book.settings self.old.book.who self.old.book.events
+            (Event.Fetched count) }
         ensures ok { OnOk result (self.new.book ≡ with_event self.old.book (Event.Fetched count)) }
         ensures err { OnErr result (self.new.book ≡ self.old.book) }
         ensures room { 0 < self.old.room → IsOk result }
@@ -206,8 +185,9 @@ impl Ledger {
         Ok(())
     }
 
-    /// Keeps an event that fits. Where memory is refused the book is as it was. Where room was reserved it
-    /// succeeds for an event that brings no new key; for one that does, room is made for all of it first.
+    /// Keeps an event that fits. Where memory is refused the book is as it was. Where room was
+    /// reserved it succeeds for an event that brings no new key; for one that does, room is made
+    /// for all of it first.
     pub fn keep(&mut self, event: Event) -> Result<(), AllocError>
         requires { Fits self.old.book.settings self.old.book.who self.old.book.events event }
         ensures ok { OnOk result (self.new.book ≡ with_event self.old.book event) }
@@ -215,8 +195,8 @@ impl Ledger {
         ensures room { 0 < self.old.room → brings_key event ≡ false → IsOk result }
     {
         match event {
-            Event::Funded { reference, cents } => self.keep_funded(reference, cents),
-            Event::Defunded { reference, cents } => self.keep_defunded(reference, cents),
+            Event::Funded(funding) => self.keep_funding(false, funding),
+            Event::Defunded(funding) => self.keep_funding(true, funding),
             Event::Taken {
                 id,
                 to,
@@ -267,12 +247,39 @@ fn movement_booked(from: u8, transfer: &Transfer, outcome: &Outcome) -> Option<M
     })
 }
 
-/// Adds the line of what was moved, if anything was, by the event of this index, in room that was made.
+/// Adds the line of what was moved, if anything was, by the event of this index, in room that was
+/// made.
 fn add_line(statement: &mut KeptStatement, event: u32, movement: Option<Movement>)
     requires { MayAddIf statement.old movement }
     ensures { AddsIf statement.old event movement statement.new }
 {
     if let Some(movement) = movement {
         statement.add(event, &movement);
+    }
+}
+
+/// The event of a fund or defund command.
+fn funding_event(is_defunding: bool, funding: Funding) -> Event
+    ensures { result ≡ funding_event is_defunding funding }
+{
+    if is_defunding {
+        Event::Defunded(funding)
+    } else {
+        Event::Funded(funding)
+    }
+}
+
+/// What a fund or defund command moves.
+fn funding_movement(is_defunding: bool, cents: Cents) -> Movement
+    ensures { result ≡ funding_movement is_defunding cents }
+{
+    Movement {
+        kind: if is_defunding {
+            LineKind::Defunded
+        } else {
+            LineKind::Funded
+        },
+        other: None,
+        cents,
     }
 }

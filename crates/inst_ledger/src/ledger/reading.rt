@@ -1,8 +1,10 @@
 //! What a participant's history has, read off what stands beside it.
-ghost use Rattle.std.specs.Prelude.{◌≡◌, ℕ, ◌<◌, ◌^◌, length, slice_get, Some, None, IfSome, IfNone};
+ghost use Rattle.std.specs.Prelude.{◌≡◌, ℕ, ◌<◌, ◌^◌, length, slice_get, Some, None, IfSome};
+ghost use Rattle.std.specs.Prelude.{IfNone};
 ghost use Rattle.inst_settings.specs.Lawful.{IsSettings};
 ghost use Rattle.inst_journal.specs.Booked.{first_some, is_taken, is_forwarded, booked};
-ghost use Rattle.inst_journal.specs.Keys.{fundings, is_submission_repeat, is_fund_repeat, is_defund_repeat, has_reference};
+ghost use Rattle.inst_journal.specs.Keys.{fundings, is_submission_repeat, is_fund_repeat};
+ghost use Rattle.inst_journal.specs.Keys.{is_defund_repeat, has_reference};
 ghost use Rattle.inst_journal.specs.Money.{reserved, position, available};
 ghost use Rattle.inst_journal.specs.Opened.{live_submissions};
 ghost use Rattle.inst_journal.specs.Sound.{IsSound};
@@ -10,7 +12,9 @@ ghost use Rattle.inst_ledger.specs.Beneficiary.{beneficiary_of};
 ghost use Rattle.inst_ledger.specs.Beside.{funding_of};
 ghost use Rattle.inst_ledger.specs.inner.Beside.{is_funding_of};
 ghost use Rattle.inst_ledger.specs.Right.{sending_in, forwarding_in, own_ids, IsRight};
-ghost use Rattle.inst_transfers.specs.Held.{Finds, FindsAt, IsFound, AreApart, found_at, rows_in, state_in};
+ghost use Rattle.inst_transfers.specs.Held.{IsLookedUp, FindsAt, IsFound, AreApart, found_at};
+ghost use Rattle.inst_transfers.specs.Held.{rows_in};
+ghost use Rattle.inst_transfers.specs.Held.{state_in};
 ghost use Rattle.inst_transfers.specs.State.{outcome_in};
 ghost use Rattle.inst_ledger.specs.Kept.{sending_of, forwarding_of};
 ghost use Rattle.inst_ledger.specs.inner.Kept.{is_sending};
@@ -20,7 +24,7 @@ use crate::references::KeptFunding;
 use crate::sending::{Forwarding, Sending};
 use crate::totals::Totals;
 use inst_base::{Cents, Ident, mention};
-use inst_command::{Outcome, Submission};
+use inst_command::{Funding, Outcome, Submission};
 use inst_settings::Settings;
 use inst_transfers::{Found, Side, Transfer};
 
@@ -43,7 +47,7 @@ impl Ledger {
 
     /// Looks a transfer up in the table: the one look that a step takes.
     pub fn find(&self, from: u8, id: &Ident) -> Option<Found>
-        ensures found { Finds self.now.table from id.now result }
+        ensures found { IsLookedUp self.now.table from id.now result }
         ensures right { IsRight self.now.book.who self.now.book.events (state_in self.now.table) }
         ensures sound { IsSound self.now.book.settings self.now.book.who self.now.book.events }
     {
@@ -78,9 +82,12 @@ impl Ledger {
 
     /// The participant's own live transfer at this place. It looks nothing up by its key.
     pub fn own_found(&self, index: u16) -> Option<Found>
-        ensures none { IfNone result (slice_get (own_ids self.now.book.who self.now.book.events) index ≡ None) }
-        ensures at { IfSome result (λ found. slice_get (own_ids self.now.book.who self.now.book.events) index ≡ Some found.id) }
-        ensures found { IfSome result (λ found. (found.from ≡ self.now.book.who) × IsFound self.now.table found) }
+        ensures none { IfNone result
+            (slice_get (own_ids self.now.book.who self.now.book.events) index ≡ None) }
+        ensures at { IfSome result (λ found.
+            slice_get (own_ids self.now.book.who self.now.book.events) index ≡ Some found.id) }
+        ensures found { IfSome result (λ found. (found.from ≡ self.now.book.who)
+            × IsFound self.now.table found) }
         ensures right { IsRight self.now.book.who self.now.book.events (state_in self.now.table) }
         ensures sound { IsSound self.now.book.settings self.now.book.who self.now.book.events }
     {
@@ -89,8 +96,11 @@ impl Ledger {
 
     /// The index of the place of the participant's own live transfer with this identifier.
     pub fn own_index(&self, id: &Ident) -> Option<u16>
-        ensures at { (k : ℕ) → slice_get (own_ids self.now.book.who self.now.book.events) k ≡ Some id.now → result ≡ Some k }
-        ensures only { (k : ℕ) → result ≡ Some k → slice_get (own_ids self.now.book.who self.now.book.events) k ≡ Some id.now }
+        ensures at { (k : ℕ) →
+            slice_get (own_ids self.now.book.who self.now.book.events) k ≡ Some id.now →
+            result ≡ Some k }
+        ensures only { (k : ℕ) → result ≡ Some k →
+            slice_get (own_ids self.now.book.who self.now.book.events) k ≡ Some id.now }
     {
         mention::<(Side, Transfer, Outcome)>();
         let found = self.table.find(self.who, id)?;
@@ -98,13 +108,16 @@ impl Ledger {
         Some(index as u16)
     }
 
-    /// The index of the place of the participant's own transfer that was found, where it is live. It looks
-    /// nothing up by its key.
+    /// The index of the place of the participant's own transfer that was found, where it is live.
+    /// It looks nothing up by its key.
     pub fn found_index(&self, found: &Found) -> Option<u16>
         requires there { IsFound self.now.table found.now }
         requires own { found.now.from ≡ self.now.book.who }
-        ensures at { (k : ℕ) → slice_get (own_ids self.now.book.who self.now.book.events) k ≡ Some found.now.id → result ≡ Some k }
-        ensures only { (k : ℕ) → result ≡ Some k → slice_get (own_ids self.now.book.who self.now.book.events) k ≡ Some found.now.id }
+        ensures at { (k : ℕ) →
+            slice_get (own_ids self.now.book.who self.now.book.events) k ≡ Some found.now.id →
+            result ≡ Some k }
+        ensures only { (k : ℕ) → result ≡ Some k →
+            slice_get (own_ids self.now.book.who self.now.book.events) k ≡ Some found.now.id }
     {
         let index = self.table.own_index(found)?;
         Some(index as u16)
@@ -112,7 +125,8 @@ impl Ledger {
 
     /// Whether this very submission is taken, by what is known of its identifier.
     pub(crate) fn is_known_repeat(&self, known: &Option<Transfer>, submission: &Submission) -> bool
-        requires { known.now ≡ found_at self.now.table.entries (self.now.book.who, submission.now.id) }
+        requires { known.now
+            ≡ found_at self.now.table.entries (self.now.book.who, submission.now.id) }
         ensures { result ≡ is_submission_repeat submission.now self.now.book.events }
     {
         let _ = &self.settings;
@@ -209,19 +223,19 @@ impl Ledger {
     }
 
     /// Whether this very funding is kept.
-    pub(crate) fn is_fund_repeat(&self, reference: &Ident, cents: Cents) -> bool
-        ensures { result ≡ is_fund_repeat reference.now cents self.now.book.events }
+    pub(crate) fn is_fund_repeat(&self, funding: &Funding) -> bool
+        ensures { result ≡ is_fund_repeat funding.now self.now.book.events }
     {
         let _ = &self.settings;
-        is_funding_of(false, cents, self.funding(reference))
+        is_funding_of(false, funding.cents, self.funding(&funding.reference))
     }
 
     /// Whether this very defunding is kept.
-    pub(crate) fn is_defund_repeat(&self, reference: &Ident, cents: Cents) -> bool
-        ensures { result ≡ is_defund_repeat reference.now cents self.now.book.events }
+    pub(crate) fn is_defund_repeat(&self, funding: &Funding) -> bool
+        ensures { result ≡ is_defund_repeat funding.now self.now.book.events }
     {
         let _ = &self.settings;
-        is_funding_of(true, cents, self.funding(reference))
+        is_funding_of(true, funding.cents, self.funding(&funding.reference))
     }
 
     /// How many of the participant's own transfers are live.

@@ -8,29 +8,32 @@ use Rattle.inst_json.specs.Replies.{answer_can_be_written}
 use Rattle.inst_lines.specs.declared.mode.Mode.{Mode}
 use Rattle.inst_agenda.specs.declared.runner.Runner.{Runner}
 use Rattle.inst_lines.specs.Answers.{is_too_long, IsFront}
-use Rattle.inst_lines.specs.Answering.{Past, Keeps, line_answer, after_line}
-use Rattle.inst_world.specs.HasRun.{settings_of}
+use Rattle.inst_lines.specs.Answering.{HubPast, Keeps, line_answer, after_line}
+use Rattle.inst_world.specs.HasRun.{world_settings}
 
 -- what a line of any length is answered
-abbrev pub any_line_answer : Mode → Past → List ℕ → Answer
-any_line_answer mode past line = if is_too_long line then Reply (Refused LineTooLong) else line_answer mode past line
+abbrev pub any_line_answer : Mode → HubPast → List ℕ → Answer
+any_line_answer mode past line =
+    if is_too_long line then Reply (Refused LineTooLong) else line_answer mode past line
 
 -- what it leaves
-abbrev pub after_any_line : Mode → Past → List ℕ → Past
+abbrev pub after_any_line : Mode → HubPast → List ℕ → HubPast
 after_any_line mode past line = if is_too_long line then past else after_line mode past line
 
 -- a line is answered, of which this part is held and any front of it was let go
-pub record RepliesToLine (mode : Mode) (is_long : Bool) (part : List ℕ) (old new : Runner) (answer : Answer) : Type 0 where
-  pub told : (past : Past) → Keeps mode past old → (front : List ℕ) → IsFront is_long front →
+pub record RepliesToLine (mode : Mode) (is_long : Bool) (part : List ℕ) (old new : Runner)
+    (answer : Answer) : Type 0 where
+  pub told : (past : HubPast) → Keeps mode past old → (front : List ℕ) → IsFront is_long front →
       answer ≡ any_line_answer mode past (front ++ part)
-  pub after : (past : Past) → Keeps mode past old → (front : List ℕ) → IsFront is_long front →
+  pub after : (past : HubPast) → Keeps mode past old → (front : List ℕ) → IsFront is_long front →
       Keeps mode (after_any_line mode past (front ++ part)) new
-  pub same_settings : settings_of new.world ≡ settings_of old.world
-  pub can_be_written : answer_can_be_written (settings_of old.world) answer ≡ true
+  pub same_settings : world_settings new.world ≡ world_settings old.world
+  pub can_be_written : answer_can_be_written (world_settings old.world) answer ≡ true
 
 -- a line that was read is answered so and leaves this, whatever the runner has gone through
-pub record RepliesToRead (mode : Mode) (old new : Runner) (answer : Answer) (answered : Past → Answer) (left : Past → Past) : Type 0 where
-  pub told : (past : Past) → Keeps mode past old → answer ≡ answered past
-  pub after : (past : Past) → Keeps mode past old → Keeps mode (left past) new
-  pub same_settings : settings_of new.world ≡ settings_of old.world
-  pub can_be_written : answer_can_be_written (settings_of old.world) answer ≡ true
+pub record RepliesToRead (mode : Mode) (old new : Runner) (answer : Answer) (answered : HubPast →
+    Answer) (left : HubPast → HubPast) : Type 0 where
+  pub told : (past : HubPast) → Keeps mode past old → answer ≡ answered past
+  pub after : (past : HubPast) → Keeps mode past old → Keeps mode (left past) new
+  pub same_settings : world_settings new.world ≡ world_settings old.world
+  pub can_be_written : answer_can_be_written (world_settings old.world) answer ≡ true

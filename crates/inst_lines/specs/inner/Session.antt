@@ -5,48 +5,57 @@ use Rattle.inst_base.specs.declared.fault.Fault.TheVariants.{Memory, ReadFault, 
 use Rattle.inst_lines.specs.declared.session.Session.{Session}
 use Rattle.inst_lines.specs.Lines.{lines_of}
 use Rattle.inst_lines.specs.Answers.{Answerer, AnswersLine}
-use Rattle.inst_lines.specs.LineBuffer.{held}
+use Rattle.inst_lines.specs.LineBuffer.{unanswered_bytes}
 use Rattle.inst_lines.specs.Progress.{Progress, Stopped}
 use Rattle.inst_lines.specs.Session.{Reached, Finishes, Stage}
 
--- the first n bytes that are held are answered as the rest of a line, and let go with the byte after them
-pub record TakesLine {S W : Type 0} (a : Answerer S) (holds : S → W → Type 0) (n : ℕ) (old new : Session)
+-- the first n bytes that are held are answered as the rest of a line, and let go with the byte
+-- after them
+pub record TakesLine {S W : Type 0} (a : Answerer S) (holds : S → W →
+    Type 0) (n : ℕ) (old new : Session)
     (old_world new_world : W) : Type 0 where
   pub is_refused : Bool
-  pub answers : AnswersLine a holds old.input.is_long (take n (held old.input)) old_world new_world
+  pub answers : AnswersLine a holds old.input.is_long (take n (unanswered_bytes old.input))
+      old_world new_world
       old.replies.bytes.items new.replies.bytes.items is_refused
-  pub held_is : held new.input ≡ drop (n + 1) (held old.input)
+  pub held_is : unanswered_bytes new.input ≡ drop (n + 1) (unanswered_bytes old.input)
   pub is_long_is : new.input.is_long ≡ false
   pub taken_is : new.input.taken ≡ old.input.taken
   pub lines_are : new.counts.lines ≡ old.counts.lines + 1
   pub refused_are : new.counts.refused ≡ old.counts.refused + cond is_refused 1 0
 
 -- what was answered stays answered, with no further read
-pub record Advances {S W : Type 0} (a : Answerer S) (holds : S → W → Type 0) (old : Session) (old_world : W) (now : Option (List ℕ))
+pub record Advances {S W : Type 0} (a : Answerer S) (holds : S → W →
+    Type 0) (old : Session) (old_world : W) (now : Option (List ℕ))
     (new : Session) (new_world : W) (now' : Option (List ℕ)) : Type 0 where
   pub reaches : (start : S) (before : Option (List ℕ)) (bytes : List ℕ) →
-      Reached a holds start before bytes now old old_world → Reached a holds start before bytes now' new new_world
+      Reached a holds start before bytes now old old_world →
+      Reached a holds start before bytes now' new new_world
 
 -- a front of the replies is written
-pub record Stops {S W : Type 0} (a : Answerer S) (holds : S → W → Type 0) (old : Session) (old_world : W)
+pub record Stops {S W : Type 0} (a : Answerer S) (holds : S → W →
+    Type 0) (old : Session) (old_world : W)
     (now now' : Option (List ℕ)) : Type 0 where
   pub stops : (start : S) (before : Option (List ℕ)) (bytes : List ℕ) →
       Reached a holds start before bytes now old old_world → Stopped a start before bytes now'
 
 -- the replies to all the bytes are written or pending
-pub record AnsweredAll {S W : Type 0} (a : Answerer S) (holds : S → W → Type 0) (start : S) (before : Option (List ℕ)) (bytes : List ℕ)
+pub record AnsweredAll {S W : Type 0} (a : Answerer S) (holds : S → W →
+    Type 0) (start : S) (before : Option (List ℕ)) (bytes : List ℕ)
     (now : Option (List ℕ)) (session : Session) (world : W) : Type 0 where
   pub state : S
   pub is_held : holds state world
   pub closed : List ℕ
-  pub progress : Progress a start before closed now session.replies.bytes.items state false [] session.counts.lines session.counts.refused
+  pub progress : Progress a start before closed now session.replies.bytes.items state false []
+      session.counts.lines session.counts.refused
   pub same_lines : lines_of closed ≡ lines_of bytes
 
 -- a last line is answered
 pub record AnswersLast {S W : Type 0} (a : Answerer S) (holds : S → W → Type 0) (old new : Session)
     (old_world new_world : W) : Type 0 where
   pub ends : (start : S) (before : Option (List ℕ)) (bytes : List ℕ) (now : Option (List ℕ)) →
-      Reached a holds start before bytes now old old_world → AnsweredAll a holds start before bytes now new new_world
+      Reached a holds start before bytes now old old_world →
+      AnsweredAll a holds start before bytes now new new_world
 
 -- the fault is none of reading
 abbrev pub IsNoReadFault : Fault → Type 0
@@ -58,13 +67,16 @@ IsNoReadFault _ = ⊥
 -- from one stage to the next, what was answered stays answered
 abbrev pub MovesOn : {S W : Type 0} → Answerer S → (S → W → Type 0) → Stage W → Stage W → Type 0
 MovesOn a holds before after =
-    Advances a holds before.session before.world before.written after.session after.world after.written
+    Advances a holds before.session before.world before.written after.session after.world
+    after.written
 
 -- the run stopped behind the stage, and this was written
-abbrev pub HasStopped : {S W : Type 0} → Answerer S → (S → W → Type 0) → Stage W → Option (List ℕ) → Type 0
+abbrev pub HasStopped : {S W : Type 0} → Answerer S → (S → W → Type 0) → Stage W → Option (List ℕ) →
+    Type 0
 HasStopped a holds before written = Stops a holds before.session before.world before.written written
 
 -- all that was read is answered and written
 abbrev pub HasFinished : {S W : Type 0} → Answerer S → (S → W → Type 0) → Stage W → Stage W → Type 0
 HasFinished a holds before after =
-    Finishes a holds before.session before.world before.written after.session.counts after.world after.written
+    Finishes a holds before.session before.world before.written after.session.counts after.world
+    after.written

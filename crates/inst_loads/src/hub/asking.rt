@@ -1,9 +1,9 @@
 //! What is asked of the hub.
-ghost use Rattle.inst_hub.specs.Calls.{IsOf};
+ghost use Rattle.inst_hub.specs.Calls.{IsTellerOf};
 ghost use Rattle.inst_loads.specs.Jobs.{IsStill};
 
 use inst_base::{Cents, Fault, Ident, Moment};
-use inst_command::{Ask, Command, Outcome, Reply, State, Submission};
+use inst_command::{Ask, Command, Funding, Outcome, Query, Reply, State, Submission};
 use inst_hub::{Hub, Teller, Ticket};
 use std::alloc::Global;
 use std::sync::Wait;
@@ -21,7 +21,7 @@ pub(crate) fn call<R: Wait>(
     teller: &mut Teller,
     ask: &Ask,
 ) -> Result<(Reply, Option<Ticket>), Fault>
-    requires { IsOf hub.now teller.old }
+    requires { IsTellerOf hub.now teller.old }
     ensures { IsStill hub.now teller.old teller.new }
 {
     if !ask.fits(hub.settings()) {
@@ -39,7 +39,7 @@ pub(crate) fn ask<R: Wait>(
     command: Command,
     at: u64,
 ) -> Result<Reply, Fault>
-    requires { IsOf hub.now teller.old }
+    requires { IsTellerOf hub.now teller.old }
     ensures { IsStill hub.now teller.old teller.new }
 {
     let ask = Ask {
@@ -54,20 +54,21 @@ pub(crate) fn ask<R: Wait>(
 }
 
 fn fund<R: Wait>(rt: &R, hub: &Hub, teller: &mut Teller, who: u8, cents: u64) -> Result<(), Fault>
-    requires { IsOf hub.now teller.old }
+    requires { IsTellerOf hub.now teller.old }
     ensures { IsStill hub.now teller.old teller.new }
 {
-    let command = Command::Fund {
+    let command = Command::Fund(Funding {
         reference: Ident::new("F1")?,
         cents: Cents::new(cents)?,
-    };
+    });
     match ask(rt, hub, teller, who, command, 0) {
         Ok(_) => Ok(()),
         Err(fault) => Err(fault),
     }
 }
 
-/// Funds the first so many participants, at most 256, with so many cents each. A refusal is an error.
+/// Funds the first so many participants, at most 256, with so many cents each. A refusal is an
+/// error.
 pub(crate) fn fund_all<R: Wait>(
     rt: &R,
     hub: &Hub,
@@ -75,7 +76,7 @@ pub(crate) fn fund_all<R: Wait>(
     participants: u16,
     cents: u64,
 ) -> Result<(), Fault>
-    requires { IsOf hub.now teller.old }
+    requires { IsTellerOf hub.now teller.old }
     ensures { IsStill hub.now teller.old teller.new }
 {
     for who in 0..participants.min(256) {
@@ -115,10 +116,10 @@ pub(crate) fn ask_money<R: Wait>(
     teller: &mut Teller,
     who: u8,
 ) -> Result<Money, Fault>
-    requires { IsOf hub.now teller.old }
+    requires { IsTellerOf hub.now teller.old }
     ensures { IsStill hub.now teller.old teller.new }
 {
-    let reply = ask(rt, hub, teller, who, Command::Position, STAMP)?;
+    let reply = ask(rt, hub, teller, who, Command::Query(Query::Position), STAMP)?;
     money_of(&reply).ok_or(Fault::BadField)
 }
 
@@ -150,7 +151,7 @@ pub(crate) fn settle<R: Wait>(
     pair: (u8, u8),
     name: (u8, u32),
 ) -> Result<bool, Fault>
-    requires { IsOf hub.now teller.old }
+    requires { IsTellerOf hub.now teller.old }
     ensures { IsStill hub.now teller.old teller.new }
 {
     let (from, to) = pair;

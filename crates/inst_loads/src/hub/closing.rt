@@ -1,7 +1,7 @@
 //! How a hub ends: it is closed, and its books are explained.
 ghost use Rattle.std.specs.Prelude.{◌≡◌, ◌∷◌, [], ◌++◌, IfOk, map};
 ghost use Rattle.inst_model.specs.Opening.{Opening};
-ghost use Rattle.inst_hub.specs.Calls.{IsOf};
+ghost use Rattle.inst_hub.specs.Calls.{IsTellerOf};
 ghost use Rattle.inst_close.specs.Closing.{IsOpenedSo};
 ghost use Rattle.inst_loads.specs.Jobs.{AreJobsOf, HaveAll};
 
@@ -18,7 +18,8 @@ fn tellers_of(
     jobs: Vec<Job>,
     teller: Teller,
 ) -> Result<Vec<Teller>, AllocFailed<Teller>>
-    ensures { IfOk result (λ tellers. tellers.items ≡ map (λ job. job.teller) jobs.items ++ teller ∷ []) }
+    ensures { IfOk result (λ tellers.
+        tellers.items ≡ map (λ job. job.teller) jobs.items ++ teller ∷ []) }
 {
     let mut tellers = Vec::new(alloc);
     for job in jobs {
@@ -28,15 +29,15 @@ fn tellers_of(
     Ok(tellers)
 }
 
-/// Closes the hub. A run in one thread is rebuilt from its books and leaves the same ones: `NoInterleaving` if none is
-/// found.
+/// Closes the hub. A run in one thread is rebuilt from its books and leaves the same ones:
+/// `NoInterleaving` if none is found.
 pub(crate) fn close_and_explain(
     alloc: Global,
     hub: Hub,
     jobs: Vec<Job>,
     teller: Teller,
 ) -> Result<(), Flaw>
-    requires of { IsOf hub teller × AreJobsOf hub jobs.items }
+    requires of { IsTellerOf hub teller × AreJobsOf hub jobs.items }
     requires parts { HaveAll teller jobs.items }
     requires opened { (O : Opening) × IsOpenedSo O hub }
 {

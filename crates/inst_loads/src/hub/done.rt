@@ -21,7 +21,8 @@ pub(crate) fn gather<T: Drop>(
     alloc: Global,
     results: Vec<Result<Done<T>, Failure>>,
 ) -> Result<(Vec<Job>, Vec<T>), Failure>
-    ensures { IfOk result (λ r. (hub : Hub) (jobs : List Job) → AllAreDone hub jobs results.items → AreStill hub jobs r.0.items) }
+    ensures { IfOk result (λ r. (hub : Hub) (jobs : List Job) → AllAreDone hub jobs results.items →
+        AreStill hub jobs r.0.items) }
 {
     let mut jobs = Vec::new(alloc);
     let mut all = Vec::new(alloc);

@@ -1,6 +1,6 @@
 //! What the threads of a round start with.
 ghost use Rattle.std.specs.Prelude.{◌≡◌, ◌+◌, IfOk};
-ghost use Rattle.inst_hub.specs.Calls.{IsOf, AreOf};
+ghost use Rattle.inst_hub.specs.Calls.{IsTellerOf, AreOf};
 ghost use Rattle.inst_hub.specs.Opening.{parts_of};
 ghost use Rattle.inst_loads.specs.Jobs.{AreJobsOf, parts_of_jobs, parts_of_one};
 
@@ -18,9 +18,10 @@ pub(crate) struct Job {
 /// The last teller of these.
 pub(crate) fn last(hub: &Hub, tellers: &mut Vec<Teller>) -> Result<Teller, Fault>
     requires { AreOf hub.now tellers.old.items }
-    ensures last { IfOk result (λ teller. IsOf hub.now teller) }
+    ensures last { IfOk result (λ teller. IsTellerOf hub.now teller) }
     ensures rest { AreOf hub.now tellers.new.items }
-    ensures parts { IfOk result (λ teller. parts_of tellers.new.items + parts_of_one teller ≡ parts_of tellers.old.items) }
+    ensures parts { IfOk result (λ teller.
+        parts_of tellers.new.items + parts_of_one teller ≡ parts_of tellers.old.items) }
 {
     match tellers.pop() {
         Some(teller) => Ok(teller),

@@ -7,7 +7,7 @@ ghost use Rattle.inst_close.specs.Closing.{IsOpenedSo};
 
 use inst_base::{Code, Fault};
 use inst_hub::{Hub, Teller};
-use inst_settings::{Numbers, Settings};
+use inst_settings::{HubParameters, Settings};
 use std::alloc::Global;
 
 /// From a transfer's time stamp to its deadline, in milliseconds.
@@ -33,13 +33,13 @@ fn settings(alloc: Global, size: Size) -> Result<Settings, Fault> {
         let text = format!(in alloc; "BANKDE{}{}", number / 10, number % 10)?;
         codes.push(Code::new(text.as_str())?)?;
     }
-    let numbers = Numbers {
+    let numbers = HubParameters {
         places: size.places,
         fundings: 4,
         limit: LIMIT,
         margin: size.margin,
         ahead: AHEAD,
-        ..Numbers::DEFAULT
+        ..HubParameters::DEFAULT
     };
     Settings::check(codes, numbers)
 }

@@ -1,6 +1,6 @@
 //! Rounds of a load, each at a hub of its own.
 ghost use Rattle.std.specs.Prelude.{IfOk};
-ghost use Rattle.inst_hub.specs.Calls.{IsOf};
+ghost use Rattle.inst_hub.specs.Calls.{IsTellerOf};
 ghost use Rattle.inst_loads.specs.Done.{AllAreDone};
 ghost use Rattle.inst_loads.specs.Jobs.{AreJobsOf, AreStill, IsStill};
 
@@ -31,7 +31,7 @@ fn share<R: Wait>(
     load: Load,
     job: Job,
 ) -> Result<Done<u32>, Failure>
-    requires { IsOf hub.now job.teller }
+    requires { IsTellerOf hub.now job.teller }
     ensures { IfOk result (λ done. IsStill hub.now job.teller done.job.teller) }
 {
     let Job { mut teller, thread } = job;
@@ -51,7 +51,7 @@ fn share<R: Wait>(
 
 /// What all positions sum to, in cents.
 fn sum<R: Wait>(rt: &R, hub: &Hub, teller: &mut Teller) -> Result<u64, Fault>
-    requires { IsOf hub.now teller.old }
+    requires { IsTellerOf hub.now teller.old }
     ensures { IsStill hub.now teller.old teller.new }
 {
     let mut sum = 0u64;
@@ -76,7 +76,7 @@ fn share_all<R: Threads + Wait + Sync>(
         rt,
         jobs,
         &|job: Job| -> Result<Done<u32>, Failure>
-            requires { IsOf hub.now job.teller }
+            requires { IsTellerOf hub.now job.teller }
             ensures { IfOk result (λ done. IsStill hub.entry.now job.teller done.job.teller) }
         { share(rt, alloc, hub, load, job) },
     )
@@ -110,7 +110,7 @@ fn check_round<R: Wait>(
     load: Load,
     settled: u32,
 ) -> Result<(), Flaw>
-    requires { IsOf hub.now teller.old }
+    requires { IsTellerOf hub.now teller.old }
     ensures { IsStill hub.now teller.old teller.new }
 {
     let transfers = load.transfers();
@@ -130,8 +130,9 @@ fn settle_all<R: Threads + Wait + Sync>(
     jobs: Vec<Job>,
     load: Load,
 ) -> Result<(u32, Vec<Job>), Failure>
-    requires { IsOf hub.now teller.old × AreJobsOf hub.now jobs.items }
-    ensures { IfOk result (λ r. IsStill hub.now teller.old teller.new × AreStill hub.now jobs.items r.1.items) }
+    requires { IsTellerOf hub.now teller.old × AreJobsOf hub.now jobs.items }
+    ensures { IfOk result (λ r. IsStill hub.now teller.old teller.new
+        × AreStill hub.now jobs.items r.1.items) }
 {
     fund_all(rt, hub, teller, PARTICIPANTS, FUNDS)?;
     let (settled, jobs) = run(rt, alloc, hub, load, jobs)?;
@@ -139,8 +140,8 @@ fn settle_all<R: Threads + Wait + Sync>(
     Ok((settled, jobs))
 }
 
-/// A round: how many transfers were accepted, which are all, if the positions still sum to the funding and, unless the
-/// hub is left open, its books are those of a run in one thread.
+/// A round: how many transfers were accepted, which are all, if the positions still sum to the
+/// funding and, unless the hub is left open, its books are those of a run in one thread.
 fn round<R: Threads + Wait + Sync>(rt: &R, alloc: Global, load: Load) -> Result<u32, Failure> {
     let (hub, mut tellers) = open(alloc, SIZE, load.threads)?;
     let mut teller = last(&hub, &mut tellers)?;

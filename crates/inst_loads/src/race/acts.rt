@@ -1,6 +1,6 @@
 //! What a participant does, by short texts and plain numbers.
 use inst_base::{Fault, Moment};
-use inst_command::{Command, Step};
+use inst_command::{Command, Query, Step};
 use inst_fixtures::{ask, confirm, fund, submit};
 
 /// A command, or a step at a place of an originator.
@@ -21,7 +21,7 @@ pub(crate) fn step_of(who: u8, does: &Does, at: u64) -> Result<Step, Fault> {
         Does::Fund(reference, cents) => fund(who, reference, cents, at),
         Does::Submit(id, to, cents, stamp) => submit(who, id, to, cents, stamp, at),
         Does::Confirm(from, id) => confirm(who, from, id, at),
-        Does::Position => ask(who, Command::Position, at),
+        Does::Position => ask(who, Command::Query(Query::Position), at),
         Does::Deliver(from, index) => Ok(Step::Deliver {
             from,
             index,

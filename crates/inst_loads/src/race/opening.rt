@@ -27,8 +27,8 @@ fn seated(
     Ok(participants)
 }
 
-/// The participants, by number, with so many places for each. A transfer can't be accepted any more from
-/// `margin` milliseconds before its deadline on.
+/// The participants, by number, with so many places for each. A transfer can't be accepted any more
+/// from `margin` milliseconds before its deadline on.
 pub(crate) fn open(alloc: Global, places: u16, margin: u32) -> Result<Vec<Participant>, Fault> {
     let settings = settings_with(alloc, places, margin)?;
     let (boards, _sights) = SharedBoard::open(alloc, &settings, 1)?;

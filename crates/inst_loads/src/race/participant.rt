@@ -3,9 +3,8 @@ ghost use Rattle.atomic_table.specs.Seated.{TableId};
 ghost use Rattle.inst_cell.specs.Opening.{IsOpened};
 
 use inst_base::{Fault, Moment, mention};
-use inst_board::Place;
 use inst_cell::SharedBoard;
-use inst_command::{Answer, Ask, Command, Outcome, Reply, Step};
+use inst_command::{Answer, Ask, Command, Outcome, Place, Reply, Step};
 use inst_journal::Journal;
 use inst_settings::Settings;
 use inst_slot::Slot;

@@ -3,7 +3,8 @@ use crate::race::race;
 use std::alloc::Global;
 use std::thread::Threads;
 
-/// How many milliseconds before its deadline a transfer can't be accepted any more, in every other round.
+/// How many milliseconds before its deadline a transfer can't be accepted any more, in every other
+/// round.
 const MARGIN: u32 = 2_000;
 
 /// How many transfers of all rounds ended so.

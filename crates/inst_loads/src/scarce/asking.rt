@@ -1,31 +1,33 @@
 //! What a hub of many threads is asked.
-ghost use Rattle.inst_hub.specs.Calls.{IsOf, KnowsMore};
+ghost use Rattle.inst_hub.specs.Calls.{IsTellerOf, KnowsMore};
 
 use crate::flaw::Flaw;
-use crate::told::{Told, is_reply};
+use crate::told::{RaceReply, is_reply};
 use inst_base::Fault;
 use inst_command::Step;
 use inst_hub::{Hub, Teller, Ticket};
 use std::sync::Wait;
 
 /// Whether there is a ticket where the reply tells of a transfer, and only there.
-fn is_ticketed(ticket: &Option<Ticket>, wanted: Told) -> bool {
+fn is_ticketed(ticket: &Option<Ticket>, wanted: RaceReply) -> bool {
     match wanted {
-        Told::Taken(..) | Told::Accepted(..) | Told::TimedOut(..) => ticket.is_some(),
-        Told::Done(_) | Told::Position(..) | Told::New(_) => ticket.is_none(),
+        RaceReply::Taken(..) | RaceReply::Accepted(..) | RaceReply::TimedOut(..) =>
+            ticket.is_some(),
+        RaceReply::Done(_) | RaceReply::Position(..) | RaceReply::New(_) => ticket.is_none(),
     }
 }
 
-/// The ticket that comes with the reply, if one does. `OtherAnswer` where the reply isn't the one that is wanted.
+/// The ticket that comes with the reply, if one does. `OtherAnswer` where the reply isn't the one
+/// that is wanted.
 pub(crate) fn ask_and_compare<R: Wait>(
     rt: &R,
     hub: &Hub,
     teller: &mut Teller,
     step: &Step,
-    wanted: Told,
+    wanted: RaceReply,
 ) -> Result<Option<Ticket>, Flaw>
-    requires { IsOf hub.now teller.old }
-    ensures of { IsOf hub.now teller.new }
+    requires { IsTellerOf hub.now teller.old }
+    ensures of { IsTellerOf hub.now teller.new }
     ensures knows { KnowsMore teller.old teller.new }
 {
     let Step::Ask(ask) = step else {

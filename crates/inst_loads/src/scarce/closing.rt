@@ -1,5 +1,5 @@
-//! Hubs that close in want of memory: each growth of a closing is refused in turn, and the rest then closes with the books
-//! of the row.
+//! Hubs that close in want of memory: each growth of a closing is refused in turn, and the rest
+//! then closes with the books of the row.
 ghost use Rattle.inst_model.specs.Opening.{Opening};
 ghost use Rattle.inst_close.specs.Closing.{IsOpenedSo};
 ghost use Rattle.inst_loads.specs.Tellers.{AreAllOf};
@@ -7,7 +7,7 @@ ghost use Rattle.inst_loads.specs.Tellers.{AreAllOf};
 use crate::flaw::Flaw;
 use crate::scarce::asking::ask_and_compare;
 use crate::scarce::want::{MOST_TRIES, Need, QUANTUM, Want};
-use crate::told::Told;
+use crate::told::RaceReply;
 use inst_base::{Fault, Ident, mention};
 use inst_close::{Books, CloseFault, close};
 use inst_command::{Outcome, State, Step};
@@ -58,7 +58,7 @@ fn ask_by<R: Wait>(
     tellers: &mut Vec<Teller>,
     index: usize,
     step: &Step,
-    wanted: Told,
+    wanted: RaceReply,
 ) -> Result<Option<Ticket>, Flaw>
     requires { AreAllOf hub.now tellers.old.items }
     ensures { AreAllOf hub.now tellers.new.items }
@@ -69,7 +69,8 @@ fn ask_by<R: Wait>(
     ask_and_compare(rt, hub, &mut tellers[index], step, wanted)
 }
 
-/// Participant 0 submits the transfer, with as little memory as serves: none is left for what follows.
+/// Participant 0 submits the transfer, with as little memory as serves: none is left for what
+/// follows.
 fn submit_dropping<R: Wait>(
     rt: &R,
     hub: &Hub,
@@ -84,7 +85,7 @@ fn submit_dropping<R: Wait>(
         if !want.hoard.leave(quanta * QUANTUM) {
             return Err(Flaw::NoHoard);
         }
-        let answer = ask_by(rt, hub, tellers, 0, step, Told::Taken("T1", 11_000));
+        let answer = ask_by(rt, hub, tellers, 0, step, RaceReply::Taken("T1", 11_000));
         want.hoard.give_back();
         match answer {
             Err(Flaw::Refused(Fault::Memory)) => {}
@@ -94,8 +95,8 @@ fn submit_dropping<R: Wait>(
     Err(Flaw::NeverServed)
 }
 
-/// The ticket of the row's transfer, once all of the row was asked: participant 0 is funded and submits the transfer,
-/// which participant 1 may confirm.
+/// The ticket of the row's transfer, once all of the row was asked: participant 0 is funded and
+/// submits the transfer, which participant 1 may confirm.
 fn asked<R: Wait>(
     rt: &R,
     hub: &Hub,
@@ -107,14 +108,28 @@ fn asked<R: Wait>(
     ensures { AreAllOf hub.now tellers.new.items }
 {
     let funding = fund(A, "F1", 50_000, 0)?;
-    ask_by(rt, hub, tellers, 0, &funding, Told::Done("F1"))?;
+    ask_by(rt, hub, tellers, 0, &funding, RaceReply::Done("F1"))?;
     let submission = submit(A, "T1", B, 20_000, 1_000, 1_000)?;
     match row {
         Row::Dropped => submit_dropping(rt, hub, want, tellers, &submission),
         Row::Confirmed => {
-            let ticket = ask_by(rt, hub, tellers, 0, &submission, Told::Taken("T1", 11_000))?;
+            let ticket = ask_by(
+                rt,
+                hub,
+                tellers,
+                0,
+                &submission,
+                RaceReply::Taken("T1", 11_000),
+            )?;
             let confirmation = confirm(B, A, "T1", 2_000)?;
-            ask_by(rt, hub, tellers, 1, &confirmation, Told::Accepted(A, "T1"))?;
+            ask_by(
+                rt,
+                hub,
+                tellers,
+                1,
+                &confirmation,
+                RaceReply::Accepted(A, "T1"),
+            )?;
             Ok(ticket)
         }
     }
@@ -133,8 +148,8 @@ fn check_books(
     }
 }
 
-/// Closes the hub with so much memory; where that is refused, its rest with ample memory: whether it was. The books say
-/// what they are to.
+/// Closes the hub with so much memory; where that is refused, its rest with ample memory: whether
+/// it was. The books say what they are to.
 fn close_in_want(
     alloc: Global,
     want: &mut Want,
@@ -174,7 +189,8 @@ fn is_refused<R: Wait>(
     close_in_want(alloc, want, quanta, hub, tellers, &ticket, row)
 }
 
-/// Closes a hub of the row anew, each time with a little more memory, until the closing is refused none.
+/// Closes a hub of the row anew, each time with a little more memory, until the closing is refused
+/// none.
 fn close_row<R: Wait>(rt: &R, alloc: Global, want: &mut Want, row: Row) -> Result<(), Flaw> {
     for quanta in 0..MOST_TRIES {
         if !is_refused(rt, alloc, want, quanta, row)? {

@@ -1,14 +1,15 @@
-//! The row of two tellers at a hub of many threads, call by call, each call in want of memory until it is refused none.
+//! The row of two tellers at a hub of many threads, call by call, each call in want of memory until
+//! it is refused none.
 ghost use Rattle.std.specs.Prelude.{IfOk};
-ghost use Rattle.inst_hub.specs.Calls.{IsOf, AreOf};
+ghost use Rattle.inst_hub.specs.Calls.{IsTellerOf, AreOf};
 
 use crate::flaw::Flaw;
 use crate::hub::job::last;
 use crate::scarce::asking::ask_and_compare;
 use crate::scarce::want::{MOST_TRIES, Need, QUANTUM, Want, check_answer};
-use crate::told::Told;
+use crate::told::RaceReply;
 use inst_base::{Fault, Moment};
-use inst_command::{Command, Outcome, State, Step};
+use inst_command::{Command, Outcome, Query, State, Step};
 use inst_fixtures::{A, B, ask, confirm, fund, settings, submit};
 use inst_hub::{Hub, Teller, Ticket};
 use std::alloc::Global;
@@ -43,32 +44,33 @@ fn open_in_want(alloc: Global, want: &mut Want) -> Result<(Hub, Vec<Teller>), Fl
 /// What originator and beneficiary have.
 #[derive(Clone, Copy)]
 struct Money {
-    originator: Told,
-    beneficiary: Told,
+    originator: RaceReply,
+    beneficiary: RaceReply,
 }
 
 impl Money {
     /// Position, reserved and available cents of the originator; the beneficiary has none yet.
     fn of_first(position: u64, reserved: u64, available: u64) -> Money {
         Money {
-            originator: Told::Position(position, reserved, available),
-            beneficiary: Told::Position(0, 0, 0),
+            originator: RaceReply::Position(position, reserved, available),
+            beneficiary: RaceReply::Position(0, 0, 0),
         }
     }
 }
 
-/// What the step is answered with so many bytes of memory left, if they are enough. All memory is there again afterwards.
+/// What the step is answered with so many bytes of memory left, if they are enough. All memory is
+/// there again afterwards.
 fn ask_in_want<R: Wait>(
     rt: &R,
     hub: &Hub,
     want: &mut Want,
     teller: &mut Teller,
     step: &Step,
-    wanted: Told,
+    wanted: RaceReply,
     bytes: usize,
 ) -> Result<Option<Ticket>, Flaw>
-    requires { IsOf hub.now teller.old }
-    ensures { IsOf hub.now teller.new }
+    requires { IsTellerOf hub.now teller.old }
+    ensures { IsTellerOf hub.now teller.new }
 {
     if !want.hoard.leave(bytes) {
         return Err(Flaw::NoHoard);
@@ -85,12 +87,12 @@ fn has<R: Wait>(
     want: &mut Want,
     teller: &mut Teller,
     who: u8,
-    wanted: Told,
+    wanted: RaceReply,
 ) -> Result<bool, Flaw>
-    requires { IsOf hub.now teller.old }
-    ensures { IsOf hub.now teller.new }
+    requires { IsTellerOf hub.now teller.old }
+    ensures { IsTellerOf hub.now teller.new }
 {
-    let step = ask(who, Command::Position, 2_000)?;
+    let step = ask(who, Command::Query(Query::Position), 2_000)?;
     match ask_in_want(rt, hub, want, teller, &step, wanted, 0) {
         Ok(_) => Ok(true),
         Err(Flaw::OtherAnswer) => Ok(false),
@@ -107,8 +109,8 @@ fn both_have<R: Wait>(
     teller: &mut Teller,
     money: Money,
 ) -> Result<bool, Flaw>
-    requires { IsOf hub.now teller.old }
-    ensures { IsOf hub.now teller.new }
+    requires { IsTellerOf hub.now teller.old }
+    ensures { IsTellerOf hub.now teller.new }
 {
     match has(rt, hub, want, teller, A, money.originator) {
         Ok(true) => has(rt, hub, want, teller, B, money.beneficiary),
@@ -121,12 +123,12 @@ fn both_have<R: Wait>(
 struct Call {
     step: Step,
     need: Need,
-    wanted: Told,
+    wanted: RaceReply,
     before: Money,
 }
 
-/// The ticket that comes with the answer, if one does, tried with more and more memory. Each refused try has left the
-/// money of originator and beneficiary as it was.
+/// The ticket that comes with the answer, if one does, tried with more and more memory. Each
+/// refused try has left the money of originator and beneficiary as it was.
 fn call_in_want<R: Wait>(
     rt: &R,
     hub: &Hub,
@@ -134,8 +136,8 @@ fn call_in_want<R: Wait>(
     teller: &mut Teller,
     call: &Call,
 ) -> Result<Option<Ticket>, Flaw>
-    requires { IsOf hub.now teller.old }
-    ensures { IsOf hub.now teller.new }
+    requires { IsTellerOf hub.now teller.old }
+    ensures { IsTellerOf hub.now teller.new }
 {
     for quanta in 0..MOST_TRIES {
         if !both_have(rt, hub, want, teller, call.before)? {
@@ -167,8 +169,8 @@ fn sweep_in_want<R: Wait>(
     need: Need,
     new: u32,
 ) -> Result<(), Flaw>
-    requires { IsOf hub.now teller.old }
-    ensures { IsOf hub.now teller.new }
+    requires { IsTellerOf hub.now teller.old }
+    ensures { IsTellerOf hub.now teller.new }
 {
     let at = Moment::new(0, 1_000)?;
     if !hub.settings().has_participant(B) {
@@ -195,7 +197,7 @@ fn sees(
     ticket: &Option<Ticket>,
     state: State,
 ) -> Result<(), Flaw>
-    ensures { (hub : Hub) → IsOf hub teller.old → IsOf hub teller.new }
+    ensures { (hub : Hub) → IsTellerOf hub teller.old → IsTellerOf hub teller.new }
 {
     let Some(ticket) = ticket else {
         return Err(Flaw::OtherAnswer);
@@ -215,20 +217,20 @@ fn submit_first<R: Wait>(
     want: &mut Want,
     first: &mut Teller,
 ) -> Result<Option<Ticket>, Flaw>
-    requires { IsOf hub.now first.old }
-    ensures { IsOf hub.now first.new }
+    requires { IsTellerOf hub.now first.old }
+    ensures { IsTellerOf hub.now first.new }
 {
     let funding = Call {
         step: fund(A, "F1", 50_000, 0)?,
         need: Need::Takes,
-        wanted: Told::Done("F1"),
+        wanted: RaceReply::Done("F1"),
         before: Money::of_first(0, 0, 0),
     };
     call_in_want(rt, hub, want, first, &funding)?;
     let submission = Call {
         step: submit(A, "T1", B, 20_000, 1_000, 1_000)?,
         need: Need::Takes,
-        wanted: Told::Taken("T1", 11_000),
+        wanted: RaceReply::Taken("T1", 11_000),
         before: Money::of_first(50_000, 0, 50_000),
     };
     let ticket = call_in_want(rt, hub, want, first, &submission)?;
@@ -236,8 +238,8 @@ fn submit_first<R: Wait>(
     Ok(ticket)
 }
 
-/// The second confirms it for participant 1. What its follow-up, which was refused memory, left undone is found by one
-/// sweep before, and nothing by the next, which takes no memory.
+/// The second confirms it for participant 1. What its follow-up, which was refused memory, left
+/// undone is found by one sweep before, and nothing by the next, which takes no memory.
 fn confirm_second<R: Wait>(
     rt: &R,
     hub: &Hub,
@@ -245,15 +247,15 @@ fn confirm_second<R: Wait>(
     second: &mut Teller,
     ticket: &Option<Ticket>,
 ) -> Result<(), Flaw>
-    requires { IsOf hub.now second.old }
-    ensures { IsOf hub.now second.new }
+    requires { IsTellerOf hub.now second.old }
+    ensures { IsTellerOf hub.now second.new }
 {
     sweep_in_want(rt, hub, want, second, Need::MayTake, 1)?;
     sweep_in_want(rt, hub, want, second, Need::TakesNone, 0)?;
     let confirmation = Call {
         step: confirm(B, A, "T1", 2_000)?,
         need: Need::MayTake,
-        wanted: Told::Accepted(A, "T1"),
+        wanted: RaceReply::Accepted(A, "T1"),
         before: Money::of_first(50_000, 20_000, 30_000),
     };
     call_in_want(rt, hub, want, second, &confirmation)?;
@@ -268,15 +270,15 @@ fn calls<R: Wait>(
     first: &mut Teller,
     second: &mut Teller,
 ) -> Result<(), Flaw>
-    requires { IsOf hub.now first.old × IsOf hub.now second.old }
+    requires { IsTellerOf hub.now first.old × IsTellerOf hub.now second.old }
 {
     let ticket = submit_first(rt, hub, want, first)?;
     confirm_second(rt, hub, want, second, &ticket)?;
     hub.meet(first, second);
     sees(want, first, &ticket, ACCEPTED)?;
     let settled = Money {
-        originator: Told::Position(30_000, 0, 30_000),
-        beneficiary: Told::Position(20_000, 0, 20_000),
+        originator: RaceReply::Position(30_000, 0, 30_000),
+        beneficiary: RaceReply::Position(20_000, 0, 20_000),
     };
     check_answer(both_have(rt, hub, want, second, settled)?)
 }
@@ -296,7 +298,8 @@ fn calls_of_two<R: Wait>(
     calls(rt, hub, want, &mut first, &mut second)
 }
 
-/// Two tellers, of which one submits a transfer and the other confirms it, and what follows is brought by sweeps.
+/// Two tellers, of which one submits a transfer and the other confirms it, and what follows is
+/// brought by sweeps.
 pub(crate) fn two_tellers<R: Wait>(rt: &R, alloc: Global, want: &mut Want) -> Result<(), Flaw> {
     let (hub, tellers) = open_in_want(alloc, want)?;
     calls_of_two(rt, &hub, want, tellers)

@@ -1,6 +1,6 @@
-//! Rows at a hub in one thread and by slots of three participants over one board, step by step, each step in want of
-//! memory until it is refused none: first the hub takes it, and then the slots. After each step both have the same
-//! histories and said the same.
+//! Rows at a hub in one thread and by slots of three participants over one board, step by step,
+//! each step in want of memory until it is refused none: first the hub takes it, and then the
+//! slots. After each step both have the same histories and said the same.
 ghost use Rattle.std.specs.Prelude.{◌≡◌, true, IfOk};
 ghost use Rattle.inst_command.specs.Step.{step_fits};
 ghost use Rattle.inst_world.specs.HasRun.{IsOfModel};
@@ -10,8 +10,7 @@ use crate::scarce::rows::{self, Line};
 use crate::scarce::same::is_same;
 use crate::scarce::want::{MOST_TRIES, Need, QUANTUM, Want, check_answer};
 use inst_base::{Fault, Moment, mention};
-use inst_board::Place;
-use inst_command::{Answer, Ask, Command, Outcome, Reply, Step, Submission};
+use inst_command::{Answer, Ask, Command, Outcome, Place, Reply, Step, Submission};
 use inst_fixtures::{A, Act, B, C, Slots, settings};
 use inst_journal::Event;
 use inst_world::World;
@@ -92,7 +91,8 @@ fn take_lines(
     Ok(())
 }
 
-/// Takes the step of the line at the hub and then by the slots, and compares what they answer and keep.
+/// Takes the step of the line at the hub and then by the slots, and compares what they answer and
+/// keep.
 fn take_line(
     alloc: Global,
     want: &mut Want,
@@ -126,8 +126,8 @@ fn take_step(
     Ok(answer)
 }
 
-/// What the hub answers to the step, tried with more and more memory. Each refused try has left the histories as the
-/// slots have them, which take the step only afterwards.
+/// What the hub answers to the step, tried with more and more memory. Each refused try has left the
+/// histories as the slots have them, which take the step only afterwards.
 fn step_in_want(
     want: &mut Want,
     world: &mut World,
@@ -156,8 +156,8 @@ fn step_in_want(
     Err(Flaw::NeverServed)
 }
 
-/// What its slot answers to the step, tried with more and more memory. Each refused try has left the histories as they
-/// were.
+/// What its slot answers to the step, tried with more and more memory. Each refused try has left
+/// the histories as they were.
 fn act_in_want(
     alloc: Global,
     want: &mut Want,

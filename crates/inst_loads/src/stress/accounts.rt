@@ -1,16 +1,17 @@
 //! Whether the participants have what the outcomes of the transfers make of their funding.
-ghost use Rattle.inst_hub.specs.Calls.{IsOf};
+ghost use Rattle.inst_hub.specs.Calls.{IsTellerOf};
 ghost use Rattle.inst_loads.specs.Jobs.{IsStill};
 
 use crate::flaw::{Flaw, check_sum};
 use crate::hub::asking::{ask, ask_money};
 use crate::stress::sights::{Sight, Sights};
 use crate::stress::transfer::{FUNDS, PARTICIPANTS};
-use inst_command::{Command, Line, LineKind, Outcome, Reply, State};
+use inst_command::{Command, Line, LineKind, Outcome, Query, Reply, State};
 use inst_hub::{Hub, Teller};
 use std::sync::Wait;
 
-/// How many replies have all lines of a participant: one for its funding, and for each transfer of the hub at most one.
+/// How many replies have all lines of a participant: one for its funding, and for each transfer of
+/// the hub at most one.
 const PAGES: u16 = 3;
 
 /// How many lines a reply has at most.
@@ -96,7 +97,7 @@ impl RunningBalance {
 
 /// The position to which the statement of the participant leads.
 fn statement<R: Wait>(rt: &R, hub: &Hub, teller: &mut Teller, who: u8) -> Result<u64, Flaw>
-    requires { IsOf hub.now teller.old }
+    requires { IsTellerOf hub.now teller.old }
     ensures { IsStill hub.now teller.old teller.new }
 {
     let mut balance = RunningBalance {
@@ -104,17 +105,18 @@ fn statement<R: Wait>(rt: &R, hub: &Hub, teller: &mut Teller, who: u8) -> Result
         position: 0,
     };
     for _page in 0..PAGES {
-        let command = Command::Statement {
+        let command = Command::Query(Query::Statement {
             skip: u64::from(balance.lines),
             count: PAGE,
-        };
+        });
         let reply = ask(rt, hub, teller, who, command, 0)?;
         balance = balance.after_reply(&reply)?;
     }
     Ok(balance.position)
 }
 
-/// The position of a participant, where nothing is reserved, and it is what the outcomes and the statement say.
+/// The position of a participant, where nothing is reserved, and it is what the outcomes and the
+/// statement say.
 fn check_account<R: Wait>(
     rt: &R,
     hub: &Hub,
@@ -122,7 +124,7 @@ fn check_account<R: Wait>(
     sights: &Sights,
     who: u8,
 ) -> Result<u64, Flaw>
-    requires { IsOf hub.now teller.old }
+    requires { IsTellerOf hub.now teller.old }
     ensures { IsStill hub.now teller.old teller.new }
 {
     let money = ask_money(rt, hub, teller, who)?;
@@ -148,7 +150,7 @@ pub(crate) fn check_accounts<R: Wait>(
     teller: &mut Teller,
     sights: &Sights,
 ) -> Result<(), Flaw>
-    requires { IsOf hub.now teller.old }
+    requires { IsTellerOf hub.now teller.old }
     ensures { IsStill hub.now teller.old teller.new }
 {
     let mut positions = 0u64;

@@ -1,6 +1,6 @@
 //! What a teller does in a stress, and what it is told.
 ghost use Rattle.inst_hub.specs.declared.hub.Hub.{Hub};
-ghost use Rattle.inst_hub.specs.Calls.{IsOf};
+ghost use Rattle.inst_hub.specs.Calls.{IsTellerOf};
 ghost use Rattle.inst_loads.specs.Jobs.{IsStill};
 
 use crate::flaw::Flaw;
@@ -8,8 +8,7 @@ use crate::hub::asking::{call, money_of};
 use crate::stress::chooser::Choice;
 use crate::stress::sights::{Sight, Sights};
 use inst_base::{Fault, Moment, mention};
-use inst_board::Place;
-use inst_command::{Ask, Outcome, Reply};
+use inst_command::{Ask, Outcome, Place, Reply};
 use inst_hub::{Hub, Teller, Ticket};
 use std::sync::Wait;
 
@@ -21,7 +20,7 @@ pub(crate) fn act_so<R: Wait>(
     sights: &mut Sights,
     choice: &Choice,
 ) -> Result<(), Flaw>
-    requires { IsOf hub.now teller.old }
+    requires { IsTellerOf hub.now teller.old }
     ensures { IsStill hub.now teller.old teller.new }
 {
     match choice {
@@ -45,7 +44,7 @@ pub(crate) fn sweep<R: Wait>(
     who: u8,
     at: Moment,
 ) -> Result<u32, Flaw>
-    requires { IsOf hub.now teller.old }
+    requires { IsTellerOf hub.now teller.old }
     ensures { IsStill hub.now teller.old teller.new }
 {
     if u16::from(who) >= hub.settings().participants() {
@@ -62,7 +61,7 @@ pub(crate) fn ask_so<R: Wait>(
     sights: &mut Sights,
     ask: &Ask,
 ) -> Result<(), Flaw>
-    requires { IsOf hub.now teller.old }
+    requires { IsTellerOf hub.now teller.old }
     ensures { IsStill hub.now teller.old teller.new }
 {
     let (reply, ticket) = call(rt, hub, teller, ask)?;
@@ -109,7 +108,7 @@ fn told(
     reply: &Reply,
     ticket: Ticket,
 ) -> Result<(), Flaw>
-    ensures { (hub : Hub) → IsOf hub teller.old → IsStill hub teller.old teller.new }
+    ensures { (hub : Hub) → IsTellerOf hub teller.old → IsStill hub teller.old teller.new }
 {
     mention::<Outcome>();
     let sight = Sight::of(&ask.command, reply, ticket).ok_or(Flaw::OtherTransfer)?;
@@ -120,7 +119,7 @@ fn told(
 
 /// Peeks at this place, where it was told of.
 pub(crate) fn peek_at(teller: &mut Teller, sights: &mut Sights, place: Place) -> Result<(), Flaw>
-    ensures { (hub : Hub) → IsOf hub teller.old → IsStill hub teller.old teller.new }
+    ensures { (hub : Hub) → IsTellerOf hub teller.old → IsStill hub teller.old teller.new }
 {
     let Some(sight) = sights.at(place) else {
         return Ok(());

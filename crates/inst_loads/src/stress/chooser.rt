@@ -5,15 +5,14 @@ use crate::stress::sights::PLACES;
 use crate::stress::stress_round::StressRound;
 use crate::stress::transfer::{NAMES, PARTICIPANTS, Transfer};
 use inst_base::{Cents, Fault, Moment, Reason};
-use inst_board::Place;
-use inst_command::{Ask, Command, Submission};
+use inst_command::{Ask, Command, Place, Query, Submission};
 use std::alloc::Global;
 
 /// How many steps a thread takes in a round.
 pub(crate) const STEPS: u32 = 2_048;
 
-/// After how many steps all threads wait for one another and go on to the next number, so that they meet at the same
-/// transfers.
+/// After how many steps all threads wait for one another and go on to the next number, so that they
+/// meet at the same transfers.
 const PACE: u32 = 32;
 
 /// How many numbers are at hand at a time.
@@ -71,7 +70,8 @@ impl Chooser {
         }
     }
 
-    /// How often the threads have arrived, where they now wait for one another, first before the first step.
+    /// How often the threads have arrived, where they now wait for one another, first before the
+    /// first step.
     pub(crate) fn arrivals(&self) -> Option<u32> {
         if self.step % PACE != 0 {
             return None;
@@ -80,7 +80,8 @@ impl Chooser {
         Some(times.saturating_mul(u32::from(self.round.threads)))
     }
 
-    /// How many bytes of memory are left for the step that was chosen, where it is to be in want of memory.
+    /// How many bytes of memory are left for the step that was chosen, where it is to be in want of
+    /// memory.
     pub(crate) fn bytes_left(&mut self) -> Option<usize> {
         if !self.round.is_scarce || self.generator.below(WANT) != 0 {
             return None;
@@ -88,8 +89,8 @@ impl Chooser {
         Some((self.generator.below(QUANTA) * QUANTUM) as usize)
     }
 
-    /// The contested transfer: all threads submit it before they wait for one another, and then decide it at the same
-    /// time.
+    /// The contested transfer: all threads submit it before they wait for one another, and then
+    /// decide it at the same time.
     fn contested(&self, alloc: Global) -> Result<Transfer, Fault> {
         let number = self.step / PACE;
         let participants = u32::from(PARTICIPANTS);
@@ -100,7 +101,8 @@ impl Chooser {
         )
     }
 
-    /// The one half of the threads confirm or reject the contested transfer in time, the others let it expire.
+    /// The one half of the threads confirm or reject the contested transfer in time, the others let
+    /// it expire.
     fn decide_contested(&self, transfer: &Transfer) -> Result<Choice, Fault> {
         let Transfer { from, to, id, .. } = *transfer;
         let deadline = transfer.deadline();
@@ -145,7 +147,8 @@ impl Chooser {
         (self.step / PACE + self.generator.below(WINDOW)) % NAMES
     }
 
-    /// The number that the thread submits for this one: even ones are all threads', each odd one is one thread's.
+    /// The number that the thread submits for this one: even ones are all threads', each odd one is
+    /// one thread's.
     fn submitted(&self, number: u32) -> u32 {
         let threads = u32::from(self.round.threads.max(1));
         if number % 2 == 1 && number / 2 % threads != u32::from(self.thread) {
@@ -188,11 +191,12 @@ impl Chooser {
                 who: self.participant(),
                 at: Moment::new(0, at)?,
             }),
-            _ => command_at(from, Command::Position, at),
+            _ => command_at(from, Command::Query(Query::Position), at),
         }
     }
 
-    /// A reading for the decision of a transfer: well before its deadline, about the margin, about the deadline.
+    /// A reading for the decision of a transfer: well before its deadline, about the margin, about
+    /// the deadline.
     fn reading(&mut self, deadline: u64) -> u64 {
         let margin = u64::from(self.round.margin);
         match self.generator.below(16) {

@@ -1,4 +1,5 @@
-//! Whether what was handed out is what was submitted: no transfer twice, and each that didn't time out.
+//! Whether what was handed out is what was submitted: no transfer twice, and each that didn't time
+//! out.
 use crate::flaw::Flaw;
 use crate::stress::sights::{Sight, Sights};
 use inst_command::{Entry, Outcome, State};
@@ -37,9 +38,9 @@ fn are_known(sights: &Sights) -> bool {
     true
 }
 
-/// All that was handed out was submitted, and nothing is missing: `StrangeEntry` where a transfer was handed out twice,
-/// or one that nobody was told of. A transfer comes to its beneficiary after its submission, but where it timed out
-/// before.
+/// All that was handed out was submitted, and nothing is missing: `StrangeEntry` where a transfer
+/// was handed out twice, or one that nobody was told of. A transfer comes to its beneficiary after
+/// its submission, but where it timed out before.
 pub(crate) fn check_inbox(sights: &Sights) -> Result<(), Flaw> {
     if !are_known(sights) {
         return Err(Flaw::StrangeEntry);

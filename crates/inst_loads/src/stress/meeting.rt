@@ -1,6 +1,6 @@
 //! What the tellers tell each other and see once their threads are joined.
 ghost use Rattle.inst_hub.specs.declared.hub.Hub.{Hub};
-ghost use Rattle.inst_hub.specs.Calls.{IsOf};
+ghost use Rattle.inst_hub.specs.Calls.{IsTellerOf};
 ghost use Rattle.inst_loads.specs.Jobs.{AreJobsOf, AreStill, IsStill};
 
 use crate::flaw::{Failure, Flaw};
@@ -11,7 +11,7 @@ use inst_hub::{Hub, Teller};
 
 /// The teller meets that of each job.
 pub(crate) fn meet_all(hub: &Hub, teller: &mut Teller, jobs: &mut [Job])
-    requires { IsOf hub.now teller.old × AreJobsOf hub.now jobs.old }
+    requires { IsTellerOf hub.now teller.old × AreJobsOf hub.now jobs.old }
     ensures { IsStill hub.now teller.old teller.new × AreStill hub.now jobs.old jobs.new }
 {
     for job in jobs.iter_mut() {
@@ -21,7 +21,7 @@ pub(crate) fn meet_all(hub: &Hub, teller: &mut Teller, jobs: &mut [Job])
 
 /// The teller peeks at all that was told of.
 pub(crate) fn peek_all(teller: &mut Teller, sights: &mut Sights) -> Result<(), Flaw>
-    ensures { (hub : Hub) → IsOf hub teller.old → IsStill hub teller.old teller.new }
+    ensures { (hub : Hub) → IsTellerOf hub teller.old → IsStill hub teller.old teller.new }
 {
     for number in 0..ALL_PLACES {
         peek_at(teller, sights, place_of(number))?;
@@ -31,7 +31,7 @@ pub(crate) fn peek_all(teller: &mut Teller, sights: &mut Sights) -> Result<(), F
 
 /// Whether the teller sees just what was noted.
 fn sees_so(teller: &mut Teller, slot: &Option<Sight>) -> bool
-    ensures { (hub : Hub) → IsOf hub teller.old → IsStill hub teller.old teller.new }
+    ensures { (hub : Hub) → IsTellerOf hub teller.old → IsStill hub teller.old teller.new }
 {
     match slot {
         Some(sight) => teller.peek(&sight.ticket) == sight.state,
@@ -41,7 +41,7 @@ fn sees_so(teller: &mut Teller, slot: &Option<Sight>) -> bool
 
 /// Whether the teller sees of all transfers just what was noted.
 fn sees_all_so(teller: &mut Teller, sights: &Sights) -> bool
-    ensures { (hub : Hub) → IsOf hub teller.old → IsStill hub teller.old teller.new }
+    ensures { (hub : Hub) → IsTellerOf hub teller.old → IsStill hub teller.old teller.new }
 {
     for slot in sights.places() {
         if !sees_so(teller, slot) {

@@ -1,6 +1,6 @@
 //! The threads of a stress, each with a teller of its own.
 ghost use Rattle.std.specs.Prelude.{IfOk};
-ghost use Rattle.inst_hub.specs.Calls.{IsOf};
+ghost use Rattle.inst_hub.specs.Calls.{IsTellerOf};
 ghost use Rattle.inst_loads.specs.Done.{AllAreDone};
 ghost use Rattle.inst_loads.specs.Jobs.{AreJobsOf, AreStill, IsStill};
 
@@ -20,9 +20,10 @@ use std::thread::{self, Threads};
 
 /// What the teller of a thread was told.
 #[derive(Drop)]
-struct Told {
+struct RaceReply {
     sights: Sights,
-    /// Held until all threads are done: given back before, it would be taken by those that still are in want.
+    /// Held until all threads are done: given back before, it would be taken by those that still
+    /// are in want.
     hoard: Option<Hoard>,
 }
 
@@ -43,7 +44,7 @@ fn take_step<R: Wait>(
     hoard: &mut Option<Hoard>,
     sights: &mut Sights,
 ) -> Result<(), Flaw>
-    requires { IsOf hub.now teller.old }
+    requires { IsTellerOf hub.now teller.old }
     ensures { IsStill hub.now teller.old teller.new }
 {
     let choice = chooser.choose(alloc)?;
@@ -67,8 +68,8 @@ fn take_steps<R: Wait>(
     teller: &mut Teller,
     chooser: Chooser,
     pace: &Pace,
-) -> Result<Told, Flaw>
-    requires { IsOf hub.now teller.old }
+) -> Result<RaceReply, Flaw>
+    requires { IsTellerOf hub.now teller.old }
     ensures { IsStill hub.now teller.old teller.new }
 {
     let mut chooser = chooser;
@@ -95,7 +96,7 @@ fn take_steps<R: Wait>(
         ended?;
         keep_pace(&chooser, pace);
     }
-    Ok(Told { sights, hoard })
+    Ok(RaceReply { sights, hoard })
 }
 
 /// Does the job of a thread.
@@ -106,8 +107,8 @@ fn work<R: Wait>(
     round: StressRound,
     pace: &Pace,
     job: Job,
-) -> Result<Done<Told>, Failure>
-    requires { IsOf hub.now job.teller }
+) -> Result<Done<RaceReply>, Failure>
+    requires { IsTellerOf hub.now job.teller }
     ensures { IfOk result (λ done. IsStill hub.now job.teller done.job.teller) }
 {
     let Job { mut teller, thread } = job;
@@ -129,22 +130,22 @@ fn work_all<R: Threads + Wait + Sync>(
     round: StressRound,
     pace: &Pace,
     jobs: Vec<Job>,
-) -> Result<Vec<Result<Done<Told>, Failure>>, AllocError>
+) -> Result<Vec<Result<Done<RaceReply>, Failure>>, AllocError>
     requires { AreJobsOf hub.now jobs.items }
     ensures { IfOk result (λ all. AllAreDone hub.now jobs.items all.items) }
 {
     thread::map_vec(
         rt,
         jobs,
-        &|job: Job| -> Result<Done<Told>, Failure>
-            requires { IsOf hub.now job.teller }
+        &|job: Job| -> Result<Done<RaceReply>, Failure>
+            requires { IsTellerOf hub.now job.teller }
             ensures { IfOk result (λ done. IsStill hub.entry.now job.teller done.job.teller) }
         { work(rt, alloc, hub, round, pace, job) },
     )
 }
 
 /// All that the tellers were told.
-fn add_all(alloc: Global, all: Vec<Told>) -> Result<Sights, Flaw> {
+fn add_all(alloc: Global, all: Vec<RaceReply>) -> Result<Sights, Flaw> {
     let mut sights = Sights::new(alloc)?;
     for told in all {
         sights.add(&told.sights)?;

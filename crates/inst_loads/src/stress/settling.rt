@@ -1,5 +1,5 @@
 //! What is asked once all threads are joined, so that nothing is unread and no transfer is pending.
-ghost use Rattle.inst_hub.specs.Calls.{IsOf};
+ghost use Rattle.inst_hub.specs.Calls.{IsTellerOf};
 ghost use Rattle.inst_loads.specs.Jobs.{IsStill};
 
 use crate::flaw::Flaw;
@@ -8,8 +8,7 @@ use crate::stress::sights::{ALL_PLACES, Sights, place_of};
 use crate::stress::stress_round::StressRound;
 use crate::stress::transfer::PARTICIPANTS;
 use inst_base::{Fault, Moment};
-use inst_board::Place;
-use inst_command::{Ask, Command, State};
+use inst_command::{Ask, Command, Place, State};
 use inst_hub::{Hub, Teller};
 use std::sync::Wait;
 
@@ -37,14 +36,15 @@ fn question(sights: &Sights, place: Place) -> Result<Option<Ask>, Fault> {
     }
 }
 
-/// The originator of each pending transfer asks for it, so that it times out and both sides learn of it.
+/// The originator of each pending transfer asks for it, so that it times out and both sides learn
+/// of it.
 pub(crate) fn settle<R: Wait>(
     rt: &R,
     hub: &Hub,
     teller: &mut Teller,
     sights: &mut Sights,
 ) -> Result<(), Flaw>
-    requires { IsOf hub.now teller.old }
+    requires { IsTellerOf hub.now teller.old }
     ensures { IsStill hub.now teller.old teller.new }
 {
     for number in 0..ALL_PLACES {
@@ -57,7 +57,7 @@ pub(crate) fn settle<R: Wait>(
 
 /// How many were new in a sweep of each participant at this reading, in milliseconds.
 fn sweep_each<R: Wait>(rt: &R, hub: &Hub, teller: &mut Teller, at: u64) -> Result<u32, Flaw>
-    requires { IsOf hub.now teller.old }
+    requires { IsTellerOf hub.now teller.old }
     ensures { IsStill hub.now teller.old teller.new }
 {
     let mut count = 0u32;
@@ -68,15 +68,15 @@ fn sweep_each<R: Wait>(rt: &R, hub: &Hub, teller: &mut Teller, at: u64) -> Resul
     Ok(count)
 }
 
-/// In a round of want each participant is swept at a reading at which nothing is due, so that what followed a reply and
-/// was refused memory comes to it now.
+/// In a round of want each participant is swept at a reading at which nothing is due, so that what
+/// followed a reply and was refused memory comes to it now.
 pub(crate) fn bring_all<R: Wait>(
     rt: &R,
     hub: &Hub,
     teller: &mut Teller,
     round: StressRound,
 ) -> Result<(), Flaw>
-    requires { IsOf hub.now teller.old }
+    requires { IsTellerOf hub.now teller.old }
     ensures { IsStill hub.now teller.old teller.new }
 {
     if round.is_scarce {
@@ -85,16 +85,16 @@ pub(crate) fn bring_all<R: Wait>(
     Ok(())
 }
 
-/// Each participant is swept, and then sweeps find nothing new. The first sweeps find only what earlier sweeps decided,
-/// since a sweep of one side tells the other nothing, while each call does, but where memory is refused: so they find
-/// nothing in a round in which no thread swept.
+/// Each participant is swept, and then sweeps find nothing new. The first sweeps find only what
+/// earlier sweeps decided, since a sweep of one side tells the other nothing, while each call does,
+/// but where memory is refused: so they find nothing in a round in which no thread swept.
 pub(crate) fn sweep_all<R: Wait>(
     rt: &R,
     hub: &Hub,
     teller: &mut Teller,
     round: StressRound,
 ) -> Result<(), Flaw>
-    requires { IsOf hub.now teller.old }
+    requires { IsTellerOf hub.now teller.old }
     ensures { IsStill hub.now teller.old teller.new }
 {
     let untold = sweep_each(rt, hub, teller, LATE)?;
@@ -114,7 +114,7 @@ pub(crate) fn fetch_all<R: Wait>(
     teller: &mut Teller,
     sights: &mut Sights,
 ) -> Result<(), Flaw>
-    requires { IsOf hub.now teller.old }
+    requires { IsTellerOf hub.now teller.old }
     ensures { IsStill hub.now teller.old teller.new }
 {
     for number in 0..PARTICIPANTS * FETCHES {

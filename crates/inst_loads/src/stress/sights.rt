@@ -5,8 +5,7 @@ ghost use Rattle.inst_loads.specs.declared.stress.sights.TheConstants.{ALL_PLACE
 use crate::flaw::Flaw;
 use crate::stress::transfer::PARTICIPANTS;
 use inst_base::{Fault, Ident, mention};
-use inst_board::Place;
-use inst_command::{Command, Entry, Outcome, Reply, State};
+use inst_command::{Command, Entry, Outcome, Place, Reply, State};
 use inst_hub::Ticket;
 use std::alloc::Global;
 
@@ -64,8 +63,8 @@ impl Sight {
         })
     }
 
-    /// This with what was told or seen later. `OtherTransfer` where that is of another transfer, `flaw` where the state
-    /// doesn't go on.
+    /// This with what was told or seen later. `OtherTransfer` where that is of another transfer,
+    /// `flaw` where the state doesn't go on.
     fn then(self, later: Sight, flaw: Flaw) -> Result<Sight, Flaw> {
         if self.id != later.id {
             return Err(Flaw::OtherTransfer);
@@ -77,7 +76,8 @@ impl Sight {
         Ok(Sight { contents, ..later })
     }
 
-    /// This with what another teller was told and saw. `TellersDiffer` where both have an outcome and not the same.
+    /// This with what another teller was told and saw. `TellersDiffer` where both have an outcome
+    /// and not the same.
     fn beside(self, other: Sight) -> Result<Sight, Flaw> {
         match other.state {
             State::Decided(_) => self.then(other, Flaw::TellersDiffer),
@@ -86,7 +86,8 @@ impl Sight {
     }
 }
 
-/// The sights of the transfers at all places, the entries that were handed out, and how many calls a teller made.
+/// The sights of the transfers at all places, the entries that were handed out, and how many calls
+/// a teller made.
 #[derive(Drop)]
 pub(crate) struct Sights {
     places: Vec<Option<Sight>>,
@@ -112,7 +113,8 @@ pub(crate) fn place_of(number: u16) -> Place
 }
 
 impl Sights {
-    /// Nothing seen yet. There is room for the entries of all places, so that nothing that is noted is refused memory.
+    /// Nothing seen yet. There is room for the entries of all places, so that nothing that is noted
+    /// is refused memory.
     pub(crate) fn new(alloc: Global) -> Result<Sights, Flaw> {
         mention::<(State, Outcome)>();
         let mut places = Vec::new(alloc);

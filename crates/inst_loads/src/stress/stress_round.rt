@@ -10,10 +10,11 @@ pub(crate) struct StressRound {
     pub(crate) threads: u8,
     /// From when on nothing is accepted, in milliseconds before the deadline.
     pub(crate) margin: u32,
-    /// Whether threads sweep participants. In a round without, all that a participant knows of its transfers it has
-    /// from calls, its own and the other side's.
+    /// Whether threads sweep participants. In a round without, all that a participant knows of its
+    /// transfers it has from calls, its own and the other side's.
     pub(crate) sweeps: bool,
-    /// Whether threads take memory away before some calls, so that these and those of others are refused some.
+    /// Whether threads take memory away before some calls, so that these and those of others are
+    /// refused some.
     pub(crate) is_scarce: bool,
 }
 

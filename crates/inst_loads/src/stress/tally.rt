@@ -3,7 +3,8 @@ use crate::stress::sights::Sights;
 use inst_command::{Outcome, State};
 use std::fmt::{self, Display, Formatter};
 
-/// How many calls were made until all transfers had ended, how these ended, and how many steps were refused memory.
+/// How many calls were made until all transfers had ended, how these ended, and how many steps were
+/// refused memory.
 #[derive(Clone, Copy)]
 pub(crate) struct Tally {
     pub(crate) calls: u64,

@@ -8,8 +8,8 @@ pub(crate) const PARTICIPANTS: u16 = 4;
 /// What each of them is funded with, in cents: for some 15 transfers at a time.
 pub(crate) const FUNDS: u64 = 1_500;
 
-/// How many transfers of each originator the threads take at chance. With those that all decide at the same time there
-/// are more than there are places.
+/// How many transfers of each originator the threads take at chance. With those that all decide at
+/// the same time there are more than there are places.
 pub(crate) const NAMES: u32 = 56;
 
 /// The time stamp of the first transfers, in milliseconds.
@@ -18,8 +18,8 @@ const FIRST_STAMP: u64 = 5_000;
 /// From the time stamp of one number to that of the next, in milliseconds.
 const STRIDE: u64 = 10;
 
-/// A transfer that the threads submit and decide. All of it follows from its originator and its number, so that another
-/// submission of it is a repeat.
+/// A transfer that the threads submit and decide. All of it follows from its originator and its
+/// number, so that another submission of it is a repeat.
 #[derive(Clone, Copy)]
 pub(crate) struct Transfer {
     pub(crate) from: u8,

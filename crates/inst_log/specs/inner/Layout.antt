@@ -1,11 +1,11 @@
 -- The file of a log whose end isn't closed.
 use Rattle.std.specs.Prelude.{◌≡◌, ℕ, List, ◌++◌, length}
 use Rattle.inst_base.specs.Newline.{NoNewline}
-use Rattle.inst_log.specs.Layout.{recovered, blocks}
+use Rattle.inst_log.specs.Layout.{recovered_lines, blocks}
 
 -- behind its lines the file has no further newline
 pub record IsUnclosed (file : List ℕ) (end : ℕ) : Type 0 where
   pub rest : List ℕ
-  pub split : file ≡ blocks (recovered file) ++ rest
+  pub split : file ≡ blocks (recovered_lines file) ++ rest
   pub quiet : NoNewline rest
-  pub ends : end ≡ length (blocks (recovered file))
+  pub ends : end ≡ length (blocks (recovered_lines file))

@@ -1,14 +1,17 @@
--- What a repair of a file's end leaves: its end is closed and nothing stands behind it, and whatever a crash leaves of it
--- stands for the same lines.
+-- What a repair of a file's end leaves: its end is closed and nothing stands behind it, and
+-- whatever a crash leaves of it stands for the same lines.
 use Rattle.std.specs.Prelude.{◌≡◌, ℕ, Bool, List, Result, OnOk, IsTrue}
 use Rattle.sqlite_disk.specs.Disk.{Only}
-use Rattle.inst_log.specs.Layout.{recovered, IsClosed}
+use Rattle.inst_log.specs.Layout.{recovered_lines, HasClosedByte}
 
 -- the disk's file ends there and is closed, all of it on the disk, where the repair is done
-pub record Repairs {D T E : Type 0} (seen : D → List ℕ) (may_leave : D → List ℕ → Type 0) (is_clean is_usable : D → Bool)
+pub record Repairs {D T E : Type 0} (seen : D → List ℕ) (may_leave : D → List ℕ →
+    Type 0) (is_clean is_usable : D → Bool)
     (old : D) (end : ℕ) (result : Result T E) (new : D) : Type 0 where
-  pub closed : OnOk result (IsTrue (is_clean new) → IsClosed (seen new) end × (recovered (seen new) ≡ recovered (seen old)))
+  pub closed : OnOk result (IsTrue (is_clean new) →
+      HasClosedByte (seen new) end × (recovered_lines (seen new) ≡ recovered_lines (seen old)))
   pub durable : OnOk result (IsTrue (is_clean new) → Only (seen new) (may_leave new))
-  pub any_moment : IsTrue (is_clean new) → (c : List ℕ) → may_leave new c → recovered c ≡ recovered (seen old)
+  pub any_moment : IsTrue (is_clean new) → (c : List ℕ) → may_leave new c →
+      recovered_lines c ≡ recovered_lines (seen old)
   pub usable : OnOk result (IsTrue (is_usable new))
   pub clean : IsTrue (is_clean new) → IsTrue (is_clean old)

@@ -1,29 +1,36 @@
 -- The books that follow the first line of a log, as they are found.
-use Rattle.std.specs.Prelude.{◌≡◌, List, ℕ, ◌∷◌, ◌++◌, length, Option, None, Some, option_map, Result}
+use Rattle.std.specs.Prelude.{◌≡◌, List, ℕ, ◌∷◌, ◌++◌, length, Option, None, Some, option_map}
+use Rattle.std.specs.Prelude.{Result}
 use Rattle.inst_settings.specs.Settings.{HubSettings}
 use Rattle.inst_journal.specs.declared.event.Event.{Event}
 use Rattle.inst_journal.specs.History.{History}
 use Rattle.inst_lines.specs.declared.mode.Mode.{Mode}
-use Rattle.inst_log.specs.Layout.{recovered, IsWhole}
+use Rattle.inst_log.specs.Layout.{recovered_lines, AreWholeLines}
 use Rattle.inst_log.specs.Opening.{Begins}
 use Rattle.inst_books.specs.Books.{all_events}
 use Rattle.inst_logged.specs.declared.version.Version.{Version}
 use Rattle.inst_logged.specs.declared.error.LoggedError.{LoggedError}
-use Rattle.inst_logged.specs.Header.{marked, header_from, lines_of_books, CanBeginFrom}
-use Rattle.inst_logged.specs.Beginning.{IsHeaderLine}
+use Rattle.inst_logged.specs.Header.{lines_and_mark, header_from, lines_of_books, CanBeginFrom}
+use Rattle.inst_logged.specs.LogHeader.{IsHeaderLine}
 use Rattle.inst_logged.specs.Finding.{Unrefused}
 
--- the text is whole lines: a first one, those of the books of these journals, their mark if the log has marks, and others
-pub record HasBooks (version : Version) (s : HubSettings) (journals : List History) (text : List ℕ) : Type 0 where
+-- the text is whole lines: a first one, those of the books of these journals, their mark if the log
+-- has marks, and others
+pub record HasBooks (version : Version) (s : HubSettings) (journals : List History) (text : List ℕ)
+    : Type 0 where
   pub line : List ℕ
   pub rest : List (List ℕ)
-  pub whole : IsWhole text
-  pub lines : recovered text ≡ marked version (line ∷ lines_of_books s journals) ++ rest
+  pub whole : AreWholeLines text
+  pub lines : recovered_lines text
+      ≡ lines_and_mark version (line ∷ lines_of_books s journals) ++ rest
 
--- the books behind the first line are found: none if the hub opened for the first time, and else those with the same
--- events
-pub record FindsBooks {V : Type 0} (events_of : V → List (List Event)) (version : Version) (mode : Mode) (s : HubSettings) (first file : List ℕ)
+-- the books behind the first line are found: none if the hub opened for the first time, and else
+-- those with the same events
+pub record FindsBooks {V : Type 0} (events_of : V →
+    List (List Event)) (version : Version) (mode : Mode) (s : HubSettings) (first file : List ℕ)
     (result : Result (Option V) LoggedError) : Type 0 where
   pub none : IsHeaderLine version mode s None first → Unrefused (λ found. found ≡ None) result
-  pub some : (journals : List History) → CanBeginFrom s journals → IsHeaderLine version mode s (Some (length (lines_of_books s journals))) first
-      → Begins (header_from version mode s journals) file → Unrefused (λ found. option_map events_of found ≡ Some (all_events journals)) result
+  pub some : (journals : List History) → CanBeginFrom s journals →
+      IsHeaderLine version mode s (Some (length (lines_of_books s journals))) first
+      → Begins (header_from version mode s journals) file →
+      Unrefused (λ found. option_map events_of found ≡ Some (all_events journals)) result

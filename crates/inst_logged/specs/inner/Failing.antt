@@ -1,4 +1,5 @@
--- Why a call of a hub with a log ended by an error that is no refusal, and what it counts of the faults of the log's disk.
+-- Why a call of a hub with a log ended by an error that is no refusal, and what it counts of the
+-- faults of the log's disk.
 use Rattle.std.specs.Prelude.{◌≡◌, ◌≢◌, Result, MatchResult, IsTrue}
 use Rattle.sqlite_disk.specs.Disk.{MoreFaults}
 use Rattle.sqlite_disk.specs.declared.Disk.{Ghosts}
@@ -10,7 +11,11 @@ use Rattle.inst_logged.specs.declared.error.LoggedError.TheVariants.{Changed}
 abbrev pub Fails : Type 0 → Type 0 → Type 0 → LoggedError → Type 0
 Fails failed no_room at_rest error = (error ≢ Changed) × HasFailed failed no_room at_rest error
 
--- the disk counts no fault where the call is done; where the disk has kept faith, each of its errors is counted
-abbrev pub FailsBy : {D T : Type 0} → Ghosts D → D → D → Type 0 → Type 0 → Result T LoggedError → Type 0
-FailsBy disks old new no_room at_rest result = MatchResult result (λ _. disks.faults new ≡ disks.faults old)
-    (λ error. IsTrue (disks.is_clean new) → Fails (MoreFaults (disks.faults old) (disks.faults new)) no_room at_rest error)
+-- the disk counts no fault where the call is done; where the disk has kept faith, each of its
+-- errors is counted
+abbrev pub FailsBy : {D T : Type 0} → Ghosts D → D → D → Type 0 → Type 0 → Result T LoggedError →
+    Type 0
+FailsBy disks old new no_room at_rest result =
+    MatchResult result (λ _. disks.faults new ≡ disks.faults old)
+    (λ error. IsTrue (disks.is_clean new) →
+    Fails (MoreFaults (disks.faults old) (disks.faults new)) no_room at_rest error)

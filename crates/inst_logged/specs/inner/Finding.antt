@@ -1,6 +1,6 @@
 -- What a file was found to have before it is opened.
 use Rattle.std.specs.Prelude.{◌≡◌, List, ℕ, [], Option, MatchOption, Result, IfErr, IfOk}
-use Rattle.inst_log.specs.Layout.{recovered}
+use Rattle.inst_log.specs.Layout.{recovered_lines}
 use Rattle.inst_log.specs.Pieces.{IsExtent}
 use Rattle.inst_chain.specs.Verifying.{SealedBy}
 use Rattle.inst_chain.specs.declared.digest.Digest.{Digest}
@@ -17,18 +17,24 @@ use Rattle.inst_logged.specs.declared.hub.examining.Found.{Found}
 -- a log without marks is taken as it is; one with marks has no line, or its marks are right
 abbrev pub IsVerified : Version → List ℕ → Option Marker → Type 0
 IsVerified One file found = Unit {0}
-IsVerified Two file found = MatchOption found (recovered file ≡ []) (λ marker. SealedBy file marker)
+IsVerified Two file found =
+    MatchOption found (recovered_lines file ≡ []) (λ marker. SealedBy file marker)
 
 -- the file's lines go so far, its marks are right, and it has the mark that was asked for
-pub record Finds (version : Version) (wanted : Option Digest) (file : List ℕ) (found : Found) : Type 0 where
+pub record Finds (version : Version) (wanted : Option Digest) (file : List ℕ) (found : Found) : Type
+    0 where
   pub extent : IsExtent file found.extent
   pub verified : IsVerified version file found.marker
   pub digest : HasWanted version wanted file
 
--- A log was only read, and this was found. It isn't taken, whatever its first lines must be and however many were told, where
--- its marks are wrong or it hasn't the mark that was asked for; or the disk failed.
-pub record IsExamined {D : Type 0} (disks : Ghosts D) (version : Version) (wanted : Option Digest) (old new : D) (result : Result Found LoggedError) : Type 0 where
-  pub found : IfOk result (λ found. HasKeptFaith disks new → Finds version wanted (disks.seen old) found)
-  pub cause : IfErr result (λ error. HasKeptFaith disks new → (header : List ℕ) (told : Option ℕ) → IsCause version header told wanted (disks.seen old) error)
+-- A log was only read, and this was found. It isn't taken, whatever its first lines must be and
+-- however many were told, where its marks are wrong or it hasn't the mark that was asked for; or
+-- the disk failed.
+pub record IsExamined {D : Type 0} (disks : Ghosts D) (version : Version) (wanted : Option Digest)
+    (old new : D) (result : Result Found LoggedError) : Type 0 where
+  pub found : IfOk result (λ found. HasKeptFaith disks new →
+      Finds version wanted (disks.seen old) found)
+  pub cause : IfErr result (λ error. HasKeptFaith disks new → (header : List ℕ) (told : Option ℕ) →
+      IsCause version header told wanted (disks.seen old) error)
   pub failure : FailsBy disks old new ⊥ ⊥ result
   pub read : IsOnlyRead disks old new

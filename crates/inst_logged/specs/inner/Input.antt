@@ -1,18 +1,21 @@
 -- How bytes that come behind a part of a line are cut into lines.
-use Rattle.std.specs.Prelude.{◌≡◌, ℕ, ◌≤◌, List, [], ◌∷◌, ◌++◌, map, length, drop, ◌==◌, if◌then◌else◌}
+use Rattle.std.specs.Prelude.{◌≡◌, ℕ, ◌≤◌, List, [], ◌∷◌, ◌++◌, map, length, drop, ◌==◌}
+use Rattle.std.specs.Prelude.{if◌then◌else◌}
 use Rattle.inst_base.specs.Newline.{newline}
-use Rattle.inst_log.specs.Layout.{recovered, IsWhole}
-use Rattle.inst_logged.specs.Input.{logged}
+use Rattle.inst_log.specs.Layout.{recovered_lines, AreWholeLines}
+use Rattle.inst_logged.specs.Input.{logged_line}
 
 -- the lines that end in these bytes, which come behind a part of a line
 abbrev pub lines_from : List ℕ → List ℕ → List (List ℕ)
 lines_from part [] = []
-lines_from part (b ∷ bytes) = if b == newline then part ∷ lines_from [] bytes else lines_from (part ++ b ∷ []) bytes
+lines_from part (b ∷ bytes) =
+    if b == newline then part ∷ lines_from [] bytes else lines_from (part ++ b ∷ []) bytes
 
 -- the part of a line that is left behind them
 abbrev pub rest_from : List ℕ → List ℕ → List ℕ
 rest_from part [] = part
-rest_from part (b ∷ bytes) = if b == newline then rest_from [] bytes else rest_from (part ++ b ∷ []) bytes
+rest_from part (b ∷ bytes) =
+    if b == newline then rest_from [] bytes else rest_from (part ++ b ∷ []) bytes
 
 -- a part of a line is a line at the end of the input, if it isn't empty
 abbrev pub last_line : List ℕ → List (List ℕ)
@@ -23,5 +26,6 @@ last_line (b ∷ part) = (b ∷ part) ∷ []
 pub record CutsLines (bytes : List ℕ) (start : ℕ) (before after : List ℕ) : Type 0 where
   pub within : start ≤ length bytes
   pub rest_is : drop start bytes ≡ rest_from [] bytes
-  pub whole : IsWhole after
-  pub lines_are : recovered after ≡ recovered before ++ map logged (lines_from [] bytes)
+  pub whole : AreWholeLines after
+  pub lines_are : recovered_lines after
+      ≡ recovered_lines before ++ map logged_line (lines_from [] bytes)

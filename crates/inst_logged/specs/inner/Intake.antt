@@ -1,22 +1,28 @@
 -- What a read does to what is held of an input.
 use Rattle.std.specs.Prelude.{◌≡◌, ℕ, ◌<◌, List, [], ◌++◌, map, length, Option}
 use Rattle.std.specs.Io.KnownBytes.{Consumes, IsAtEnd}
-use Rattle.inst_log.specs.Layout.{recovered}
-use Rattle.inst_logged.specs.Input.{cut, logged}
+use Rattle.inst_log.specs.Layout.{recovered_lines}
+use Rattle.inst_logged.specs.Input.{shortened_line, logged_line}
 use Rattle.inst_logged.specs.inner.Input.{lines_from, rest_from, last_line}
 use Rattle.inst_logged.specs.declared.intake.Intake.{Intake}
 use Rattle.inst_logged.specs.Intake.{held}
 
--- further bytes were read, the lines that end there went into a batch, and the part of a line behind them is held
-pub record TakesIn (old new : Intake) (before after : List ℕ) (left left' : Option (List ℕ)) : Type 0 where
+-- further bytes were read, the lines that end there went into a batch, and the part of a line
+-- behind them is held
+pub record TakesIn (old new : Intake) (before after : List ℕ) (left left' : Option (List ℕ)) : Type
+    0 where
   pub read : List ℕ
   pub some : 0 < length read
   pub consumes : Consumes left left' read
-  pub lines_are : (part : List ℕ) → held old ≡ cut part → recovered after ≡ recovered before ++ map logged (lines_from part read)
-  pub held_is : (part : List ℕ) → held old ≡ cut part → held new ≡ cut (rest_from part read)
+  pub lines_are : (part : List ℕ) → held old ≡ shortened_line part →
+      recovered_lines after ≡ recovered_lines before ++ map logged_line (lines_from part read)
+  pub held_is : (part : List ℕ) → held old ≡ shortened_line part →
+      held new ≡ shortened_line (rest_from part read)
 
 -- the input is at its end, and what was held of a line went into the batch
-pub record TakesLast (old : Intake) (before after : List ℕ) (left left' : Option (List ℕ)) : Type 0 where
-  pub consumes : Consumes left left' []
-  pub at_end : IsAtEnd left'
-  pub lines_are : (part : List ℕ) → held old ≡ cut part → recovered after ≡ recovered before ++ map logged (last_line part)
+pub record TakesLast (old : Intake) (before after : List ℕ) (left left' : Option (List ℕ)) : Type 0
+  where
+    pub consumes : Consumes left left' []
+    pub at_end : IsAtEnd left'
+    pub lines_are : (part : List ℕ) → held old ≡ shortened_line part →
+        recovered_lines after ≡ recovered_lines before ++ map logged_line (last_line part)

@@ -2,46 +2,50 @@
 use Rattle.std.specs.Prelude.{◌≡◌, ◌⊎◌, ◌<◌, ℕ, List, [], ◌++◌, map, length, Option}
 use Rattle.std.specs.Io.KnownBytes.{Consumes, IsAtEnd}
 use Rattle.inst_lines.specs.Lines.{lines_of}
-use Rattle.inst_log.specs.Layout.{recovered}
+use Rattle.inst_log.specs.Layout.{recovered_lines}
 use Rattle.inst_log.specs.Log.{IsSettled}
 use Rattle.inst_log.specs.Serving.{Replies, Tells, TellsKept, SaysOn}
 use Rattle.inst_log.specs.declared.recorder.Recorder.{Recorder}
 use Rattle.inst_chain.specs.Chain.{said}
 use Rattle.inst_logged.specs.Answering.{SaysLines}
-use Rattle.inst_logged.specs.Input.{cut, logged}
+use Rattle.inst_logged.specs.Input.{shortened_line, logged_line}
 use Rattle.inst_logged.specs.inner.Input.{lines_from, rest_from, last_line}
 use Rattle.inst_logged.specs.Intake.{held}
 use Rattle.inst_logged.specs.declared.line_answers.LineAnswers.{LineAnswers}
 use Rattle.inst_logged.specs.declared.intake.Intake.{Intake}
 use Rattle.inst_logged.specs.Logged.{AreLinesOf}
 
--- further bytes were read behind a part of a line, and these are the lines that end there, as a log has them
-pub record Turned (part : List ℕ) (intake : Intake) (lines : List (List ℕ)) (left left' : Option (List ℕ)) : Type 0 where
+-- further bytes were read behind a part of a line, and these are the lines that end there, as a log
+-- has them
+pub record Turned (part : List ℕ) (intake : Intake) (lines : List (List ℕ))
+    (left left' : Option (List ℕ)) : Type 0 where
   pub read : List ℕ
   pub some : 0 < length read
   pub consumes : Consumes left left' read
-  pub lines_are : lines ≡ map logged (lines_from part read)
-  pub held_is : held intake ≡ cut (rest_from part read)
+  pub lines_are : lines ≡ map logged_line (lines_from part read)
+  pub held_is : held intake ≡ shortened_line (rest_from part read)
 
 -- the input is at its end, and the part of a line is the last line, if it isn't empty
-pub record Ended (part : List ℕ) (lines : List (List ℕ)) (left left' : Option (List ℕ)) : Type 0 where
-  pub consumes : Consumes left left' []
-  pub at_end : IsAtEnd left'
-  pub lines_are : lines ≡ map logged (last_line part)
+pub record Ended (part : List ℕ) (lines : List (List ℕ)) (left left' : Option (List ℕ)) : Type 0
+  where
+    pub consumes : Consumes left left' []
+    pub at_end : IsAtEnd left'
+    pub lines_are : lines ≡ map logged_line (last_line part)
 
 -- these lines came, whether or not they were answered
-pub record Came (part : List ℕ) (lines : List (List ℕ)) (left left' : Option (List ℕ)) : Type 0 where
-  pub read : List ℕ
-  pub consumes : Consumes left left' read
-  pub lines_are : (lines ≡ map logged (lines_from part read))
-      ⊎ ((read ≡ []) × (IsAtEnd left' × (lines ≡ map logged (last_line part))))
+pub record Came (part : List ℕ) (lines : List (List ℕ)) (left left' : Option (List ℕ)) : Type 0
+  where
+    pub read : List ℕ
+    pub consumes : Consumes left left' read
+    pub lines_are : (lines ≡ map logged_line (lines_from part read))
+        ⊎ ((read ≡ []) × (IsAtEnd left' × (lines ≡ map logged_line (last_line part))))
 
 -- the bytes of an input, and all its lines, as a log has them
 pub record IsInput (left left' : Option (List ℕ)) (lines : List (List ℕ)) : Type 0 where
   pub bytes : List ℕ
   pub consumes : Consumes left left' bytes
   pub at_end : IsAtEnd left'
-  pub lines_are : lines ≡ map logged (lines_of bytes)
+  pub lines_are : lines ≡ map logged_line (lines_of bytes)
 
 -- bytes of an input, and their lines, as a log has them
 pub record CameIn (left left' : Option (List ℕ)) (lines : List (List ℕ)) : Type 0 where
@@ -49,29 +53,36 @@ pub record CameIn (left left' : Option (List ℕ)) (lines : List (List ℕ)) : T
   pub consumes : Consumes left left' bytes
   pub read : List (List ℕ)
   pub read_are : AreLinesOf bytes left' read
-  pub lines_are : lines ≡ map logged read
+  pub lines_are : lines ≡ map logged_line read
 
 -- some lines came, are on the disk with marks among them, and their replies were handed out
-pub record ServedOn {D : Type 0} (seen : D → List ℕ) (may_leave : D → List ℕ → Type 0) (clean : Type 0) (given : List (List ℕ) → Type 0)
+pub record ServedOn {D : Type 0} (seen : D → List ℕ) (may_leave : D → List ℕ →
+    Type 0) (clean : Type 0) (given : List (List ℕ) → Type 0)
     (old new : Recorder D LineAnswers) (before after : Option (List ℕ)) : Type 0 where
   pub lines : List (List ℕ)
   pub came : given (said lines)
   pub tells : Tells (SaysLines old.answers.mode old.answers.runner) lines before after
-  pub on : SaysOn (SaysLines old.answers.mode old.answers.runner) lines (SaysLines new.answers.mode new.answers.runner)
-  pub settled : clean → IsSettled seen may_leave new.log × (recovered (seen new.log.disk) ≡ recovered (seen old.log.disk) ++ lines)
+  pub on : SaysOn (SaysLines old.answers.mode old.answers.runner) lines
+      (SaysLines new.answers.mode new.answers.runner)
+  pub settled : clean →
+      IsSettled seen may_leave new.log
+      × (recovered_lines (seen new.log.disk) ≡ recovered_lines (seen old.log.disk) ++ lines)
 
--- some bytes were read, the lines that end there are on the disk, their replies were handed out, and what stands behind
--- them is held
-pub record HasCome {D : Type 0} (seen : D → List ℕ) (may_leave : D → List ℕ → Type 0) (clean : Type 0) (old new : Recorder D LineAnswers) (intake : Intake)
+-- some bytes were read, the lines that end there are on the disk, their replies were handed out,
+-- and what stands behind them is held
+pub record HasCome {D : Type 0} (seen : D → List ℕ) (may_leave : D → List ℕ →
+    Type 0) (clean : Type 0) (old new : Recorder D LineAnswers) (intake : Intake)
     (left left' before after : Option (List ℕ)) : Type 0 where
   pub bytes : List ℕ
   pub consumes : Consumes left left' bytes
-  pub held_is : held intake ≡ cut (rest_from [] bytes)
-  pub served : ServedOn seen may_leave clean (λ lines. lines ≡ map logged (lines_from [] bytes)) old new before after
+  pub held_is : held intake ≡ shortened_line (rest_from [] bytes)
+  pub served : ServedOn seen may_leave clean (λ lines.
+      lines ≡ map logged_line (lines_from [] bytes)) old new before after
 
 -- some lines came, and each file that a crash may leave covers what was handed out
-pub record KeptOn (may_leave : List ℕ → Type 0) (given : List (List ℕ) → Type 0) (says : Replies → Type 0) (stand : List (List ℕ))
+pub record KeptOn (may_leave : List ℕ → Type 0) (given : List (List ℕ) → Type 0) (says : Replies →
+    Type 0) (stand : List (List ℕ))
     (before after : Option (List ℕ)) : Type 0 where
   pub lines : List (List ℕ)
   pub came : given (said lines)
-  pub kept : TellsKept recovered may_leave says stand lines before after
+  pub kept : TellsKept recovered_lines may_leave says stand lines before after

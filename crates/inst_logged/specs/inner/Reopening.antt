@@ -1,7 +1,7 @@
 -- A log was opened, and its lines were answered again.
 use Rattle.std.specs.Prelude.{◌≡◌, ◌++◌, ℕ, List, length, Option}
 use Rattle.sqlite_disk.specs.declared.Disk.{Ghosts}
-use Rattle.inst_log.specs.Layout.{recovered}
+use Rattle.inst_log.specs.Layout.{recovered_lines}
 use Rattle.inst_log.specs.Log.{IsSettled}
 use Rattle.inst_log.specs.Opening.{kept}
 use Rattle.inst_chain.specs.declared.digest.Digest.{Digest}
@@ -10,15 +10,19 @@ use Rattle.inst_logged.specs.Running.{disk_of, file_of, Takes}
 use Rattle.inst_logged.specs.inner.Replaying.{IsReplayed}
 use Rattle.inst_logged.specs.declared.hub.LoggedHub.{LoggedHub}
 
--- the log was taken, is synced with the lines that it had, and the replies to those that haven't been told were handed out;
--- the hub makes its next mark, and knows its size; its disk counts no fault
-pub record Reopens {D : Type 0} (disks : Ghosts D) (told : Option ℕ) (wanted : Option Digest) (old new : LoggedHub D) (held held' : Option (List ℕ))
+-- the log was taken, is synced with the lines that it had, and the replies to those that haven't
+-- been told were handed out; the hub makes its next mark, and knows its size; its disk counts no
+-- fault
+pub record Reopens {D : Type 0} (disks : Ghosts D) (told : Option ℕ) (wanted : Option Digest)
+    (old new : LoggedHub D) (held held' : Option (List ℕ))
     : Type 0 where
   pub taken : Takes disks old told wanted
   pub settled : IsSettled disks.seen disks.may_leave new.recorder.log
-  pub lines : recovered (file_of disks new) ≡ recovered old.header.items ++ kept old.header.items (file_of disks old)
+  pub lines : recovered_lines (file_of disks new)
+      ≡ recovered_lines old.header.items ++ kept old.header.items (file_of disks old)
   pub intact : IsIntactBy old.version (file_of disks new) new.marker
-  pub replayed : IsReplayed old.recorder.answers.mode told old.recorder.answers.runner new.recorder.answers.runner
+  pub replayed : IsReplayed old.recorder.answers.mode told old.recorder.answers.runner
+      new.recorder.answers.runner
       (kept old.header.items (file_of disks old)) held held'
   pub calm : disks.faults (disk_of new) ≡ disks.faults (disk_of old)
   pub size : new.size ≡ length (file_of disks new)

@@ -1,17 +1,18 @@
 -- The lines of a log were answered again.
-use Rattle.std.specs.Prelude.{◌≡◌, ◌⊎◌, ◌<◌, ◌≤◌, ⊤, ℕ, List, [], length, Option, Result, IfErr, OnErr, OnOk}
+use Rattle.std.specs.Prelude.{◌≡◌, ◌⊎◌, ◌<◌, ◌≤◌, ⊤, ℕ, List, [], length, Option, Result, IfErr}
+use Rattle.std.specs.Prelude.{OnErr, OnOk}
 use Rattle.sqlite_disk.specs.declared.Disk.{Ghosts}
 use Rattle.inst_agenda.specs.declared.runner.Runner.{Runner}
 use Rattle.inst_lines.specs.declared.mode.Mode.{Mode}
-use Rattle.inst_lines.specs.Answering.{Past, Keeps}
+use Rattle.inst_lines.specs.Answering.{HubPast, Keeps}
 use Rattle.inst_log.specs.Opening.{kept}
 use Rattle.inst_log.specs.Serving.{Tells, SaysOn}
 use Rattle.inst_log.specs.inner.Serving.{TellsPart}
 use Rattle.inst_log.specs.declared.error.LogError.TheVariants.{Told}
 use Rattle.inst_log.specs.declared.recorder.Recorder.{Recorder}
 use Rattle.inst_chain.specs.Chain.{kept_said, said}
-use Rattle.inst_logged.specs.Answering.{SaysLines, past_after, told_of}
-use Rattle.inst_logged.specs.Logged.{Are, owed}
+use Rattle.inst_logged.specs.Answering.{SaysLines, past_after, told_count}
+use Rattle.inst_logged.specs.Logged.{AreReplies, unsent_replies_at}
 use Rattle.inst_logged.specs.Refused.{IsRefused}
 use Rattle.inst_logged.specs.Running.{HasKeptFaith, IsOnlyRead}
 use Rattle.inst_logged.specs.inner.Failing.{FailsBy}
@@ -20,15 +21,21 @@ use Rattle.inst_logged.specs.declared.error.LoggedError.TheVariants.{Log}
 use Rattle.inst_logged.specs.declared.line_answers.LineAnswers.{LineAnswers}
 
 -- these lines of a log, of which enough are there, and what was owed for them was handed out
-pub record IsReplayed (mode : Mode) (told : Option ℕ) (old new : Runner) (lines : List (List ℕ)) (before after : Option (List ℕ)) : Type 0 where
-  pub enough : told_of told (said lines) ≤ length (said lines)
-  pub state : (past : Past) → Keeps mode past old → Keeps mode (past_after mode past lines) new
-  pub tells : (past : Past) → Keeps mode past old → Tells (Are (owed mode past (said lines) (told_of told (said lines)))) [] before after
+pub record IsReplayed (mode : Mode) (told : Option ℕ) (old new : Runner) (lines : List (List ℕ))
+    (before after : Option (List ℕ)) : Type 0 where
+  pub enough : told_count told (said lines) ≤ length (said lines)
+  pub state : (past : HubPast) → Keeps mode past old → Keeps mode (past_after mode past lines) new
+  pub tells : (past : HubPast) → Keeps mode past old →
+      Tells (AreReplies (unsent_replies_at mode past (said lines) (told_count told (said lines))))
+      [] before after
   -- what is answered next is what is owed behind these
-  pub on : (past : Past) → Keeps mode past old → SaysOn (Are (owed mode past (said lines) (told_of told (said lines)))) [] (SaysLines mode new)
+  pub on : (past : HubPast) → Keeps mode past old →
+      SaysOn (AreReplies (unsent_replies_at mode past (said lines) (told_count told (said lines))))
+      [] (SaysLines mode new)
 
 -- a recorder stands for the same lines as before, and the disk of its log was only read
-pub record IsOnlyAnswering {D : Type 0} (disks : Ghosts D) (old new : Recorder D LineAnswers) : Type 0 where
+pub record IsOnlyAnswering {D : Type 0} (disks : Ghosts D) (old new : Recorder D LineAnswers) : Type
+    0 where
   pub mode : new.answers.mode ≡ old.answers.mode
   pub end : new.log.end ≡ old.log.end
   pub read : IsOnlyRead disks old.log.disk new.log.disk
@@ -37,14 +44,23 @@ pub record IsOnlyAnswering {D : Type 0} (disks : Ghosts D) (old new : Recorder D
 -- part: what was handed out is a prefix of what was owed
 -- refused: the log has fewer lines than were told, and nothing was handed out
 -- begun: after an error nothing was handed out, or enough lines are there
-pub record Replays {D A : Type 0} (disks : Ghosts D) (header : List ℕ) (told : Option ℕ) (old new : Recorder D LineAnswers) (held held' : Option (List ℕ)) (unwritten : Type 0)
+pub record Replays {D A : Type 0} (disks : Ghosts D) (header : List ℕ) (told : Option ℕ)
+    (old new : Recorder D LineAnswers) (held held' : Option (List ℕ)) (unwritten : Type 0)
     (result : Result A LoggedError) : Type 0 where
   pub replayed : OnOk result (HasKeptFaith disks new.log.disk
-      → IsReplayed old.answers.mode told old.answers.runner new.answers.runner (kept header (disks.seen old.log.disk)) held held')
-  pub part : HasKeptFaith disks new.log.disk → (past : Past) → Keeps old.answers.mode past old.answers.runner
-      → TellsPart (Are (owed old.answers.mode past (kept_said header (disks.seen old.log.disk)) (told_of told (kept_said header (disks.seen old.log.disk))))) [] held held'
-  pub refused : IfErr result (λ error. IsRefused error → (error ≡ Log Told) × unwritten × (HasKeptFaith disks new.log.disk
-      → length (kept_said header (disks.seen old.log.disk)) < told_of told (kept_said header (disks.seen old.log.disk))))
+      → IsReplayed old.answers.mode told old.answers.runner new.answers.runner
+      (kept header (disks.seen old.log.disk)) held held')
+  pub part : HasKeptFaith disks new.log.disk → (past : HubPast) →
+      Keeps old.answers.mode past old.answers.runner
+      → TellsPart
+      (AreReplies
+      (unsent_replies_at old.answers.mode past (kept_said header (disks.seen old.log.disk))
+      (told_count told (kept_said header (disks.seen old.log.disk))))) [] held held'
+  pub refused : IfErr result (λ error. IsRefused error →
+      (error ≡ Log Told) × unwritten × (HasKeptFaith disks new.log.disk
+      → length (kept_said header (disks.seen old.log.disk))
+      < told_count told (kept_said header (disks.seen old.log.disk))))
   pub begun : OnErr result (HasKeptFaith disks new.log.disk → unwritten
-      ⊎ (told_of told (kept_said header (disks.seen old.log.disk)) ≤ length (kept_said header (disks.seen old.log.disk))))
+      ⊎ (told_count told (kept_said header (disks.seen old.log.disk))
+      ≤ length (kept_said header (disks.seen old.log.disk))))
   pub failure : FailsBy disks old.log.disk new.log.disk ⊥ ⊤ result

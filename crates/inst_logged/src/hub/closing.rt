@@ -1,10 +1,11 @@
 //! A hub with a log is closed, for the next opening.
 ghost use Rattle.std.specs.Prelude.{◌≡◌, ◌++◌, None, IfSome, IfOk, IfErr, OnOk};
-ghost use Rattle.inst_lines.specs.Answering.{Past};
-ghost use Rattle.inst_world.specs.HasRun.{settings_of};
+ghost use Rattle.inst_lines.specs.Answering.{HubPast};
+ghost use Rattle.inst_world.specs.HasRun.{world_settings};
 ghost use Rattle.inst_world.specs.NextOpening.{CanOpenFrom};
 ghost use Rattle.inst_logged.specs.Closing.{ClosesWith};
-ghost use Rattle.inst_logged.specs.Running.{disk_of, StopsBy, HasKeptFaith, IsReady, OpensAgain, StaysAlike};
+ghost use Rattle.inst_logged.specs.Running.{disk_of, StopsBy, HasKeptFaith, IsReadyHub, OpensAgain};
+ghost use Rattle.inst_logged.specs.Running.{StaysAlike};
 
 use super::LoggedHub;
 use crate::LoggedError;
@@ -14,24 +15,27 @@ use sqlite_disk::Disk;
 use std::alloc::Global;
 
 impl<D: Disk + Drop> LoggedHub<D> {
-    /// Opens the log, or makes it if the disk is empty, and answers its lines, of which nothing is handed out. The log has
-    /// the lines that it had.
+    /// Opens the log, or makes it if the disk is empty, and answers its lines, of which nothing is
+    /// handed out. The log has the lines that it had.
     ///
     /// # Errors
     ///
     /// As from `run`.
     pub fn open(&mut self, alloc: Global, wanted: Option<Digest>) -> Result<(), LoggedError>
-        requires ready { IsReady D.Disk self.old }
-        ensures ok { OnOk result (HasKeptFaith D.Disk (disk_of self.new) → OpensAgain D.Disk wanted self.old self.new) }
-        ensures any_moment { HasKeptFaith D.Disk (disk_of self.new) → StaysAlike D.Disk self.old self.new }
+        requires ready { IsReadyHub D.Disk self.old }
+        ensures ok { OnOk result (HasKeptFaith D.Disk (disk_of self.new) →
+            OpensAgain D.Disk wanted self.old self.new) }
+        ensures any_moment { HasKeptFaith D.Disk (disk_of self.new) →
+            StaysAlike D.Disk self.old self.new }
         ensures err { IfErr result (StopsBy D.Disk None wanted self.old self.new (Unit {0}) ⊥) }
-        ensures clean { HasKeptFaith D.Disk (disk_of self.new) → HasKeptFaith D.Disk (disk_of self.old) }
+        ensures clean { HasKeptFaith D.Disk (disk_of self.new) →
+            HasKeptFaith D.Disk (disk_of self.old) }
     {
         self.reopen(alloc, None, wanted, &mut Vec::new(alloc))
     }
 
-    /// Opens the log, as `open` does, and closes the hub. Returns its books, for the next opening, or `None` if one was
-    /// opened from 500 times already.
+    /// Opens the log, as `open` does, and closes the hub. Returns its books, for the next opening,
+    /// or `None` if one was opened from 500 times already.
     ///
     /// # Errors
     ///
@@ -41,13 +45,17 @@ impl<D: Disk + Drop> LoggedHub<D> {
         alloc: Global,
         wanted: Option<Digest>,
     ) -> Result<Option<Vec<Journal>>, LoggedError>
-        requires ready { IsReady D.Disk self.old }
-        ensures ok { IfOk result (λ books. HasKeptFaith D.Disk (disk_of self.new) → ClosesWith D.Disk wanted self.old self.new books) }
+        requires ready { IsReadyHub D.Disk self.old }
+        ensures ok { IfOk result (λ books. HasKeptFaith D.Disk (disk_of self.new) →
+            ClosesWith D.Disk wanted self.old self.new books) }
         ensures can { IfOk result (λ books. IfSome books
-            (λ journals. CanOpenFrom (settings_of self.new.recorder.answers.runner.world) journals.items)) }
-        ensures any_moment { HasKeptFaith D.Disk (disk_of self.new) → StaysAlike D.Disk self.old self.new }
+            (λ journals.
+            CanOpenFrom (world_settings self.new.recorder.answers.runner.world) journals.items)) }
+        ensures any_moment { HasKeptFaith D.Disk (disk_of self.new) →
+            StaysAlike D.Disk self.old self.new }
         ensures err { IfErr result (StopsBy D.Disk None wanted self.old self.new (Unit {0}) ⊥) }
-        ensures clean { HasKeptFaith D.Disk (disk_of self.new) → HasKeptFaith D.Disk (disk_of self.old) }
+        ensures clean { HasKeptFaith D.Disk (disk_of self.new) →
+            HasKeptFaith D.Disk (disk_of self.old) }
     {
         self.open(alloc, wanted)?;
         Ok(self.recorder.answers.runner.world.carry(alloc)?)

@@ -22,7 +22,8 @@ pub(crate) struct Found {
 ///
 /// # Errors
 ///
-/// `Damaged` if a mark is wrong, or the end is; `OtherDigest` if it has no mark with the digest that is wanted.
+/// `Damaged` if a mark is wrong, or the end is; `OtherDigest` if it has no mark with the digest
+/// that is wanted.
 pub(crate) fn examine<D: Disk>(
     alloc: Global,
     version: Version,

@@ -1,7 +1,8 @@
 //! Which hub a log is of.
-ghost use Rattle.std.specs.Prelude.{◌≡◌, ◌≤◌, ◌++◌, List, [], ℕ, length, take, true, IsTrue, IfErr, IfOk, IfSome, None, Some, option_map};
+ghost use Rattle.std.specs.Prelude.{◌≡◌, ◌≤◌, ◌++◌, List, [], ℕ, length, take, true, IsTrue, IfErr};
+ghost use Rattle.std.specs.Prelude.{IfOk, IfSome, None, Some, option_map};
 ghost use Rattle.inst_journal.specs.History.{History};
-ghost use Rattle.inst_log.specs.Layout.{recovered};
+ghost use Rattle.inst_log.specs.Layout.{recovered_lines};
 ghost use Rattle.inst_world.specs.NextOpening.{CanOpenFrom};
 ghost use Rattle.inst_books.specs.Books.{all_events, books_text};
 ghost use Rattle.inst_books.specs.declared.fault.BookFault.TheVariants.{Memory};
@@ -15,7 +16,7 @@ ghost use Rattle.inst_logged.specs.inner.Books.{HasBooks, FindsBooks};
 ghost use Rattle.inst_logged.specs.declared.version.Version.TheVariants.{Two};
 
 use super::NewHub;
-use crate::beginning::{books_behind, version_of};
+use crate::log_header::{books_behind, version_of};
 use crate::{LoggedError, Version};
 use inst_books::{BookFault, can_open, read_books};
 use inst_chain::{Marker, Prefix};
@@ -27,14 +28,14 @@ use sqlite_disk::Disk;
 use std::alloc::Global;
 
 impl NewHub {
-    /// Returns the hub that the log on this disk is of: one that opens again from the books that follow the log's settings,
-    /// or for the first time if none do. The log is of the version that its first line tells. Reads the log's first lines,
-    /// with its books, and changes nothing.
+    /// Returns the hub that the log on this disk is of: one that opens again from the books that
+    /// follow the log's settings, or for the first time if none do. The log is of the version that
+    /// its first line tells. Reads the log's first lines, with its books, and changes nothing.
     ///
     /// # Errors
     ///
-    /// `NoLog` if no log begins as this file does, `Damaged` if the books have another digest than their mark, `Books` if a
-    /// hub of these settings can't open from them.
+    /// `NoLog` if no log begins as this file does, `Damaged` if the books have another digest than
+    /// their mark, `Books` if a hub of these settings can't open from them.
     pub fn of_log<D: Disk>(
         alloc: Global,
         mode: Mode,
@@ -42,13 +43,17 @@ impl NewHub {
         disk: &mut D,
     ) -> Result<NewHub, LoggedError>
         requires usable { IsTrue (D.Disk.is_usable disk.old) }
-        ensures begun { IfOk result (λ hub. HasBegun hub.version mode settings.now hub.heading.batch.items hub.answers
+        ensures begun { IfOk result (λ hub.
+            HasBegun hub.version mode settings.now hub.heading.batch.items hub.answers
             × IsUnbegun hub.version hub.heading.batch.items hub.heading.marker hub.intake) }
         // A log that has no line yet will have marks, and no books.
-        ensures first { IfOk result (λ hub. HasKeptFaith D.Disk disk.new → recovered (D.Disk.seen disk.old) ≡ []
+        ensures first { IfOk result (λ hub. HasKeptFaith D.Disk disk.new →
+            recovered_lines (D.Disk.seen disk.old) ≡ []
             → (hub.version ≡ Two) × (hub.heading.batch.items ≡ header Two mode settings.now)) }
-        ensures found { HasKeptFaith D.Disk disk.new → FindsLog mode settings.now (D.Disk.seen disk.old) result }
-        ensures new { HasKeptFaith D.Disk disk.new → recovered (D.Disk.seen disk.old) ≡ [] → IfErr result (λ error. ¬ IsRefused error) }
+        ensures found { HasKeptFaith D.Disk disk.new →
+            FindsLog mode settings.now (D.Disk.seen disk.old) result }
+        ensures new { HasKeptFaith D.Disk disk.new → recovered_lines (D.Disk.seen disk.old) ≡ [] →
+            IfErr result (λ error. ¬ IsRefused error) }
         ensures read { IsOnlyRead D.Disk disk.old disk.new }
     {
         let first = read_lines(alloc, disk, 1)?;
@@ -72,9 +77,12 @@ fn books_on<D: Disk>(
     disk: &mut D,
 ) -> Result<Option<Vec<Journal>>, LoggedError>
     requires usable { IsTrue (D.Disk.is_usable disk.old) }
-    ensures journals { IfOk result (λ books. IfSome books (λ journals. CanOpenFrom settings.now journals.items)) }
+    ensures journals { IfOk result (λ books.
+        IfSome books (λ journals. CanOpenFrom settings.now journals.items)) }
     ensures none { first.now ≡ [] → Unrefused (λ books. books ≡ None) result }
-    ensures found { HasKeptFaith D.Disk disk.new → FindsBooks (λ journals. all_events journals.items) version mode settings.now first.now (D.Disk.seen disk.old) result }
+    ensures found { HasKeptFaith D.Disk disk.new →
+        FindsBooks (λ journals.
+        all_events journals.items) version mode settings.now first.now (D.Disk.seen disk.old) result }
     ensures read { IsOnlyRead D.Disk disk.old disk.new }
 {
     let Some(count) = books_behind(alloc, version, mode, settings, first)? else {
@@ -84,8 +92,8 @@ fn books_on<D: Disk>(
     journals_in(alloc, version, settings, &text, count)
 }
 
-/// The journals of the books, so many lines, that follow the first line of this text and have their mark behind them, or
-/// none if the text has fewer lines.
+/// The journals of the books, so many lines, that follow the first line of this text and have their
+/// mark behind them, or none if the text has fewer lines.
 fn journals_in(
     alloc: Global,
     version: Version,
@@ -93,10 +101,13 @@ fn journals_in(
     text: &[u8],
     count: u64,
 ) -> Result<Option<Vec<Journal>>, LoggedError>
-    ensures journals { IfOk result (λ books. IfSome books (λ journals. CanOpenFrom settings.now journals.items)) }
-    ensures found { (journals : List History) → CanBeginFrom settings.now journals → HasBooks version settings.now journals text.now
+    ensures journals { IfOk result (λ books.
+        IfSome books (λ journals. CanOpenFrom settings.now journals.items)) }
+    ensures found { (journals : List History) → CanBeginFrom settings.now journals →
+        HasBooks version settings.now journals text.now
         → count ≡ length (lines_of_books settings.now journals)
-        → Unrefused (λ found. option_map (λ books. all_events books.items) found ≡ Some (all_events journals)) result }
+        → Unrefused (λ found.
+        option_map (λ books. all_events books.items) found ≡ Some (all_events journals)) result }
 {
     let begin = lines_len(text, 1);
     let books = &text[begin..];
@@ -113,7 +124,8 @@ fn journals_in(
 /// Whether the mark of the first bytes of a log, so many, follows them.
 fn has_mark_at(text: &[u8], end: usize) -> bool
     requires { end ≤ length text.now }
-    ensures { (rest : List ℕ) → text.now ≡ take end text.now ++ (mark_of (take end text.now) ++ rest) → result ≡ true }
+    ensures { (rest : List ℕ) →
+        text.now ≡ take end text.now ++ (mark_of (take end text.now) ++ rest) → result ≡ true }
 {
     let mut marker = Marker::new();
     marker.add(&text[..end]);
@@ -124,7 +136,8 @@ fn has_mark_at(text: &[u8], end: usize) -> bool
 /// The journals that the text of books tells, from which a hub can open.
 fn journals_of(alloc: Global, settings: &Settings, text: &[u8]) -> Result<Vec<Journal>, LoggedError>
     ensures journals { IfOk result (λ journals. CanOpenFrom settings.now journals.items) }
-    ensures found { (journals : List History) → CanBeginFrom settings.now journals → text.now ≡ books_text settings.now (all_events journals)
+    ensures found { (journals : List History) → CanBeginFrom settings.now journals →
+        text.now ≡ books_text settings.now (all_events journals)
         → Unrefused (λ found. all_events found.items ≡ all_events journals) result }
 {
     let journals = read_books(alloc, settings, text).map_err(unread)?;

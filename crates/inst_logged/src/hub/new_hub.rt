@@ -18,7 +18,8 @@ use inst_settings::Settings;
 use sqlite_disk::Disk;
 use std::alloc::{AllocError, Global};
 
-/// A hub that has answered nothing, without the disk of its log. It has capacity for its slots and places.
+/// A hub that has answered nothing, without the disk of its log. It has capacity for its slots and
+/// places.
 #[derive(Drop)]
 pub struct NewHub {
     pub(super) answers: LineAnswers,
@@ -36,7 +37,8 @@ impl NewHub {
         mode: Mode,
         settings: &Settings,
     ) -> Result<NewHub, AllocError>
-        ensures { IfOk result (IsNewHub version mode (opened settings.now) (header version mode settings.now)) }
+        ensures { IfOk result
+            (IsNewHub version mode (opened settings.now) (header version mode settings.now)) }
     {
         let intake = Intake::new(alloc)?;
         let heading = first_batch(alloc, version, mode, settings)?;
@@ -49,8 +51,8 @@ impl NewHub {
         })
     }
 
-    /// Returns a hub of these settings that opens again from these journals, one for each participant by number, of which
-    /// it has a copy, with a log of this version.
+    /// Returns a hub of these settings that opens again from these journals, one for each
+    /// participant by number, of which it has a copy, with a log of this version.
     pub fn open_from(
         alloc: Global,
         version: Version,
@@ -62,7 +64,8 @@ impl NewHub {
         ensures new { IfOk result (IsNewHub version mode (opened_from settings.now journals.now)
             (header_from version mode settings.now journals.now)) }
         // So a start finds the log again.
-        ensures again { IfOk result (λ _. IsSettings settings.now → CanBeginFrom settings.now journals.now) }
+        ensures again { IfOk result (λ _. IsSettings settings.now →
+            CanBeginFrom settings.now journals.now) }
     {
         let intake = Intake::new(alloc)?;
         let heading = first_batch_from(alloc, version, mode, settings, journals)?;
@@ -77,7 +80,8 @@ impl NewHub {
 
     /// Returns the hub with the disk of its log, of which nothing is read yet.
     pub fn with_disk<D: Disk + Drop>(self, alloc: Global, disk: D) -> LoggedHub<D>
-        requires unbegun { IsUnbegun self.version self.heading.batch.items self.heading.marker self.intake }
+        requires unbegun { IsUnbegun self.version self.heading.batch.items self.heading.marker
+            self.intake }
         ensures unbegun { IsUnbegun result.version result.header.items result.marker result.intake }
         ensures version { result.version ≡ self.version }
         ensures header { result.header ≡ self.heading.batch }

@@ -1,12 +1,13 @@
 //! The lines of a log are answered again, piece by piece.
-ghost use Rattle.std.specs.Prelude.{◌≡◌, ◌⊎◌, ◌<◌, ◌≤◌, ℕ, Some, length, IsTrue, IfOk, IfErr, OnOk, OnErr, ⊤};
+ghost use Rattle.std.specs.Prelude.{◌≡◌, ◌⊎◌, ◌<◌, ◌≤◌, ℕ, Some, length, IsTrue, IfOk, IfErr, OnOk};
+ghost use Rattle.std.specs.Prelude.{OnErr, ⊤};
 ghost use Rattle.inst_base.specs.Handing.{WritesPart};
-ghost use Rattle.inst_log.specs.Layout.{recovered, IsBatch};
+ghost use Rattle.inst_log.specs.Layout.{recovered_lines, IsBatch};
 ghost use Rattle.inst_log.specs.Opening.{Begins};
 ghost use Rattle.inst_log.specs.Pieces.{Starts};
 ghost use Rattle.inst_chain.specs.Chain.{said};
-ghost use Rattle.inst_lines.specs.Answering.{Past, Keeps};
-ghost use Rattle.inst_logged.specs.Answering.{told_of};
+ghost use Rattle.inst_lines.specs.Answering.{HubPast, Keeps};
+ghost use Rattle.inst_logged.specs.Answering.{told_count};
 ghost use Rattle.inst_logged.specs.Refused.{IsRefused};
 ghost use Rattle.inst_logged.specs.declared.error.LoggedError.TheVariants.{Log};
 ghost use Rattle.inst_log.specs.declared.error.LogError.TheVariants.{Told};
@@ -20,8 +21,8 @@ use sqlite_disk::Disk;
 use std::alloc::Global;
 use std::io::Write;
 
-/// Answers the lines that a log has behind its first ones, none if the file is new, and hands out the replies but those to
-/// the first `told` lines, or none.
+/// Answers the lines that a log has behind its first ones, none if the file is new, and hands out
+/// the replies but those to the first `told` lines, or none.
 ///
 /// # Errors
 ///
@@ -36,8 +37,10 @@ pub(crate) fn start_again<D: Disk, W: Write>(
 ) -> Result<(), LoggedError>
     requires usable { IsTrue (D.Disk.is_usable recorder.old.log.disk) }
     requires header { IsBatch header.now }
-    requires starts { IsTrue (D.Disk.is_clean recorder.old.log.disk) → Starts header.now (D.Disk.seen recorder.old.log.disk) start }
-    ensures replays { Replays D.Disk header.now told recorder.old recorder.new (W.contents writer.old) (W.contents writer.new)
+    requires starts { IsTrue (D.Disk.is_clean recorder.old.log.disk) →
+        Starts header.now (D.Disk.seen recorder.old.log.disk) start }
+    ensures replays { Replays D.Disk header.now told recorder.old recorder.new
+        (W.contents writer.old) (W.contents writer.new)
         (writer.new ≡ writer.old) result }
     ensures same { IsOnlyAnswering D.Disk recorder.old recorder.new }
 {
@@ -62,8 +65,10 @@ fn replay<D: Disk, W: Write>(
 ) -> Result<(), LoggedError>
     requires usable { IsTrue (D.Disk.is_usable recorder.old.log.disk) }
     requires header { IsBatch header.now }
-    requires begins { IsTrue (D.Disk.is_clean recorder.old.log.disk) → Begins header.now (D.Disk.seen recorder.old.log.disk) }
-    ensures replays { Replays D.Disk header.now told recorder.old recorder.new (W.contents writer.old) (W.contents writer.new)
+    requires begins { IsTrue (D.Disk.is_clean recorder.old.log.disk) →
+        Begins header.now (D.Disk.seen recorder.old.log.disk) }
+    ensures replays { Replays D.Disk header.now told recorder.old recorder.new
+        (W.contents writer.old) (W.contents writer.new)
         (writer.new ≡ writer.old) result }
     ensures same { IsOnlyAnswering D.Disk recorder.old recorder.new }
 {
@@ -85,7 +90,8 @@ fn replay<D: Disk, W: Write>(
 /// No further lines have been told.
 fn require_none(left: Option<u64>) -> Result<(), LoggedError>
     ensures none { OnOk result ((n : ℕ) → left ≡ Some n → n ≡ 0) }
-    ensures some { IfErr result (λ error. (error ≡ Log Told) × (n : ℕ) × (left ≡ Some n) × (0 < n)) }
+    ensures some { IfErr result (λ error. (error ≡ Log Told) × (n : ℕ) × (left ≡ Some n)
+        × (0 < n)) }
 {
     match left {
         None | Some(0) => Ok(()),
@@ -93,8 +99,8 @@ fn require_none(left: Option<u64>) -> Result<(), LoggedError>
     }
 }
 
-/// Answers lines of a log again. The replies to the first `told` lines, or to all, are dropped, and the others handed
-/// out. Returns how many further lines have been told.
+/// Answers lines of a log again. The replies to the first `told` lines, or to all, are dropped, and
+/// the others handed out. Returns how many further lines have been told.
 fn answer_again<W: Write>(
     answers: &mut LineAnswers,
     out: &mut Vec<u8>,
@@ -102,13 +108,16 @@ fn answer_again<W: Write>(
     told: Option<u64>,
     writer: &mut W,
 ) -> Result<Option<u64>, LoggedError>
-    ensures ok { IfOk result (λ left. AnswersAgain answers.old.mode told left answers.old.runner answers.new.runner
-        (recovered lines.now) (W.contents writer.old) (W.contents writer.new)) }
+    ensures ok { IfOk result (λ left.
+        AnswersAgain answers.old.mode told left answers.old.runner answers.new.runner
+        (recovered_lines lines.now) (W.contents writer.old) (W.contents writer.new)) }
     ensures untouched { IfOk result (λ left. (left ≡ Some 0 → ⊥) → writer.new ≡ writer.old) }
-    ensures part { (past : Past) → Keeps answers.old.mode past answers.old.runner
-        → WritesPart (W.contents writer.old) (W.contents writer.new) (debt answers.old.mode past told (recovered lines.now)) }
+    ensures part { (past : HubPast) → Keeps answers.old.mode past answers.old.runner
+        → WritesPart (W.contents writer.old) (W.contents writer.new)
+        (debt answers.old.mode past told (recovered_lines lines.now)) }
     ensures begun { OnErr result ((writer.new ≡ writer.old)
-        ⊎ (told_of told (said (recovered lines.now)) ≤ length (said (recovered lines.now)))) }
+        ⊎ (told_count told (said (recovered_lines lines.now))
+        ≤ length (said (recovered_lines lines.now)))) }
     ensures unrefused { IfErr result (λ error. ¬ IsRefused error) }
     ensures failure { IfErr result (Fails ⊥ ⊥ ⊤) }
     ensures mode { answers.new.mode ≡ answers.old.mode }

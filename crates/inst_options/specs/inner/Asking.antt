@@ -11,7 +11,7 @@ use Rattle.inst_options.specs.Options.{AreOfNoLog}
 use Rattle.inst_options.specs.inner.Options.{AskForNone, IsWish}
 use Rattle.inst_options.specs.declared.error.WordsError.{WordsError}
 use Rattle.inst_options.specs.declared.error.WordsError.TheVariants as error
-use Rattle.inst_options.specs.declared.wish.Wish.{Wish}
+use Rattle.inst_options.specs.declared.invocation.Invocation.{Invocation}
 
 -- an error of the words of this kind, and want of memory as a fault
 abbrev pub IsOfKind : ErrorKind → WordsError → Type 0
@@ -26,7 +26,7 @@ IsRefusedBy rows fault (error.Option bad) = (fault ≡ BadSettings) × IsBadOpti
 IsRefusedBy rows fault (error.Fault other) = other ≡ fault
 
 -- what the subcommand of this name asks for, with its options
-abbrev pub IsAsked : Option (Text × List Row) → Wish → Type 0
+abbrev pub IsAsked : Option (Text × List Row) → Invocation → Type 0
 IsAsked None wish = ⊥
 IsAsked (Some (name, rows)) wish = IsWish name rows wish
 
@@ -34,4 +34,5 @@ IsAsked (Some (name, rows)) wish = IsWish name rows wish
 abbrev pub IsUnasked : Option (Text × List Row) → WordsError → Type 0
 IsUnasked None e = e ≡ error.Fault BadSettings
 IsUnasked (Some (name, rows)) e =
-    (fault : Fault) × IsRefusedBy rows fault e × IsRefusal (AskForNone name rows ⊎ AreOfNoLog rows) fault
+    (fault : Fault) × IsRefusedBy rows fault e
+    × IsRefusal (AskForNone name rows ⊎ AreOfNoLog rows) fault

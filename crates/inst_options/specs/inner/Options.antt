@@ -3,43 +3,52 @@ use Rattle.std.specs.Prelude.{◌≡◌, ◌⊎◌, ℕ, true, false, List, Opti
 use Rattle.clap.specs.Words.{Row, Text, first_of}
 use Rattle.inst_settings.specs.Settings.{HubSettings, same_text}
 use Rattle.inst_settings.specs.Lawful.{AreOfAHub, IsSettings}
-use Rattle.inst_options.specs.declared.wish.LogOptions.{LogOptions}
-use Rattle.inst_options.specs.declared.wish.Wish.{Wish}
-use Rattle.inst_options.specs.declared.wish.Wish.TheVariants as wish
-use Rattle.inst_options.specs.Options.{Task, HasAHub, NamesNoLog, NamesTheLog, IsText, IsFlag, IsTask, Chooses, HasSmallNumbers}
+use Rattle.inst_options.specs.declared.invocation.LogOptions.{LogOptions}
+use Rattle.inst_options.specs.declared.invocation.Invocation.{Invocation}
+use Rattle.inst_options.specs.declared.invocation.Invocation.TheVariants as wish
+use Rattle.inst_options.specs.Options.{Task, HasAHub, NamesNoLog, NamesTheLog, IsText, IsFlag}
+use Rattle.inst_options.specs.Options.{IsTask, Chooses, HasSmallNumbers}
 use Rattle.inst_options.specs.Options.{GivesDigest}
 use Rattle.inst_options.specs.Options.Task.{Run, Play, Drill, Check}
 
 -- the options name this log, or none
 abbrev pub GivesLog : List Row → Option LogOptions → Type 0
 GivesLog rows None = NamesNoLog rows
-GivesLog rows (Some log) = NamesTheLog rows log.path.now log.told log.resume (option_map (λ d. d.now) log.digest)
+GivesLog rows (Some log) =
+    NamesTheLog rows log.path.now log.told log.resume (option_map (λ d. d.now) log.digest)
 
 -- the options choose no settings that a hub can have
 abbrev pub ChooseNone : List Row → Type 0
 ChooseNone rows = (s : HubSettings) → Chooses rows s → ¬ (AreOfAHub s)
 
--- the options of the subcommand of this name choose no settings that a hub can have, or no task that fits
+-- the options of the subcommand of this name choose no settings that a hub can have, or no task
+-- that fits
 abbrev pub FitNoTask : List ℕ → List Row → Type 0
 FitNoTask name rows =
-    (task : Task) (s : HubSettings) → IsTask name rows task → Chooses rows s → ¬ (AreOfAHub s × HasSmallNumbers task)
+    (task : Task) (s : HubSettings) → IsTask name rows task → Chooses rows s →
+    ¬ (AreOfAHub s × HasSmallNumbers task)
 
 -- so it is with a subcommand that has a hub
 abbrev pub AskForNone : List ℕ → List Row → Type 0
 AskForNone name rows = HasAHub name × FitNoTask name rows
 
 -- what the subcommand of this name asks for, with these options
-abbrev pub IsWish : List ℕ → List Row → Wish → Type 0
+abbrev pub IsWish : List ℕ → List Row → Invocation → Type 0
 IsWish name rows (wish.Run s log sums) =
-    IsSettings s × IsTask name rows Run × Chooses rows s × GivesLog rows log × IsFlag (codes "summary") rows sums
+    IsSettings s × IsTask name rows Run × Chooses rows s × GivesLog rows log
+    × IsFlag (codes "summary") rows sums
 IsWish name rows (wish.Play s log sums) =
-    IsSettings s × IsTask name rows Play × Chooses rows s × GivesLog rows log × IsFlag (codes "summary") rows sums
+    IsSettings s × IsTask name rows Play × Chooses rows s × GivesLog rows log
+    × IsFlag (codes "summary") rows sums
 IsWish name rows (wish.Drill s transfers openings script) =
     IsSettings s × IsTask name rows (Drill transfers openings) × Chooses rows s
     × (option_map (λ file. file.now) script ≡ first_of (codes "script") rows)
 IsWish name rows (wish.Check s) = IsSettings s × IsTask name rows Check × Chooses rows s
-IsWish name rows (wish.Log path) = (same_text name (codes "log") ≡ true) × IsText (codes "file") rows path.now
+IsWish name rows (wish.Log path) =
+    (same_text name (codes "log") ≡ true) × IsText (codes "file") rows path.now
 IsWish name rows (wish.Next from to digest) =
-    (same_text name (codes "next") ≡ true) × IsText (codes "log") rows from.now × IsText (codes "to") rows to.now
+    (same_text name (codes "next") ≡ true) × IsText (codes "log") rows from.now
+    × IsText (codes "to") rows to.now
     × GivesDigest rows (option_map (λ d. d.now) digest)
-IsWish name rows (wish.Explain word) = (same_text name (codes "explain") ≡ true) × IsText (codes "fault") rows word.now
+IsWish name rows (wish.Explain word) =
+    (same_text name (codes "explain") ≡ true) × IsText (codes "fault") rows word.now

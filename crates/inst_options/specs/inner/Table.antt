@@ -1,13 +1,15 @@
--- What the rows of the tables of subcommands and their options stand for, as `clap` reads a command line.
+-- What the rows of the tables of subcommands and their options stand for, as `clap` reads a command
+-- line.
 use Rattle.std.specs.Prelude.{◌-◌, ◌^◌, List, ◌∷◌, [], Option, Some, None, length, map}
 use Rattle.clap.specs.Words.{App, Rule, Text, new_app, new_rule, with_subcommand}
 use Rattle.clap.specs.declared.builder.action.ArgAction.{ArgAction}
 use Rattle.clap.specs.declared.builder.action.ArgAction.TheVariants.{Set, SetTrue}
 use Rattle.clap.specs.declared.builder.value_parser.ValueParser.{ValueParser}
 use Rattle.clap.specs.declared.builder.value_parser.ValueParser.TheVariants.{Unsigned}
-use Rattle.inst_options.specs.CommandLine.{drill_rules, fault_rule, file_rule, hub_rules, next_rules, run_rules}
+use Rattle.inst_options.specs.CommandLine.{drill_rules, fault_rule, file_rule, hub_rules}
+use Rattle.inst_options.specs.CommandLine.{next_rules, run_rules}
 use Rattle.inst_options.specs.CommandLine.{with_rules}
-use Rattle.inst_options.specs.declared.table.Choice.{Choice}
+use Rattle.inst_options.specs.declared.table.OptionRow.{OptionRow}
 use Rattle.inst_options.specs.declared.table.Group.{Group}
 use Rattle.inst_options.specs.declared.table.Group.TheVariants.{Hub, Run, Drill, Log, Next, Explain}
 use Rattle.inst_options.specs.declared.table.Kind.{Kind}
@@ -36,7 +38,7 @@ parser_of OfText = None
 parser_of Number = Some (Unsigned 0 (2 ^ 64 - 1))
 
 -- what `clap` reads of an option
-abbrev pub rule_of_choice : Choice → Rule
+abbrev pub rule_of_choice : OptionRow → Rule
 rule_of_choice choice = record (new_rule choice.name.now) {
   long = long_of choice.kind choice.name.now;
   required = choice.required;

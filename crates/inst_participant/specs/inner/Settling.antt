@@ -2,7 +2,7 @@
 use Rattle.std.specs.Prelude.{◌≡◌, ◌⊎◌, ℕ, true, is_some, List, slice_get, Contains, Some}
 use Rattle.inst_command.specs.declared.outcome.Outcome.{Outcome}
 use Rattle.inst_terms.specs.declared.terms.Terms.{Terms}
-use Rattle.inst_board.specs.declared.place.Place.{Place}
+use Rattle.inst_command.specs.declared.place.Place.{Place}
 use Rattle.inst_board.specs.declared.about.About.TheVariants.{Opened, HasTerms, Decided}
 use Rattle.inst_board.specs.declared.about.Fact.{Fact}
 use Rattle.inst_board.specs.Standing.{about}
@@ -15,12 +15,15 @@ use Rattle.inst_slot.specs.LawfulBoard.{LiesAt}
 
 -- where the transfer of x that lies at the place has ended, as b knows, y has it booked
 abbrev pub IsBookedAt : {B : Type 0} → (B → Fact → Type 0) → B → Book → Place → Book → Type 0
-IsBookedAt knows b x k y = (id : List ℕ) (o : Outcome) → LiesAt x k.owner id k.index → knows b (about k (Decided o)) →
+IsBookedAt knows b x k y =
+    (id : List ℕ) (o : Outcome) → LiesAt x k.owner id k.index → knows b (about k (Decided o)) →
     is_some (booked k.owner id y.events) ≡ true
 
--- where a transfer for the participant was opened at the place, as b knows, it has come, or has ended
+-- where a transfer for the participant was opened at the place, as b knows, it has come, or has
+-- ended
 abbrev pub HasCome : {B : Type 0} → (B → Fact → Type 0) → B → Place → Book → Type 0
-HasCome knows b k y = (t : Terms) → t.to ≡ y.who → knows b (about k Opened) → knows b (about k (HasTerms t)) →
+HasCome knows b k y =
+    (t : Terms) → t.to ≡ y.who → knows b (about k Opened) → knows b (about k (HasTerms t)) →
     (is_forwarded k.owner t.id y.events ≡ true) ⊎ ((o : Outcome) × knows b (about k (Decided o)))
 
 -- each own live transfer is booked that has ended, as b knows
@@ -31,8 +34,10 @@ OwnAreBooked knows b y = (index : ℕ) (id : List ℕ) (to cents stamp : ℕ) (o
 
 -- and each that came
 abbrev pub ArrivedAreBooked : {B : Type 0} → (B → Fact → Type 0) → B → Book → Type 0
-ArrivedAreBooked knows b y = (x : Arrival) (index : ℕ) (o : Outcome) → Contains y.arrivals x → x.index ≡ Some index →
-    knows b (about (place_at x.entry.from index) (Decided o)) → is_some (booked x.entry.from x.entry.id y.events) ≡ true
+ArrivedAreBooked knows b y =
+    (x : Arrival) (index : ℕ) (o : Outcome) → Contains y.arrivals x → x.index ≡ Some index →
+    knows b (about (place_at x.entry.from index) (Decided o)) →
+    is_some (booked x.entry.from x.entry.id y.events) ≡ true
 
 -- the originator's transfers for the participant have come
 abbrev pub HaveCome : {B : Type 0} → (B → Fact → Type 0) → B → ℕ → Book → Type 0

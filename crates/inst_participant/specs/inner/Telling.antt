@@ -1,7 +1,7 @@
 -- What a teller is told of a transfer.
 use Rattle.std.specs.Prelude.{◌≡◌, ℕ, List, Option, Some, None}
 use Rattle.inst_board.specs.declared.about.Fact.{Fact}
-use Rattle.inst_board.specs.declared.place.Place.{Place}
+use Rattle.inst_command.specs.declared.place.Place.{Place}
 use Rattle.inst_cell.specs.declared.sight.Sight.{Sight}
 use Rattle.inst_cell.specs.Held.{knows}
 use Rattle.inst_cell.specs.Seen.{sees}

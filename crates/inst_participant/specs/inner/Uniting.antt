@@ -9,8 +9,10 @@ use Rattle.inst_slot.specs.Book.{Book}
 use Rattle.inst_slot.specs.LawfulBoard.{IsLawfulBoard}
 use Rattle.inst_participant.specs.Together.{IsMember}
 
--- the board has the roles of the participants whose boards these were, and is lawful for their books
-pub record AreJoined (words : SharedBoard) (O : Opening) (s : HubSettings) (slots : List Book) (done : List SharedBoard) (whole : SharedBoard) : Type 0 where
+-- the board has the roles of the participants whose boards these were, and is lawful for their
+-- books
+pub record AreJoined (words : SharedBoard) (O : Opening) (s : HubSettings) (slots : List Book)
+    (done : List SharedBoard) (whole : SharedBoard) : Type 0 where
   pub one : AtOneTable words whole
   pub role : (p : ℕ) → p < length done → has_role whole p
   pub member : (p : ℕ) (x : Book) → p < length done → slice_get slots p ≡ Some x →
@@ -20,4 +22,5 @@ pub record AreJoined (words : SharedBoard) (O : Opening) (s : HubSettings) (slot
 pub record IsToldMore (a b : SharedBoard) : Type 0 where
   pub stays : Stays a b
   pub kept : (f : Fact) → knows a f → knows b f
-  pub lawful : (x : Book) → IsLawfulBoard settings_of knows has_role a x → IsLawfulBoard settings_of knows has_role b x
+  pub lawful : (x : Book) → IsLawfulBoard settings_of knows has_role a x →
+      IsLawfulBoard settings_of knows has_role b x

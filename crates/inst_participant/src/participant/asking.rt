@@ -5,7 +5,7 @@ ghost use Rattle.inst_journal.specs.Sound.{IsSound};
 ghost use Rattle.inst_board.specs.Learning.{KnowTheSame};
 ghost use Rattle.inst_cell.specs.Held.{AtOneTable, knows};
 ghost use Rattle.inst_cell.specs.Seen.{board_of, sees};
-ghost use Rattle.inst_participant.specs.Behind.{IsReady, IsLater, HistoryGrows};
+ghost use Rattle.inst_participant.specs.LockLaw.{IsReady, IsLater, HistoryGrows};
 ghost use Rattle.inst_participant.specs.Telling.{SeesMore};
 ghost use Rattle.inst_participant.specs.inner.Telling.{IsToldOf, IsToldBy};
 ghost use Rattle.inst_participant.specs.Answers.{Answered, IsTicket};
@@ -18,8 +18,8 @@ use inst_command::{Ask, Outcome, Reply, refusals_told};
 use std::alloc::AllocError;
 
 impl Participant {
-    /// What a command of the participant is answered, a refusal too, and a ticket where it tells of a live transfer.
-    /// Where memory is refused its history is as it was.
+    /// What a command of the participant is answered, a refusal too, and a ticket where it tells of
+    /// a live transfer. Where memory is refused its history is as it was.
     pub fn serve(
         &mut self,
         teller: &mut Sight,
@@ -35,8 +35,12 @@ impl Participant {
         ensures sees { SeesMore teller.old teller.new }
         ensures sound { IsSound self.old.slot.settings self.old.slot.who self.old.slot.events }
         ensures serves { IfOk result (λ answer. Serves self.old ask.now (Ok answer.0) self.new) }
-        ensures answered { IfOk result (λ answer. Answered self.old.slot.settings self.old.slot.who self.old.slot.events ask.now answer.0 self.new.slot.events) }
-        ensures ticket { IfOk result (λ answer. IsTicket (sees teller.new) self.old.slot.settings self.old.slot.who ask.now.command self.new.slot.events answer.0 answer.1) }
+        ensures answered { IfOk result (λ answer.
+            Answered self.old.slot.settings self.old.slot.who self.old.slot.events ask.now answer.0
+            self.new.slot.events) }
+        ensures ticket { IfOk result (λ answer.
+            IsTicket (sees teller.new) self.old.slot.settings self.old.slot.who ask.now.command
+            self.new.slot.events answer.0 answer.1) }
         ensures left { OnErr result (Serves self.old ask.now (Err alloc_error) self.new) }
         ensures err { OnErr result (self.new.slot ≡ self.old.slot) }
     {
@@ -53,9 +57,12 @@ impl Participant {
         ensures ready { IsReady self.new }
         ensures later { IsLater self.old self.new }
         ensures grows { HistoryGrows self.old self.new }
-        ensures sound { IsSound self.old.slot.settings self.old.slot.who self.old.slot.events × IsSound self.new.slot.settings self.new.slot.who self.new.slot.events }
+        ensures sound { IsSound self.old.slot.settings self.old.slot.who self.old.slot.events
+            × IsSound self.new.slot.settings self.new.slot.who self.new.slot.events }
         ensures serves { Serves self.old ask.now result self.new }
-        ensures answered { IfOk result (λ reply. Answered self.old.slot.settings self.old.slot.who self.old.slot.events ask.now reply self.new.slot.events) }
+        ensures answered { IfOk result (λ reply.
+            Answered self.old.slot.settings self.old.slot.who self.old.slot.events ask.now reply
+            self.new.slot.events) }
         ensures err { OnErr result (self.new.slot ≡ self.old.slot) }
     {
         // The check is told that a history is sound only by a call.
@@ -83,8 +90,8 @@ impl Participant {
         }
     }
 
-    /// Tells the teller all that the participant's board knows, where this transfer is live; the ticket names its
-    /// place.
+    /// Tells the teller all that the participant's board knows, where this transfer is live; the
+    /// ticket names its place.
     fn tell(&mut self, teller: &mut Sight, from: u8, id: &Ident) -> Option<Ticket>
         requires ready { IsReady self.old }
         requires one { AtOneTable self.old.board (board_of teller.old) }

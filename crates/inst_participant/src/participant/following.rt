@@ -2,20 +2,20 @@
 ghost use Rattle.std.specs.Prelude.{◌≡◌, true, IfSome};
 ghost use Rattle.inst_settings.specs.Settings.{is_participant};
 ghost use Rattle.inst_command.specs.Ask.{command_fits};
-ghost use Rattle.inst_participant.specs.Behind.{IsReady, IsLater};
+ghost use Rattle.inst_participant.specs.LockLaw.{IsReady, IsLater};
 ghost use Rattle.inst_participant.specs.Following.{follow_up_after, Does, Shows};
 ghost use Rattle.inst_participant.specs.Told.{IsToldMore};
 
 use super::Participant;
-use crate::follow_up::{Errand, FollowUp};
-use inst_board::{Board, Look, Place};
+use crate::follow_up::{FollowUp, FollowUpKind};
+use inst_board::{Board, Look};
 use inst_cell::Ticket;
-use inst_command::{Command, Reply, State};
+use inst_command::{Command, Place, Reply, State};
 use std::alloc::AllocError;
 
 impl Participant {
-    /// What the other side has to do once the command was answered so: nothing where there is no ticket, and nothing
-    /// where an investigation found its transfer pending.
+    /// What the other side has to do once the command was answered so: nothing where there is no
+    /// ticket, and nothing where an investigation found its transfer pending.
     pub fn follow_up(
         &self,
         command: &Command,
@@ -23,17 +23,18 @@ impl Participant {
     ) -> Option<FollowUp>
         requires fits { command_fits self.now.slot.settings command.now ≡ true }
         ensures follows { result ≡ follow_up_after self.now.slot.events command.now answer.now }
-        ensures participant { IfSome result (λ f. is_participant self.now.slot.settings f.who ≡ true) }
+        ensures participant { IfSome result (λ f.
+            is_participant self.now.slot.settings f.who ≡ true) }
     {
         let Ok((reply, Some(ticket))) = answer else {
             return None
         };
         let place = ticket.place();
-        let (who, errand) = match (command, reply) {
-            (Command::Submit(submission), _) => (submission.to, Errand::Deliver),
+        let (who, kind) = match (command, reply) {
+            (Command::Submit(submission), _) => (submission.to, FollowUpKind::Deliver),
             (Command::Confirm { from, .. } | Command::Reject { from, .. }, _) => (
                 *from,
-                Errand::Learn,
+                FollowUpKind::Learn,
             ),
             (
                 Command::Investigate { id },
@@ -41,10 +42,10 @@ impl Participant {
                     state: State::Decided(_),
                     ..
                 },
-            ) => (self.slot.beneficiary_of(id)?, Errand::Learn),
+            ) => (self.slot.beneficiary_of(id)?, FollowUpKind::Learn),
             _ => return None,
         };
-        Some(FollowUp { who, errand, place })
+        Some(FollowUp { who, kind, place })
     }
 
     /// What the place shows.
@@ -58,18 +59,18 @@ impl Participant {
         self.board.look(place)
     }
 
-    /// Does this with the place: `true` where it brought something new. Where memory is refused the history is as it
-    /// was.
-    pub fn follow(&mut self, errand: Errand, place: Place) -> Result<bool, AllocError>
+    /// Does this with the place: `true` where it brought something new. Where memory is refused the
+    /// history is as it was.
+    pub fn follow(&mut self, kind: FollowUpKind, place: Place) -> Result<bool, AllocError>
         requires ready { IsReady self.old }
         ensures ready { IsReady self.new }
         ensures later { IsLater self.old self.new }
-        ensures does { Does errand self.old place result self.new }
+        ensures does { Does kind self.old place result self.new }
         ensures told { IsToldMore self.old.slot.events self.new.slot.events }
     {
-        match errand {
-            Errand::Deliver => self.slot.deliver(&mut self.board, place),
-            Errand::Learn => self.slot.learn(&mut self.board, place),
+        match kind {
+            FollowUpKind::Deliver => self.slot.deliver(&mut self.board, place),
+            FollowUpKind::Learn => self.slot.learn(&mut self.board, place),
         }
     }
 }

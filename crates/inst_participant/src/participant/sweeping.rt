@@ -1,29 +1,33 @@
 //! What a participant does by itself about all its transfers, under its lock.
 ghost use Rattle.std.specs.Prelude.{◌≡◌, IfOk, None, is_ok};
 ghost use Rattle.inst_settings.specs.Settings.{participants};
-ghost use Rattle.inst_participant.specs.Behind.{IsReady, IsLater};
+ghost use Rattle.inst_participant.specs.LockLaw.{IsReady, IsLater};
 ghost use Rattle.inst_participant.specs.Told.{IsToldMore};
-ghost use Rattle.inst_participant.specs.Sweeping.{MayExpire, LetsExpire, LearnsAll, LooksAt, DeliversFrom, DeliversAll, Sweeps, NothingDue, new_events};
+ghost use Rattle.inst_participant.specs.Sweeping.{MayExpire, LetsExpire, LearnsAll, LooksAt};
+ghost use Rattle.inst_participant.specs.Sweeping.{DeliversFrom, DeliversAll, Sweeps, NothingDue};
+ghost use Rattle.inst_participant.specs.Sweeping.{new_events};
 ghost use Rattle.inst_participant.specs.Told.{IsToldAll};
 
 use super::Participant;
-use crate::follow_up::Errand;
+use crate::follow_up::FollowUpKind;
 use inst_base::Moment;
-use inst_board::{Look, Place};
+use inst_board::Look;
+use inst_command::Place;
 use std::alloc::AllocError;
 
 impl Participant {
-    /// Lets each own transfer with nothing booked expire if it may at this reading, in order of deadline and place; then
-    /// learns how the forwarded ones ended, in order of arrival; then gets what other originators have for it, by their
-    /// numbers and places. How many of these were new. Refused memory ends it: what was done before stands, and nothing is
-    /// done after it.
+    /// Lets each own transfer with nothing booked expire if it may at this reading, in order of
+    /// deadline and place; then learns how the forwarded ones ended, in order of arrival; then gets
+    /// what other originators have for it, by their numbers and places. How many of these were new.
+    /// Refused memory ends it: what was done before stands, and nothing is done after it.
     pub fn sweep(&mut self, at: Moment) -> Result<u32, AllocError>
         requires ready { IsReady self.old }
         ensures ready { IsReady self.new }
         ensures later { IsLater self.old self.new }
         ensures told { IsToldAll self.old.slot.events self.new.slot.events }
         ensures sweeps { Sweeps at (is_ok result) self.old self.new }
-        ensures count { IfOk result (λ count. count ≡ new_events self.old.slot.events self.new.slot.events) }
+        ensures count { IfOk result (λ count.
+            count ≡ new_events self.old.slot.events self.new.slot.events) }
         ensures due { IfOk result (λ count. NothingDue at self.new) }
     {
         let before = self.slot.journal().events().len();
@@ -73,7 +77,7 @@ impl Participant {
     {
         let mut from = 0;
         while let Some((position, place)) = self.slot.unbooked_from(from) {
-            self.follow(Errand::Learn, place)?;
+            self.follow(FollowUpKind::Learn, place)?;
             from = position + 1;
         }
         Ok(())
@@ -85,7 +89,8 @@ impl Participant {
         ensures ready { IsReady self.new }
         ensures later { IsLater self.old self.new }
         ensures told { IsToldAll self.old.slot.events self.new.slot.events }
-        ensures delivers { DeliversAll 0 (participants self.old.slot.settings) (is_ok result) self.old self.new }
+        ensures delivers { DeliversAll 0 (participants self.old.slot.settings) (is_ok result)
+            self.old self.new }
     {
         let own = u16::from(self.slot.who());
         for owner in 0..self.slot.settings().participants() {
@@ -102,7 +107,8 @@ impl Participant {
         ensures ready { IsReady self.new }
         ensures later { IsLater self.old self.new }
         ensures told { IsToldAll self.old.slot.events self.new.slot.events }
-        ensures delivers { DeliversFrom owner 0 self.old.slot.settings.places (is_ok result) self.old self.new }
+        ensures delivers { DeliversFrom owner 0 self.old.slot.settings.places (is_ok result)
+            self.old self.new }
     {
         for index in 0..self.slot.settings().places() {
             if !self.look_at(Place { owner, index })? {
@@ -124,7 +130,7 @@ impl Participant {
             Look::Unused => Ok(false),
             Look::Decided(..) => Ok(true),
             Look::Pending(..) => {
-                self.follow(Errand::Deliver, place)?;
+                self.follow(FollowUpKind::Deliver, place)?;
                 Ok(true)
             }
         }

@@ -1,52 +1,68 @@
 -- Why the next log isn't made, in each part of its making.
-use Rattle.std.specs.Prelude.{◌≡◌, ◌⊎◌, ◌<◌, ℕ, List, length, Option, None, Some, Result, MatchResult, IfErr, IfOk, IsTrue, OnErr}
+use Rattle.std.specs.Prelude.{◌≡◌, ◌⊎◌, ◌<◌, ℕ, List, length, Option, None, Some, Result}
+use Rattle.std.specs.Prelude.{MatchResult, IfErr, IfOk, IsTrue, OnErr}
 use Rattle.sqlite_disk.specs.declared.Disk.{Ghosts}
 use Rattle.inst_settings.specs.Settings.{HubSettings}
 use Rattle.inst_lines.specs.declared.mode.Mode.{Mode}
-use Rattle.inst_world.specs.HasRun.{settings_of}
+use Rattle.inst_world.specs.HasRun.{world_settings}
 use Rattle.inst_world.specs.NextOpening.{CanOpenFrom}
-use Rattle.inst_log.specs.Layout.{recovered}
+use Rattle.inst_log.specs.Layout.{recovered_lines}
 use Rattle.inst_log.specs.Opening.{Begins}
 use Rattle.inst_chain.specs.declared.digest.Digest.{Digest}
-use Rattle.inst_logged.specs.Beginning.{beginning_with}
+use Rattle.inst_logged.specs.LogHeader.{beginning_with}
 use Rattle.inst_logged.specs.Header.{AreFirstLines, header_from}
 use Rattle.inst_logged.specs.Refused.{IsTaken}
 use Rattle.inst_logged.specs.Running.{HasKeptFaith}
-use Rattle.inst_logged.specs.declared.beginning.Beginning.{Beginning}
+use Rattle.inst_logged.specs.declared.log_header.LogHeader.{LogHeader}
 use Rattle.inst_logged.specs.declared.version.Version.{Version}
 use Rattle.inst_logged.specs.declared.version.Version.TheVariants.{Two}
 use Rattle.inst_program.specs.Files.{change_on}
-use Rattle.inst_program.specs.Keeping.{AsksFor, CarriesBooks, HasNoOpeningLeft, IsGoodToClose, IsSafe}
-use Rattle.inst_program.specs.inner.Ending.{status_of_ending}
+use Rattle.inst_program.specs.Keeping.{AsksFor, CarriesBooks, HasNoOpeningLeft, IsGoodToClose}
+use Rattle.inst_program.specs.Keeping.{IsSafe}
+use Rattle.inst_program.specs.inner.ExitReason.{status_of_ending}
 use Rattle.inst_program.specs.declared.carrying.Closed.{Closed}
-use Rattle.inst_program.specs.declared.ending.Ending.{Ending}
+use Rattle.inst_program.specs.declared.exit_reason.ExitReason.{ExitReason}
 
--- the hub of the log of this file isn't closed: another program has it open, it is none that can be closed, or has no opening
--- left
+-- the hub of the log of this file isn't closed: another program has it open, it is none that can be
+-- closed, or has no opening left
 abbrev pub IsUnclosed : Type 0 → Type 0 → Option Digest → List ℕ → Type 0
 IsUnclosed in_use faith wanted file =
     in_use ⊎ ((faith → ¬ (IsGoodToClose wanted file)) ⊎ (faith → HasNoOpeningLeft file))
 
--- the log of this file isn't begun with these lines: another program has it open, or it is another one
+-- the log of this file isn't begun with these lines: another program has it open, or it is another
+-- one
 abbrev pub IsUnbegun : Type 0 → Type 0 → List ℕ → List ℕ → Type 0
 IsUnbegun in_use faith first file = in_use ⊎ (faith → ¬ (IsTaken Two first None None file))
 
 -- what a log's first line says is read, and the log isn't refused for it
-abbrev pub ReadsBeginning : List ℕ → Result (Option Beginning) Ending → Type 0
-ReadsBeginning file result = (version : Version) (mode : Mode) (s : HubSettings) (first : List ℕ) → AreFirstLines version mode s first → Begins first file
-    → MatchResult result (λ found. (books : Option ℕ) × (found ≡ Some (beginning_with mode s books))) (λ ending. status_of_ending ending ≡ 2 → ⊥)
+abbrev pub ReadsBeginning : List ℕ → Result (Option LogHeader) ExitReason → Type 0
+ReadsBeginning file result =
+    (version : Version) (mode : Mode) (s : HubSettings) (first : List ℕ) →
+    AreFirstLines version mode s first → Begins first file
+    → MatchResult result (λ found. (books : Option ℕ)
+    × (found ≡ Some (beginning_with mode s books))) (λ ending. status_of_ending ending ≡ 2 → ⊥)
 
--- the file has a line, and if it begins as a log of a hub does, that is one of this kind and these settings
+-- the file has a line, and if it begins as a log of a hub does, that is one of this kind and these
+-- settings
 pub record IsRead (mode : Mode) (s : HubSettings) (file : List ℕ) : Type 0 where
-  pub there : 0 < length (recovered file)
-  pub settings : (version : Version) (m : Mode) (t : HubSettings) (first : List ℕ) → AreFirstLines version m t first → Begins first file → (m ≡ mode) × (t ≡ s)
+  pub there : 0 < length (recovered_lines file)
+  pub settings : (version : Version) (m : Mode) (t : HubSettings) (first : List ℕ) →
+      AreFirstLines version m t first → Begins first file → (m ≡ mode) × (t ≡ s)
 
--- The hub of the log on a disk was closed, and its books begin the next log; or it wasn't, and the log is safe.
--- can: a hub can open from the books
--- refused: why it wasn't, where the exit status is 2
-pub record IsHubClosed {D : Type 0} (disks : Ghosts D) (wanted : Option Digest) (old new : D) (result : Result Closed Ending) : Type 0 where
-  pub ok : IfOk result (λ closed. HasKeptFaith disks new → (digest : Option (List ℕ)) → AsksFor digest wanted
-      → CarriesBooks digest ((d : D) → IsTrue (disks.is_mixing d)) (header_from Two closed.mode (settings_of closed.runner.world) closed.journals.items) (change_on disks old new))
-  pub can : IfOk result (λ closed. CanOpenFrom (settings_of closed.runner.world) closed.journals.items)
-  pub err : OnErr result (IsSafe ((d : D) → IsTrue (disks.is_mixing d)) (HasKeptFaith disks new) (change_on disks old new))
-  pub refused : IfErr result (λ ending. status_of_ending ending ≡ 2 → IsUnclosed ⊥ (HasKeptFaith disks new) wanted (disks.seen old))
+-- The hub of the log on a disk was closed, and its books begin the next log; or it wasn't, and the
+-- log is safe. can: a hub can open from the books refused: why it wasn't, where the exit status is
+-- 2
+pub record IsHubClosed {D : Type 0} (disks : Ghosts D) (wanted : Option Digest) (old new : D)
+    (result : Result Closed ExitReason) : Type 0 where
+  pub ok : IfOk result (λ closed. HasKeptFaith disks new → (digest : Option (List ℕ)) →
+      AsksFor digest wanted
+      → CarriesBooks digest ((d : D) →
+      IsTrue (disks.is_mixing d))
+      (header_from Two closed.mode (world_settings closed.runner.world) closed.journals.items)
+      (change_on disks old new))
+  pub can : IfOk result (λ closed.
+      CanOpenFrom (world_settings closed.runner.world) closed.journals.items)
+  pub err : OnErr result (IsSafe ((d : D) →
+      IsTrue (disks.is_mixing d)) (HasKeptFaith disks new) (change_on disks old new))
+  pub refused : IfErr result (λ ending. status_of_ending ending ≡ 2 →
+      IsUnclosed ⊥ (HasKeptFaith disks new) wanted (disks.seen old))

@@ -2,7 +2,8 @@
 use Rattle.std.specs.Prelude.{◌≡◌, ℕ, List, IsTrue}
 use Rattle.sqlite_disk.specs.declared.Disk.{Ghosts}
 use Rattle.inst_logged.specs.Running.{HasKeptFaith}
-use Rattle.inst_program.specs.Files.{AllAreIn, Change, Files, IfKept, OthersStay, change_of, change_on}
+use Rattle.inst_program.specs.Files.{AllAreIn, Change, Files, IfKept, OthersStay, change_of}
+use Rattle.inst_program.specs.Files.{change_on}
 
 -- the file of this name was visited alone, and is closed again
 pub record IsVisited (old new : Files) (name : List ℕ) : Type 0 where
@@ -18,7 +19,8 @@ pub record IsSameChange (c d : Change) : Type 0 where
   pub may : (file : List ℕ) → d.may_leave file → c.may_leave file
 
 -- it was opened as the one disk and closed as the other
-pub record IsVisitedAs {D : Type 0} (disks : Ghosts D) (old new : Files) (name : List ℕ) (disk disk' : D) : Type 0 where
+pub record IsVisitedAs {D : Type 0} (disks : Ghosts D) (old new : Files) (name : List ℕ)
+    (disk disk' : D) : Type 0 where
   pub faith : IfKept new (HasKeptFaith disks disk')
   pub change : IfKept new (IsSameChange (change_on disks disk disk') (change_of old new name))
   pub visit : IsVisited old new name

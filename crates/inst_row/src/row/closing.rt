@@ -10,13 +10,16 @@ use crate::lawful::Lawful;
 use crate::seat::RowSeat;
 
 impl<T: Drop, E, K, L: Lawful<T, E, K>> LockRow<T, E, K, L> {
-    /// Ends the row. Who has all its parts knows that each value is there and keeps its law, with a history that it has
-    /// seen and that goes on from all that it has seen. Take each one out, and then call `free`.
+    /// Ends the row. Who has all its parts knows that each value is there and keeps its law, with a
+    /// history that it has seen and that goes on from all that it has seen. Take each one out, and
+    /// then call `free`.
     pub fn take_apart(self, seat: RowSeat<T, E, K>) -> Ended<T>
         requires on { IsOn (row_id self) (key_of self) seat }
         requires all { HasAll seat }
         ensures enough { locks_of result ≡ size self }
-        ensures values { (p : ℕ) → p < size self → (x : T) × Lies p x result × L.law (key_of self) p x × GoesOn p (L.history x) seat × HasSeen p (L.history x) seat }
+        ensures values { (p : ℕ) → p < size self →
+            (x : T) × Lies p x result × L.law (key_of self) p x × GoesOn p (L.history x) seat
+            × HasSeen p (L.history x) seat }
     {
         let LockRow { table, locks } = self;
         let RowSeat { seat } = seat;

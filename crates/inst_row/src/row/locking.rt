@@ -21,8 +21,9 @@ const TAKEN: u64 = 1;
 const AWAITED: u64 = 2;
 
 impl<T, E, K, L: Lawful<T, E, K>> LockRow<T, E, K, L> {
-    /// The value behind the lock, whose word is `word` from then on, where no seat has it at one of some tries. Between
-    /// them the thread lets others run: who has a lock keeps it for one event, which is sooner over than a sleep.
+    /// The value behind the lock, whose word is `word` from then on, where no seat has it at one of
+    /// some tries. Between them the thread lets others run: who has a lock keeps it for one event,
+    /// which is sooner over than a sleep.
     fn try_take(&self, seat: &mut RowSeat<T, E, K>, lock: usize, word: u64) -> Option<T>
         requires on { IsOn (row_id self.now) (key_of self.now) seat.old }
         requires lock { lock < size self.now }
@@ -59,8 +60,8 @@ impl<T, E, K, L: Lawful<T, E, K>> LockRow<T, E, K, L> {
         shared.park(rt, place, AWAITED as u32);
     }
 
-    /// The value behind the lock. It waits while another seat has it; a seat that has a lock takes no second
-    /// one.
+    /// The value behind the lock. It waits while another seat has it; a seat that has a lock takes
+    /// no second one.
     pub fn take<R: Wait>(&self, rt: &R, seat: &mut RowSeat<T, E, K>, lock: usize) -> T
         requires on { IsOn (row_id self.now) (key_of self.now) seat.old }
         requires lock { lock < size self.now }
@@ -84,12 +85,13 @@ impl<T, E, K, L: Lawful<T, E, K>> LockRow<T, E, K, L> {
         unreachable!()
     }
 
-    /// Gives the lock back, with a value that keeps its law and whose history goes on from the one that
-    /// was found. Where seats may sleep until then, one of them is woken.
+    /// Gives the lock back, with a value that keeps its law and whose history goes on from the one
+    /// that was found. Where seats may sleep until then, one of them is woken.
     pub fn give(&self, seat: &mut RowSeat<T, E, K>, lock: usize, value: T)
         requires on { IsOn (row_id self.now) (key_of self.now) seat.old }
         requires lock { lock < size self.now }
-        requires has { (found : List E) × Has lock found seat.old × IsPrefix found (L.history value) }
+        requires has { (found : List E) × Has lock found seat.old
+            × IsPrefix found (L.history value) }
         requires law { L.law (key_of self.now) lock value }
         ensures free { IsFree seat.new }
         ensures on { IsOn (row_id self.now) (key_of self.now) seat.new }

@@ -9,13 +9,14 @@ use crate::seat::RowSeat;
 use crate::steps::{Tell, Unite};
 
 impl<T, E, K, L: Lawful<T, E, K>> LockRow<T, E, K, L> {
-    /// A new seat with one of the seat's parts, which has seen as much. A seat that gave its last part takes
-    /// no lock until it is joined with another.
+    /// A new seat with one of the seat's parts, which has seen as much. A seat that gave its last
+    /// part takes no lock until it is joined with another.
     pub fn split(&self, seat: &mut RowSeat<T, E, K>) -> RowSeat<T, E, K>
         requires some { 0 < size self.now }
         requires on { IsOn (row_id self.now) (key_of self.now) seat.old }
         requires free { IsFree seat.old }
-        ensures on { IsOn (row_id self.now) (key_of self.now) seat.new × IsOn (row_id self.now) (key_of self.now) result }
+        ensures on { IsOn (row_id self.now) (key_of self.now) seat.new
+            × IsOn (row_id self.now) (key_of self.now) result }
         ensures halves { Halves seat.old seat.new result }
     {
         RowSeat {
@@ -26,11 +27,13 @@ impl<T, E, K, L: Lawful<T, E, K>> LockRow<T, E, K, L> {
     /// One seat with the parts of both, which has seen what both had seen.
     pub fn join(&self, seat: &mut RowSeat<T, E, K>, other: RowSeat<T, E, K>)
         requires some { 0 < size self.now }
-        requires on { IsOn (row_id self.now) (key_of self.now) seat.old × IsOn (row_id self.now) (key_of self.now) other }
+        requires on { IsOn (row_id self.now) (key_of self.now) seat.old
+            × IsOn (row_id self.now) (key_of self.now) other }
         requires idle { IsIdle seat.old × IsIdle other }
         ensures on { IsOn (row_id self.now) (key_of self.now) seat.new }
         ensures idle { IsIdle seat.new }
-        ensures parts { (view_of seat.new).parts ≡ (view_of seat.old).parts + (view_of other).parts }
+        ensures parts { (view_of seat.new).parts
+            ≡ (view_of seat.old).parts + (view_of other).parts }
         ensures sees { SeesBoth seat.old other seat.new }
     {
         let RowSeat { seat: other } = other;
@@ -40,11 +43,14 @@ impl<T, E, K, L: Lawful<T, E, K>> LockRow<T, E, K, L> {
     /// Each has then seen what either had.
     pub fn meet(&self, one: &mut RowSeat<T, E, K>, two: &mut RowSeat<T, E, K>)
         requires some { 0 < size self.now }
-        requires on { IsOn (row_id self.now) (key_of self.now) one.old × IsOn (row_id self.now) (key_of self.now) two.old }
+        requires on { IsOn (row_id self.now) (key_of self.now) one.old
+            × IsOn (row_id self.now) (key_of self.now) two.old }
         requires free { IsFree one.old × IsFree two.old }
-        ensures on { IsOn (row_id self.now) (key_of self.now) one.new × IsOn (row_id self.now) (key_of self.now) two.new }
+        ensures on { IsOn (row_id self.now) (key_of self.now) one.new
+            × IsOn (row_id self.now) (key_of self.now) two.new }
         ensures free { IsFree one.new × IsFree two.new }
-        ensures parts { ((view_of one.new).parts ≡ (view_of one.old).parts) × ((view_of two.new).parts ≡ (view_of two.old).parts) }
+        ensures parts { ((view_of one.new).parts ≡ (view_of one.old).parts)
+            × ((view_of two.new).parts ≡ (view_of two.old).parts) }
         ensures sees { SeesBoth one.old two.old one.new × SeesBoth two.old one.old two.new }
     {
         let part = self.split(one);

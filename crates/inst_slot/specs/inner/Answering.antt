@@ -1,11 +1,12 @@
--- What a command asks of the board, with the transfer as its participant's table has it: so it is looked up once. This
--- hub's own choice.
-use Rattle.std.specs.Prelude.{◌≡◌, ℕ, Bool, true, false, List, [], slice_get, Option, Some, None, Result, Err}
+-- What a command asks of the board, with the transfer as its participant's table has it: so it is
+-- looked up once. This hub's own choice.
+use Rattle.std.specs.Prelude.{◌≡◌, ℕ, Bool, true, false, List, [], slice_get, Option, Some, None}
+use Rattle.std.specs.Prelude.{Result, Err}
 use Rattle.inst_base.specs.declared.fault.Fault.{Fault}
 use Rattle.inst_base.specs.declared.fault.Fault.TheVariants.{Expired}
 use Rattle.inst_command.specs.declared.command.Command.{Command}
 use Rattle.inst_command.specs.declared.command.Command.TheVariants.{Confirm, Reject, Investigate}
-use Rattle.inst_board.specs.declared.place.Place.{Place}
+use Rattle.inst_command.specs.declared.place.Place.{Place}
 use Rattle.inst_board.specs.declared.wish.Wish.{Wish}
 use Rattle.inst_board.specs.declared.wish.Wish.TheVariants.{Accept, Reject as WishReject, Expire}
 use Rattle.inst_journal.specs.declared.handle.Handled.{Handled}
@@ -20,19 +21,21 @@ use Rattle.inst_ledger.specs.Right.{own_ids}
 use Rattle.inst_slot.specs.Spots.{rows_of, arrivals_of}
 
 -- a participant's book with these arrivals, of what its ledger keeps
-abbrev pub beside : Kept → List Arrival → Book
-beside kept arrivals = record { settings = kept.settings; who = kept.who; events = kept.events; arrivals = arrivals }
+abbrev pub book_with_arrivals : Kept → List Arrival → Book
+book_with_arrivals kept arrivals =
+    record { settings = kept.settings; who = kept.who; events = kept.events; arrivals = arrivals }
 
 -- with the arrivals that it has
-abbrev pub over : Kept → List Spot → Book
-over kept spots = beside kept (arrivals_of (rows_of kept.who kept.events) spots)
+abbrev pub book_with_spots : Kept → List Spot → Book
+book_with_spots kept spots =
+    book_with_arrivals kept (arrivals_of (rows_of kept.who kept.events) spots)
 
 -- the identifier of the transfer that the command decides
-abbrev pub named : Command → List ℕ
-named (Confirm from id) = id
-named (Reject from id reason) = id
-named (Investigate id) = id
-named _ = []
+abbrev pub decided_id : Command → List ℕ
+decided_id (Confirm from id) = id
+decided_id (Reject from id reason) = id
+decided_id (Investigate id) = id
+decided_id _ = []
 
 -- whether it is wished that the transfer expires
 abbrev pub is_expiry : Wish → Bool
@@ -53,7 +56,8 @@ pub record IsOwnAt (book : Kept) (id : List ℕ) (place : Place) : Type 0 where
   pub only : (k : ℕ) → slice_get (own_ids book.who book.events) k ≡ Some id → place.index ≡ k
 
 -- what is asked, of the transfer with this identifier, which was found
-pub record IsAsking (l : BookAndRoom) (asked : Option (Place × Wish)) (id : List ℕ) (r : Request) : Type 0 where
+pub record IsAsking (l : BookAndRoom) (asked : Option (Place
+    × Wish)) (id : List ℕ) (r : Request) : Type 0 where
   pub is : asked ≡ Some (r.place, r.wish)
   pub there : IsFound l.table r.found
   pub owner : r.found.from ≡ r.place.owner

@@ -10,8 +10,8 @@ use Rattle.inst_slot.specs.Asking.{handle_ask, book_after, takes_memory}
 use Rattle.inst_slot.specs.Book.{Book}
 use Rattle.inst_slot.specs.inner.Waiting.{is_apart}
 
--- it is answered as the books demand, and they keep what they are to keep, which is of no transfer; or memory was
--- refused, and nothing changed
+-- it is answered as the books demand, and they keep what they are to keep, which is of no transfer;
+-- or memory was refused, and nothing changed
 abbrev pub EntersAlone : Book → Ask → Result Reply Fault → Book → Type 0
 EntersAlone book ask result new =
     ((result ≡ told (handle_ask book ask None)) × (new ≡ book_after book ask None)

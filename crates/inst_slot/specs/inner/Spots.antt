@@ -10,7 +10,8 @@ use Rattle.inst_slot.specs.declared.arrivals.Spot.{Spot}
 -- what is booked of the transfer at a position of the table
 abbrev pub booked_at : ℕ → List Event → ℕ → Option Outcome
 booked_at who J position =
-    booked (get_or (rows_of who J) position no_entry).from (get_or (rows_of who J) position no_entry).id J
+    booked (get_or (rows_of who J) position no_entry).from
+    (get_or (rows_of who J) position no_entry).id J
 
 -- a spot at the position
 pub record IsSpotAt (spots : List Spot) (position k : ℕ) : Type 0 where
@@ -20,5 +21,6 @@ pub record IsSpotAt (spots : List Spot) (position k : ℕ) : Type 0 where
 
 -- where the spot at the position stands, or that there is none
 abbrev pub FindsSpot : List Spot → ℕ → Option ℕ → Type 0
-FindsSpot spots position None = (k : ℕ) (spot : Spot) → slice_get spots k ≡ Some spot → spot.position ≢ position
+FindsSpot spots position None =
+    (k : ℕ) (spot : Spot) → slice_get spots k ≡ Some spot → spot.position ≢ position
 FindsSpot spots position (Some k) = IsSpotAt spots position k

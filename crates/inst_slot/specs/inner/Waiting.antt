@@ -10,7 +10,7 @@ AreTimed deadlines pairs = (d k : ℕ) → has pairs d k ≡ true → slice_get 
 
 -- whether the event is of money or of the inbox alone: it takes, forwards and books no transfer
 abbrev pub is_apart : Event → Bool
-is_apart (Funded reference cents) = true
-is_apart (Defunded reference cents) = true
+is_apart (Funded funding) = true
+is_apart (Defunded funding) = true
 is_apart (Fetched count) = true
 is_apart _ = false

@@ -6,16 +6,16 @@ ghost use Rattle.inst_slot.specs.Spots.{rows_of, arrival_of};
 use super::Slot;
 use crate::arrivals::Spot;
 use inst_base::mention;
-use inst_board::Place;
-use inst_command::Outcome;
+use inst_command::{Outcome, Place};
 use inst_transfers::{Side, Transfer};
 
 impl Slot {
-    /// The place of the arrival at this spot, where nothing is booked of it and its place was found. It looks nothing
-    /// up by its key.
+    /// The place of the arrival at this spot, where nothing is booked of it and its place was
+    /// found. It looks nothing up by its key.
     fn unbooked_place(&self, spot: &Spot) -> Option<Place>
         requires { spot.now.position < length (rows_of self.now.who self.now.events) }
-        ensures { result ≡ unbooked_place self.now (arrival_of (rows_of self.now.who self.now.events) spot.now) }
+        ensures { result ≡ unbooked_place self.now
+            (arrival_of (rows_of self.now.who self.now.events) spot.now) }
     {
         mention::<(Side, Transfer, Outcome)>();
         let found = self.ledger.at(spot.position)?;
@@ -27,9 +27,9 @@ impl Slot {
         Some(Place { owner, index })
     }
 
-    /// Of the live transfers that were forwarded, in order of arrival, the first at this position or later with
-    /// nothing booked and a place that was found: its position, counted from 0, and that place. The cost grows with
-    /// the number of those that are passed over.
+    /// Of the live transfers that were forwarded, in order of arrival, the first at this position
+    /// or later with nothing booked and a place that was found: its position, counted from 0, and
+    /// that place. The cost grows with the number of those that are passed over.
     pub fn unbooked_from(&self, position: usize) -> Option<(usize, Place)>
         ensures next { GivesUnbooked self.now position result }
         ensures few { length self.now.arrivals < 2 ^ 64 }

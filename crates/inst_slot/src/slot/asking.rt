@@ -1,14 +1,16 @@
 //! What a participant asks of its slot.
-ghost use Rattle.std.specs.Prelude.{◌≡◌, ◌≢◌, IfErr, [], ◌∷◌, true, false, is_some, IfOk, OnErr, OnOk, Some, None};
+ghost use Rattle.std.specs.Prelude.{◌≡◌, ◌≢◌, IfErr, [], ◌∷◌, true, false, is_some, IfOk, OnErr};
+ghost use Rattle.std.specs.Prelude.{OnOk, Some, None};
 ghost use Rattle.inst_base.specs.Fault.{IsUnlessMemory};
 ghost use Rattle.inst_settings.specs.Settings.{is_participant};
 ghost use Rattle.inst_command.specs.Ask.{ask_fits};
 ghost use Rattle.inst_board.specs.Learning.{KnowTheSame};
-ghost use Rattle.inst_ledger.specs.Book.{taken};
+ghost use Rattle.inst_ledger.specs.Book.{submission_event};
 ghost use Rattle.inst_journal.specs.Sound.{Fits, FitAfter};
 ghost use Rattle.inst_journal.specs.Reply.{copies, kept_event};
 ghost use Rattle.inst_slot.specs.LawfulBoard.{IsLawfulBoard, KeepsOthers, AllAreAdopted};
-ghost use Rattle.inst_slot.specs.Asking.{request, decides, AsksAdopted, handle_ask, Opens, Enters, Applies};
+ghost use Rattle.inst_slot.specs.Asking.{request, decides, AsksAdopted, handle_ask, Opens, Enters};
+ghost use Rattle.inst_slot.specs.Asking.{Applies};
 ghost use Rattle.inst_slot.specs.Telling.{with_event};
 ghost use Rattle.inst_slot.specs.inner.Entering.{EntersAlone};
 ghost use Rattle.inst_slot.specs.inner.Waiting.{is_apart};
@@ -18,7 +20,7 @@ use super::Slot;
 use crate::answering::{request_of, settle};
 use inst_base::Fault;
 use inst_board::Board;
-use inst_command::{Ask, Command, Reply, Submission};
+use inst_command::{Ask, Command, Query, Reply, Submission};
 use inst_journal::{Event, Handled};
 use inst_ledger::Sending;
 use inst_terms::Terms;
@@ -29,8 +31,10 @@ impl Slot {
     fn handle(&self, ask: &Ask) -> Result<Handled, Fault>
         requires fits { ask_fits self.now.settings ask.now ≡ true }
         ensures reply { IsUnlessMemory result (handle_ask self.now ask.now None) }
-        ensures no_memory { copies self.now.events ask.now.command ≡ false → result ≡ handle_ask self.now ask.now None }
-        ensures kept { IfOk result (λ handled. FitAfter self.now.settings self.now.who self.now.events (kept_event handled.kept)) }
+        ensures no_memory { copies self.now.events ask.now.command ≡ false →
+            result ≡ handle_ask self.now ask.now None }
+        ensures kept { IfOk result (λ handled.
+            FitAfter self.now.settings self.now.who self.now.events (kept_event handled.kept)) }
     {
         self.ledger.handle(self.alloc, &ask.command, ask.at, None)
     }
@@ -39,9 +43,13 @@ impl Slot {
     fn take<B: Board>(&mut self, board: &mut B, submission: &Submission) -> Result<(), AllocError>
         requires lawful { IsLawfulBoard B.settings B.knows B.has_role board.old self.old }
         requires participant { is_participant self.old.settings self.old.who ≡ true }
-        requires fits { Fits self.old.settings self.old.who self.old.events (taken submission.now) }
-        ensures ok { OnOk result (self.new ≡ with_event self.old (Some (taken submission.now))) }
-        ensures opens { OnOk result (Opens (B.settings board.old).margin B.knows self.old (taken submission.now ∷ []) board.old board.new) }
+        requires fits { Fits self.old.settings self.old.who self.old.events
+            (submission_event submission.now) }
+        ensures ok { OnOk result (self.new
+            ≡ with_event self.old (Some (submission_event submission.now))) }
+        ensures opens { OnOk result
+            (Opens (B.settings board.old).margin B.knows self.old (submission_event submission.now
+            ∷ []) board.old board.new) }
         ensures err { OnErr result ((self.new ≡ self.old) × (board.new ≡ board.old)) }
         ensures stays { B.stays board.old board.new }
     {
@@ -61,7 +69,8 @@ impl Slot {
     }
 
     /// Answers a submission, which is kept where it is new.
-    // A function clears the locals of all that is inlined into it, and the other commands have no use for these.
+    // A function clears the locals of all that is inlined into it, and the other commands have no
+    // use for these.
     #[inline(never)]
     fn submit<B: Board>(
         &mut self,
@@ -73,7 +82,8 @@ impl Slot {
         requires fits { ask_fits self.old.settings ask.now ≡ true }
         requires lawful { IsLawfulBoard B.settings B.knows B.has_role board.old self.old }
         requires command { ask.now.command ≡ Command.Submit submission.now }
-        ensures enters { Enters (B.settings board.old).margin B.knows board.old self.old ask.now result board.new self.new }
+        ensures enters { Enters (B.settings board.old).margin B.knows board.old self.old ask.now
+            result board.new self.new }
         ensures stays { B.stays board.old board.new }
     {
         let id = submission.id;
@@ -96,7 +106,8 @@ impl Slot {
         Ok(())
     }
 
-    /// Answers a command that is no submission and decides no transfer: the board has no part in it.
+    /// Answers a command that is no submission and decides no transfer: the board has no part in
+    /// it.
     fn enter_alone(&mut self, ask: &Ask) -> Result<Reply, Fault>
         requires own { ask.now.who ≡ self.old.who }
         requires fits { ask_fits self.old.settings ask.now ≡ true }
@@ -110,36 +121,52 @@ impl Slot {
         Ok(reply)
     }
 
+    /// Answers a query, and keeps nothing. A position needs none of the room that other replies take.
+    fn answer_query(&mut self, ask: &Ask, query: &Query) -> Result<Reply, Fault>
+        requires own { ask.now.who ≡ self.old.who }
+        requires fits { ask_fits self.old.settings ask.now ≡ true }
+        requires query { ask.now.command ≡ Command.Query query.now }
+        ensures { EntersAlone self.old ask.now result self.new }
+    {
+        match query {
+            Query::Position => Ok(self.ledger.position_reply()),
+            Query::Statement { .. } => self.enter_alone(ask),
+        }
+    }
+
     /// Answers a command that decides no transfer.
     fn enter<B: Board>(&mut self, board: &mut B, ask: &Ask) -> Result<Reply, Fault>
         requires own { ask.now.who ≡ self.old.who }
         requires fits { ask_fits self.old.settings ask.now ≡ true }
         requires lawful { IsLawfulBoard B.settings B.knows B.has_role board.old self.old }
         requires request { request self.old ask.now.command ≡ None }
-        ensures enters { Enters (B.settings board.old).margin B.knows board.old self.old ask.now result board.new self.new }
+        ensures enters { Enters (B.settings board.old).margin B.knows board.old self.old ask.now
+            result board.new self.new }
         ensures stays { B.stays board.old board.new }
     {
         match &ask.command {
             Command::Submit(submission) => self.submit(board, ask, submission),
-            // A function clears the locals of each of its arms, and this one has no use for those of the others.
-            Command::Position => Ok(self.ledger.position_reply()),
+            Command::Query(query) => self.answer_query(ask, query),
             _ => self.enter_alone(ask),
         }
     }
 
-    /// Answers a command of the participant, and keeps what its history is to keep of it. Refused by
-    /// the first of `SelfTransfer` to `Shortage` that holds, and then the slot and what the board has
-    /// decided are as they were; so they are after `Memory`, which comes only where an event is to be
-    /// kept, or entries or lines are to be told.
+    /// Answers a command of the participant, and keeps what its history is to keep of it. Refused
+    /// by the first of `SelfTransfer` to `Shortage` that holds, and then the slot and what the
+    /// board has decided are as they were; so they are after `Memory`, which comes only where an
+    /// event is to be kept, or entries or lines are to be told.
     pub fn apply<B: Board>(&mut self, board: &mut B, ask: &Ask) -> Result<Reply, Fault>
         requires own { ask.now.who ≡ self.old.who }
         requires fits { ask_fits self.old.settings ask.now ≡ true }
         requires lawful { IsLawfulBoard B.settings B.knows B.has_role board.old self.old }
         requires adopted { AsksAdopted self.old ask.now.command }
-        ensures applies { Applies (B.settings board.old).margin B.knows B.has_role B.stood B.stays board.old self.old ask.now result board.new self.new }
-        ensures decides { is_some (request self.old ask.now.command) ≡ decides self.old ask.now.command }
+        ensures applies { Applies (B.settings board.old).margin B.knows B.has_role B.stood B.stays
+            board.old self.old ask.now result board.new self.new }
+        ensures decides { is_some (request self.old ask.now.command)
+            ≡ decides self.old ask.now.command }
         ensures err { OnErr result (self.new ≡ self.old) }
-        ensures refused { IfErr result (λ fault. fault ≢ Fault.Memory → KnowTheSame B.knows board.old board.new) }
+        ensures refused { IfErr result (λ fault. fault ≢ Fault.Memory →
+            KnowTheSame B.knows board.old board.new) }
         ensures lawful { IsLawfulBoard B.settings B.knows B.has_role board.new self.new }
         ensures others { KeepsOthers B.settings B.knows B.has_role board.old self.old.who board.new }
         ensures same { (self.new.settings ≡ self.old.settings) × (self.new.who ≡ self.old.who) }

@@ -5,14 +5,15 @@ ghost use Rattle.inst_base.specs.TimeLimit.{deadline_of};
 ghost use Rattle.inst_settings.specs.Settings.{is_participant};
 ghost use Rattle.inst_board.specs.declared.about.About.TheVariants.{Opened};
 ghost use Rattle.inst_board.specs.declared.look.Look.{Look};
-ghost use Rattle.inst_board.specs.declared.place.Place.{Place};
+ghost use Rattle.inst_command.specs.declared.place.Place.{Place};
 ghost use Rattle.inst_board.specs.Learning.{Looks, Learns, KnowsTruly};
 ghost use Rattle.inst_board.specs.Standing.{IsPlace, about, pending};
 ghost use Rattle.inst_journal.specs.Opened.{HasOpeningsLeft, carried, live_taken};
 ghost use Rattle.inst_journal.specs.Sound.{IsSound};
 ghost use Rattle.inst_slot.specs.Book.{place_at, live_inbox};
 ghost use Rattle.inst_slot.specs.LawfulBoard.{IsLawfulBoard, KeepsOthers, AllAreAdopted};
-ghost use Rattle.inst_slot.specs.Opening.{opened_again, MayOpenAgain, OpensPlaces, finds_carried, with_found, unfound, unplaced};
+ghost use Rattle.inst_slot.specs.Opening.{opened_again, MayOpenAgain, OpensPlaces, finds_carried};
+ghost use Rattle.inst_slot.specs.Opening.{with_found, unfound, arrival_without_place};
 ghost use Rattle.inst_slot.specs.Spots.{rows_of, arrivals_of, AreSpots};
 ghost use Rattle.inst_slot.specs.Waiting.{IsWaiting};
 
@@ -20,7 +21,8 @@ use super::Slot;
 use crate::arrivals::{Spot, carried_arrivals, find_at};
 use crate::waiting::{Waiting, carried_waiting};
 use inst_base::Moment;
-use inst_board::{Board, Look, Place};
+use inst_board::{Board, Look};
+use inst_command::Place;
 use inst_journal::{Event, Journal};
 use inst_ledger::Ledger;
 use inst_settings::Settings;
@@ -28,10 +30,10 @@ use inst_terms::Terms;
 use std::alloc::{AllocError, Global};
 
 impl Slot {
-    /// The slot of the participant `who` with this history, opened again from it: its live transfers get
-    /// the first places, in order of taking, and are pending there. Where memory is refused the board is as
-    /// it was. The places of what was forwarded to the participant are then to be found by `adopt`. It walks
-    /// the history.
+    /// The slot of the participant `who` with this history, opened again from it: its live
+    /// transfers get the first places, in order of taking, and are pending there. Where memory is
+    /// refused the board is as it was. The places of what was forwarded to the participant are then
+    /// to be found by `adopt`. It walks the history.
     pub fn open_from<B: Board>(
         alloc: Global,
         settings: &Settings,
@@ -44,9 +46,11 @@ impl Slot {
         requires few { HasOpeningsLeft journal.now.events }
         requires board { MayOpenAgain B.settings B.knows B.has_role board.old settings.now who }
         ensures ok { IfOk result (λ slot. slot ≡ opened_again settings.now who journal.now.events) }
-        ensures opens { IfOk result (λ slot. OpensPlaces B.knows settings.now who (live_taken who slot.events) board.old board.new) }
+        ensures opens { IfOk result (λ slot.
+            OpensPlaces B.knows settings.now who (live_taken who slot.events) board.old board.new) }
         ensures err { OnErr result (board.new ≡ board.old) }
-        ensures lawful { IfOk result (λ slot. IsLawfulBoard B.settings B.knows B.has_role board.new slot) }
+        ensures lawful { IfOk result (λ slot.
+            IsLawfulBoard B.settings B.knows B.has_role board.new slot) }
         ensures others { KeepsOthers B.settings B.knows B.has_role board.old who board.new }
         ensures stays { B.stays board.old board.new }
     {
@@ -89,7 +93,9 @@ impl Slot {
         requires own { B.has_role board.old self.now.who }
         requires unused { ¬ B.knows board.old (about (place_at self.now.who index) Opened) }
         requires deadline { is_moment (deadline_of self.now.settings.limit stamp) ≡ true }
-        ensures opens { Learns (B.settings board.old).margin B.knows board.old (place_at self.now.who index) (pending terms.now (deadline_of self.now.settings.limit stamp)) board.new }
+        ensures opens { Learns (B.settings board.old).margin B.knows board.old
+            (place_at self.now.who index)
+            (pending terms.now (deadline_of self.now.settings.limit stamp)) board.new }
         ensures stays { B.stays board.old board.new }
     {
         let place = Place {
@@ -101,14 +107,16 @@ impl Slot {
         board.open(place, deadline);
     }
 
-    /// Opens the places of the live transfers on a board, where the history ends with an opening: they get
-    /// the first places of the participant, in order of taking, and are pending there. `open_from` does so,
-    /// and a slot that moves to another board of a hub which opens.
+    /// Opens the places of the live transfers on a board, where the history ends with an opening:
+    /// they get the first places of the participant, in order of taking, and are pending there.
+    /// `open_from` does so, and a slot that moves to another board of a hub which opens.
     pub fn open_places<B: Board>(&self, board: &mut B)
         requires participant { is_participant self.now.settings self.now.who ≡ true }
         requires opened { carried self.now.events ≡ self.now.events }
-        requires board { MayOpenAgain B.settings B.knows B.has_role board.old self.now.settings self.now.who }
-        ensures opens { OpensPlaces B.knows self.now.settings self.now.who (live_taken self.now.who self.now.events) board.old board.new }
+        requires board { MayOpenAgain B.settings B.knows B.has_role board.old self.now.settings
+            self.now.who }
+        ensures opens { OpensPlaces B.knows self.now.settings self.now.who
+            (live_taken self.now.who self.now.events) board.old board.new }
         ensures truly { (k : Place) → KnowsTruly self.now.settings.margin B.knows board.new k }
         ensures others { KeepsOthers B.settings B.knows B.has_role board.old self.now.who board.new }
         ensures stays { B.stays board.old board.new }
@@ -146,12 +154,15 @@ impl Slot {
             .count()
     }
 
-    /// Finds the place of a transfer that was carried over the opening: `true` exactly where the place
-    /// shows it pending, and it wasn't found before. It takes no memory.
+    /// Finds the place of a transfer that was carried over the opening: `true` exactly where the
+    /// place shows it pending, and it wasn't found before. It takes no memory.
     pub fn adopt<B: Board>(&mut self, board: &mut B, place: Place) -> bool
         requires lawful { IsLawfulBoard B.settings B.knows B.has_role board.old self.old }
-        ensures finds { (look : Look) × Looks (B.settings board.old).margin B.knows B.has_role B.stood board.old place look board.new
-            × (result ≡ finds_carried self.old place look) × (self.new ≡ with_found self.old place look) }
+        ensures finds { (look : Look)
+            × Looks (B.settings board.old).margin B.knows B.has_role B.stood board.old place look
+            board.new
+            × (result ≡ finds_carried self.old place look)
+            × (self.new ≡ with_found self.old place look) }
         ensures lawful { IsLawfulBoard B.settings B.knows B.has_role board.new self.new }
         ensures others { KeepsOthers B.settings B.knows B.has_role board.old self.old.who board.new }
         ensures same { (self.new.settings ≡ self.old.settings) × (self.new.who ≡ self.old.who) }
@@ -183,10 +194,13 @@ impl Slot {
 /// What is live in books that end with an opening: what arrived, and what waits.
 fn carried_over(alloc: Global, ledger: &Ledger) -> Result<(Vec<Spot>, Waiting), AllocError>
     requires { carried ledger.now.book.events ≡ ledger.now.book.events }
-    ensures arrived { IfOk result (λ live. arrivals_of (rows_of ledger.now.book.who ledger.now.book.events) live.0.items
-        ≡ map unplaced (live_inbox ledger.now.book.events)) }
-    ensures spots { IfOk result (λ live. AreSpots (rows_of ledger.now.book.who ledger.now.book.events) live.0.items) }
-    ensures waits { IfOk result (λ live. IsWaiting ledger.now.book.settings ledger.now.book.who ledger.now.book.events live.1) }
+    ensures arrived { IfOk result (λ live.
+        arrivals_of (rows_of ledger.now.book.who ledger.now.book.events) live.0.items
+        ≡ map arrival_without_place (live_inbox ledger.now.book.events)) }
+    ensures spots { IfOk result (λ live.
+        AreSpots (rows_of ledger.now.book.who ledger.now.book.events) live.0.items) }
+    ensures waits { IfOk result (λ live.
+        IsWaiting ledger.now.book.settings ledger.now.book.who ledger.now.book.events live.1) }
 {
     Ok((
         carried_arrivals(alloc, ledger)?,

@@ -1,16 +1,18 @@
 //! What a participant's history has, read off what stands beside it.
-ghost use Rattle.std.specs.Prelude.{◌≡◌, ◌<◌, ◌^◌};
+ghost use Rattle.std.specs.Prelude.{◌≡◌, ◌<◌, ◌^◌, IfOk};
 ghost use Rattle.inst_journal.specs.Money.{position};
+ghost use Rattle.inst_journal.specs.Statement.{statement_part};
 ghost use Rattle.inst_slot.specs.OwnState.{own_state};
 
 use super::Slot;
 use inst_base::mention;
-use inst_command::{Outcome, State};
+use inst_command::{Lines, Outcome, State};
 use inst_transfers::{Side, Transfer};
+use std::alloc::{AllocError, Global};
 
 impl Slot {
-    /// The state that the participant's books tell of its own live transfer at this index: `Unused` where none was taken
-    /// there.
+    /// The state that the participant's books tell of its own live transfer at this index: `Unused`
+    /// where none was taken there.
     pub fn own_state(&self, index: u16) -> State
         ensures { result ≡ own_state self.now.who self.now.events index }
     {
@@ -31,5 +33,17 @@ impl Slot {
         ensures within { result < 2 ^ 64 }
     {
         self.ledger.position()
+    }
+
+    /// Returns at most `count` lines of the participant's statement since the last opening, after
+    /// the first `skip`. It costs the lines that it returns.
+    ///
+    /// # Errors
+    ///
+    /// Returns `AllocError` if memory is refused.
+    pub fn statement(&self, alloc: Global, skip: u64, count: u32) -> Result<Lines, AllocError>
+        ensures { IfOk result (λ lines. lines ≡ statement_part self.now.events skip count) }
+    {
+        self.ledger.statement(alloc, skip, count)
     }
 }

@@ -9,8 +9,8 @@ ghost use Rattle.inst_slot.specs.Telling.{delivery, with_delivery, Keeps};
 use super::Slot;
 use crate::arrivals::Spot;
 use inst_base::mention;
-use inst_board::{Board, Look, Place};
-use inst_command::{Entry, Outcome};
+use inst_board::{Board, Look};
+use inst_command::{Entry, Outcome, Place};
 use inst_journal::Event;
 use std::alloc::AllocError;
 
@@ -40,7 +40,8 @@ impl Slot {
 
     /// Keeps that the transfer was forwarded from the place.
     fn forward(&mut self, place: Place, entry: Entry) -> Result<(), AllocError>
-        requires fits { Fits self.old.settings self.old.who self.old.events (Event.Forwarded entry.from entry.id entry.cents entry.deadline) }
+        requires fits { Fits self.old.settings self.old.who self.old.events
+            (Event.Forwarded entry.from entry.id entry.cents entry.deadline) }
         ensures ok { OnOk result (self.new ≡ with_delivery self.old place (Some entry)) }
         ensures err { OnErr result (self.new ≡ self.old) }
     {
@@ -65,13 +66,16 @@ impl Slot {
         Ok(())
     }
 
-    /// Forwards what is pending at the place, if it is for the participant and new to it: `true` where it
-    /// was. Where memory is refused the slot is as it was.
+    /// Forwards what is pending at the place, if it is for the participant and new to it: `true`
+    /// where it was. Where memory is refused the slot is as it was.
     pub fn deliver<B: Board>(&mut self, board: &mut B, place: Place) -> Result<bool, AllocError>
         requires lawful { IsLawfulBoard B.settings B.knows B.has_role board.old self.old }
         requires adopted { AllAreAdopted self.old }
-        ensures delivers { (look : Look) × Looks (B.settings board.old).margin B.knows B.has_role B.stood board.old place look board.new
-            × Keeps (is_some (delivery self.old place look)) self.old (with_delivery self.old place (delivery self.old place look)) result self.new }
+        ensures delivers { (look : Look)
+            × Looks (B.settings board.old).margin B.knows B.has_role B.stood board.old place look
+            board.new
+            × Keeps (is_some (delivery self.old place look)) self.old
+            (with_delivery self.old place (delivery self.old place look)) result self.new }
         ensures lawful { IsLawfulBoard B.settings B.knows B.has_role board.new self.new }
         ensures others { KeepsOthers B.settings B.knows B.has_role board.old self.old.who board.new }
         ensures same { (self.new.settings ≡ self.old.settings) × (self.new.who ≡ self.old.who) }

@@ -1,8 +1,10 @@
--- What the tables of a walk hold: the terms of each transfer that was passed, by its key. This hub's own choice.
+-- What the tables of a walk hold: the terms of each transfer that was passed, by its key. This
+-- hub's own choice.
 use Rattle.std.specs.Prelude.{◌≡◌, ℕ, Bool, false, ◌==◌, ◌&&◌, List}
 use Rattle.indexmap.specs.IndexMap.{IndexMap, get}
 use Rattle.inst_journal.specs.declared.event.Event.{Event}
-use Rattle.inst_journal.specs.declared.event.Event.TheVariants.{Funded, Defunded, Taken, Forwarded, Booked, Fetched, Opened}
+use Rattle.inst_journal.specs.declared.event.Event.TheVariants.{Funded, Defunded, Taken, Forwarded}
+use Rattle.inst_journal.specs.declared.event.Event.TheVariants.{Booked, Fetched, Opened}
 use Rattle.inst_journal.specs.Booked.{first_some, is_taken, is_forwarded}
 use Rattle.inst_statement.specs.inner.Movement.{came, sent}
 use Rattle.inst_settings.specs.Settings.{same_text}
@@ -15,14 +17,15 @@ same_key x y = (x.0 == y.0) && same_text x.1 y.1
 pub record AreKept {S : Type 0} (front : List Event) (taken : IndexMap (List ℕ) (ℕ × ℕ) S)
     (forwarded : IndexMap (ℕ × List ℕ) ℕ S) : Type 0 where
   pub sent_terms : (id : List ℕ) → get same_text taken id ≡ first_some (sent id) front
-  pub came_amount : (key : ℕ × List ℕ) → get same_key forwarded key ≡ first_some (came key.0 key.1) front
+  pub came_amount : (key : ℕ × List ℕ) →
+      get same_key forwarded key ≡ first_some (came key.0 key.1) front
 
 -- the event brings no transfer that is there
-abbrev pub IsNew : List Event → Event → Type 0
-IsNew front (Taken id to cents stamp) = is_taken id front ≡ false
-IsNew front (Forwarded from id cents deadline) = is_forwarded from id front ≡ false
-IsNew front (Funded reference cents) = Unit {0}
-IsNew front (Defunded reference cents) = Unit {0}
-IsNew front (Booked from id outcome) = Unit {0}
-IsNew front (Fetched count) = Unit {0}
-IsNew front Opened = Unit {0}
+abbrev pub IsNewTransfer : List Event → Event → Type 0
+IsNewTransfer front (Taken id to cents stamp) = is_taken id front ≡ false
+IsNewTransfer front (Forwarded from id cents deadline) = is_forwarded from id front ≡ false
+IsNewTransfer front (Funded funding) = Unit {0}
+IsNewTransfer front (Defunded funding) = Unit {0}
+IsNewTransfer front (Booked from id outcome) = Unit {0}
+IsNewTransfer front (Fetched count) = Unit {0}
+IsNewTransfer front Opened = Unit {0}

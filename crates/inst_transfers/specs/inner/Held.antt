@@ -1,5 +1,6 @@
 -- Which transfers of a table have nothing booked, and where a position stands in a list.
-use Rattle.std.specs.Prelude.{◌≡◌, ◌≢◌, ℕ, Bool, false, is_none, List, slice_get, Option, Some, None}
+use Rattle.std.specs.Prelude.{◌≡◌, ◌≢◌, ℕ, Bool, false, is_none, List, slice_get, Option, Some}
+use Rattle.std.specs.Prelude.{None}
 use Rattle.inst_transfers.specs.declared.transfer.Transfer.{Transfer}
 use Rattle.inst_transfers.specs.State.{Key}
 

@@ -7,7 +7,8 @@ ghost use Rattle.inst_model.specs.Closing.{of_places, of_originators, closing};
 ghost use Rattle.inst_model.specs.Hub.{history};
 ghost use Rattle.inst_model.specs.Opening.{Opening};
 ghost use Rattle.inst_world.specs.HasRun.{HasRun};
-ghost use Rattle.inst_world.specs.NextOpening.{books_of, AreJournalsOf, CanOpenFrom, AreCarried, HasClosed, HasOnlyTold};
+ghost use Rattle.inst_world.specs.NextOpening.{books_of, AreJournalsOf, CanOpenFrom, AreCarried};
+ghost use Rattle.inst_world.specs.NextOpening.{HasClosed, HasOnlyTold};
 
 use super::World;
 use inst_command::Step;
@@ -15,7 +16,7 @@ use inst_journal::Journal;
 use std::alloc::{AllocError, Global};
 
 /// Whether each journal can be opened from once more. It walks over the events of each.
-fn may_open(journals: &[Journal]) -> bool
+fn have_openings_left(journals: &[Journal]) -> bool
     ensures few { result ≡ true → (p : ℕ) → HasOpeningsLeft (books_of journals.now p) }
     ensures many { result ≡ false → ¬ ((p : ℕ) → HasOpeningsLeft (books_of journals.now p)) }
 {
@@ -32,7 +33,8 @@ impl World {
     fn tell_places(&mut self, who: u8, from: u8, places: u16) -> Result<(), AllocError>
         requires who { is_participant self.old.board.settings who ≡ true }
         requires from { is_participant self.old.board.settings from ≡ true }
-        ensures ran { OnOk result ((O : Opening) (L : List Step) → HasRun O L self.old → HasRun O (of_places who from places ++ L) self.new) }
+        ensures ran { OnOk result ((O : Opening) (L : List Step) → HasRun O L self.old →
+            HasRun O (of_places who from places ++ L) self.new) }
         ensures told { HasOnlyTold self.old self.new }
         ensures settings { self.new.board.settings ≡ self.old.board.settings }
     {
@@ -48,7 +50,8 @@ impl World {
     fn tell_originators(&mut self, who: u8) -> Result<(), AllocError>
         requires who { is_participant self.old.board.settings who ≡ true }
         ensures ran { OnOk result ((O : Opening) (L : List Step) → HasRun O L self.old →
-            HasRun O (of_originators who self.old.board.settings.places (participants self.old.board.settings) ++ L) self.new) }
+            HasRun O (of_originators who self.old.board.settings.places
+            (participants self.old.board.settings) ++ L) self.new) }
         ensures told { HasOnlyTold self.old self.new }
         ensures settings { self.new.board.settings ≡ self.old.board.settings }
     {
@@ -66,7 +69,8 @@ impl World {
     ///
     /// An allocation failed. Some participants were told of some places, and nothing else was done.
     pub fn close(&mut self) -> Result<(), AllocError>
-        ensures ran { OnOk result ((O : Opening) (L : List Step) → HasRun O L self.old → HasRun O (closing self.old.board.settings ++ L) self.new) }
+        ensures ran { OnOk result ((O : Opening) (L : List Step) → HasRun O L self.old →
+            HasRun O (closing self.old.board.settings ++ L) self.new) }
         ensures told { HasOnlyTold self.old self.new }
         ensures closed { OnOk result (HasClosed self.new) }
         ensures settings { self.new.board.settings ≡ self.old.board.settings }
@@ -81,7 +85,8 @@ impl World {
     /// Copies of all journals, in the order of the participants.
     fn journals(&self, alloc: Global) -> Result<Vec<Journal>, AllocError>
         ensures ok { IfOk result (λ journals. (O : Opening) (L : List Step) → HasRun O L self.now →
-            AreJournalsOf self.now.board.settings (history self.now.board.settings O L) journals.items) }
+            AreJournalsOf self.now.board.settings (history self.now.board.settings O L)
+            journals.items) }
     {
         let mut journals = Vec::new(alloc);
         let participants = self.settings().participants();
@@ -91,25 +96,31 @@ impl World {
         Ok(journals)
     }
 
-    /// Closes the hub, and copies its books for the next opening. Returns `None` if one of them can't be opened from once
-    /// more.
+    /// Closes the hub, and copies its books for the next opening. Returns `None` if one of them
+    /// can't be opened from once more.
     ///
     /// # Errors
     ///
     /// As from `close`.
     pub fn carry(&mut self, alloc: Global) -> Result<Option<Vec<Journal>>, AllocError>
-        ensures books { IfOk result (λ books. IfSome books (λ journals. (O : Opening) (L : List Step) → HasRun O L self.old →
+        ensures books { IfOk result (λ books.
+            IfSome books (λ journals. (O : Opening) (L : List Step) → HasRun O L self.old →
             AreCarried self.old.board.settings O L journals.items)) }
-        ensures can { IfOk result (λ books. IfSome books (λ journals. CanOpenFrom self.old.board.settings journals.items)) }
-        ensures many { IfOk result (λ books. books ≡ None → (O : Opening) (L : List Step) → HasRun O L self.old →
-            ¬ ((p : ℕ) → HasOpeningsLeft (history self.old.board.settings O (closing self.old.board.settings ++ L) p))) }
-        ensures ran { OnOk result ((O : Opening) (L : List Step) → HasRun O L self.old → HasRun O (closing self.old.board.settings ++ L) self.new) }
+        ensures can { IfOk result (λ books.
+            IfSome books (λ journals. CanOpenFrom self.old.board.settings journals.items)) }
+        ensures many { IfOk result (λ books. books ≡ None → (O : Opening) (L : List Step) →
+            HasRun O L self.old →
+            ¬ ((p : ℕ) →
+            HasOpeningsLeft (history self.old.board.settings O (closing self.old.board.settings
+            ++ L) p))) }
+        ensures ran { OnOk result ((O : Opening) (L : List Step) → HasRun O L self.old →
+            HasRun O (closing self.old.board.settings ++ L) self.new) }
         ensures told { HasOnlyTold self.old self.new }
         ensures settings { self.new.board.settings ≡ self.old.board.settings }
     {
         self.close()?;
         let journals = self.journals(alloc)?;
-        if !may_open(&journals) {
+        if !have_openings_left(&journals) {
             return Ok(None);
         }
         Ok(Some(journals))

@@ -9,8 +9,8 @@ ghost use Rattle.inst_world.specs.inner.NextOpening.{AreOpenedAgain, HaveFoundBe
 
 use super::World;
 use crate::trace::Trace;
-use inst_board::{Board, Look, Place, PlainBoard};
-use inst_command::Step;
+use inst_board::{Board, Look, PlainBoard};
+use inst_command::{Place, Step};
 use inst_journal::Journal;
 use inst_settings::Settings;
 use inst_slot::Slot;
@@ -18,15 +18,17 @@ use std::alloc::{AllocError, Global};
 use std::marker::Model;
 
 impl World {
-    /// A hub that opens again from these journals, one for each participant by number. What was pending
-    /// goes on, what was decided gives its place back. They are copied, and stay as they are.
+    /// A hub that opens again from these journals, one for each participant by number. What was
+    /// pending goes on, what was decided gives its place back. They are copied, and stay as they
+    /// are.
     pub fn open_from(
         alloc: Global,
         settings: &Settings,
         journals: &[Journal],
     ) -> Result<World, AllocError>
         requires journals { CanOpenFrom settings.now journals.now }
-        ensures ok { IfOk result (λ world. (world.board.settings ≡ settings.now) × HasRun (opening_from journals.now) [] world) }
+        ensures ok { IfOk result (λ world. (world.board.settings ≡ settings.now)
+            × HasRun (opening_from journals.now) [] world) }
     {
         let settings = settings.copy()?;
         let mut opened = Reopened::open(alloc, &settings, journals)?;
@@ -39,8 +41,8 @@ impl World {
         })
     }
 
-    /// Runs the steps in order, at a hub that opens again from these journals. Refused memory ends the run. What
-    /// it returns keeps what `run` promises.
+    /// Runs the steps in order, at a hub that opens again from these journals. Refused memory ends
+    /// the run. What it returns keeps what `run` promises.
     pub fn run_from(
         alloc: Global,
         settings: &Settings,
@@ -49,8 +51,11 @@ impl World {
     ) -> Result<(World, Trace), AllocError>
         requires journals { CanOpenFrom settings.now journals.now }
         requires fits { IsInterleaving settings.now steps.now }
-        ensures ran { IfOk result (λ r. (r.0.board.settings ≡ settings.now) × HasRun (opening_from journals.now) (reverse steps.now) r.0) }
-        ensures headline { IfOk result (λ r. KeepsTheHeadline settings.now (run_of (opening_from journals.now) steps.now (journal_of r.0) r.1.answers)) }
+        ensures ran { IfOk result (λ r. (r.0.board.settings ≡ settings.now)
+            × HasRun (opening_from journals.now) (reverse steps.now) r.0) }
+        ensures headline { IfOk result (λ r.
+            KeepsTheHeadline settings.now
+            (run_of (opening_from journals.now) steps.now (journal_of r.0) r.1.answers)) }
     {
         let mut world = World::open_from(alloc, settings, journals)?;
         let trace = world.run_steps(alloc, steps)?;
@@ -58,8 +63,8 @@ impl World {
     }
 }
 
-/// The slots of a hub that opens again, over its board. Transfers that were carried to them may still await their
-/// places.
+/// The slots of a hub that opens again, over its board. Transfers that were carried to them may
+/// still await their places.
 #[derive(Drop)]
 struct Reopened {
     slots: Vec<Slot>,
@@ -85,7 +90,8 @@ impl Reopened {
         journals: &[Journal],
     ) -> Result<Reopened, AllocError>
         requires journals { CanOpenFrom settings.now journals.now }
-        ensures ok { IfOk result (AreOpenedAgain settings.now (books_of journals.now) (participants settings.now)) }
+        ensures ok { IfOk result
+            (AreOpenedAgain settings.now (books_of journals.now) (participants settings.now)) }
     {
         let mut board = PlainBoard::new(alloc, settings)?;
         let mut slots = Vec::new(alloc);

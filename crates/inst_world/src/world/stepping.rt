@@ -9,8 +9,7 @@ ghost use Rattle.inst_world.specs.inner.Stepping.{RunsOrNeedsMemory};
 
 use super::World;
 use inst_base::Moment;
-use inst_board::Place;
-use inst_command::{Answer, Ask, Reply, Step, refusals_told};
+use inst_command::{Answer, Ask, Place, Reply, Step, refusals_told};
 use std::alloc::AllocError;
 
 impl World {
@@ -59,7 +58,8 @@ impl World {
         self.slots[usize::from(who)].learn(&mut self.board, place)
     }
 
-    /// The transfer at this index of the participant's may expire: whether it books its outcome anew.
+    /// The transfer at this index of the participant's may expire: whether it books its outcome
+    /// anew.
     fn expire(&mut self, who: u8, index: u16, at: Moment) -> Result<bool, AllocError>
         requires participant { is_participant self.old.board.settings who ≡ true }
         ensures { RunsOrNeedsMemory (λ is_new. Answer.New is_new) self.old

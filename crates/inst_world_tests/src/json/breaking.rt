@@ -2,7 +2,7 @@
 use crate::comparing::same_at;
 use crate::json::hub::{MOST, refusal};
 use inst_base::Fault;
-use inst_json::{Fields, Form, scan_into};
+use inst_json::{Fields, Form, scan};
 use std::process::Abort;
 
 /// Lines that are no JSON, and are known to be none where the pass stops.
@@ -117,12 +117,12 @@ const OTHER: &[&[u8]] = &[
 
 fn is_broken(line: &[u8]) -> bool {
     let mut fields = Fields::new();
-    matches!(scan_into(line, &mut fields), Form::Broken)
+    matches!(scan(line, &mut fields), Form::Broken)
 }
 
 fn is_left(line: &[u8]) -> bool {
     let mut fields = Fields::new();
-    matches!(scan_into(line, &mut fields), Form::Other)
+    matches!(scan(line, &mut fields), Form::Other)
 }
 
 /// Each line is known to be broken or left to another way, as wanted, and is refused for that.

@@ -5,7 +5,7 @@ ghost use Rattle.inst_settings.specs.Settings.{participants};
 use inst_base::{Code, Fault, mention};
 use inst_command::{Ask, Command, Step};
 use inst_json::{read_command, read_step};
-use inst_settings::{Numbers, Settings};
+use inst_settings::{HubParameters, Settings};
 use std::alloc::Global;
 
 /// The largest ceiling, in cents.
@@ -20,10 +20,10 @@ pub(crate) fn hub(alloc: Global, ceiling: u64, base: u64) -> Result<Settings, Fa
         Code::new("BBBBFRPP")?,
         Code::new("CCCCITMM")?,
     ];
-    let numbers = Numbers {
+    let numbers = HubParameters {
         ceiling,
         base,
-        ..Numbers::DEFAULT
+        ..HubParameters::DEFAULT
     };
     Settings::check(codes.to_vec(alloc)?, numbers)
 }

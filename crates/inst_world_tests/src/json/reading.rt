@@ -2,7 +2,7 @@
 use crate::comparing::same_at;
 use crate::json::hub::{MOST, read, read_script};
 use inst_base::{Cents, Fault, Ident, Moment, Reason};
-use inst_command::{Ask, Command, Step, Submission};
+use inst_command::{Ask, Command, Funding, Query, Step, Submission};
 use std::process::Abort;
 
 /// Who asks what, and when.
@@ -27,14 +27,14 @@ const COMMANDS: &[&str; 11] = &[
 fn asks() -> Result<[Asked; 11], Fault> {
     let id = Ident::new("T1")?;
     let cents = Cents::new(50_000)?;
-    let fund = Command::Fund {
+    let fund = Command::Fund(Funding {
         reference: Ident::new("F1")?,
         cents,
-    };
-    let defund = Command::Defund {
+    });
+    let defund = Command::Defund(Funding {
         reference: Ident::new("D1")?,
         cents: Cents::new(5000)?,
-    };
+    });
     let submit = Command::Submit(Submission {
         id,
         to: 1,
@@ -46,10 +46,10 @@ fn asks() -> Result<[Asked; 11], Fault> {
         id,
         reason: Reason::new("AC04")?,
     };
-    let last = Command::Statement {
+    let last = Command::Query(Query::Statement {
         skip: u64::MAX,
         count: 100,
-    };
+    });
     Ok([
         (0, fund, 0),
         (0, defund, 3000),
@@ -58,10 +58,14 @@ fn asks() -> Result<[Asked; 11], Fault> {
         (1, reject, 2000),
         (0, Command::Investigate { id }, 2100),
         (1, Command::Fetch { max: 10 }, 1500),
-        (0, Command::Position, 0),
-        (0, Command::Statement { skip: 0, count: 10 }, 3000),
+        (0, Command::Query(Query::Position), 0),
+        (
+            0,
+            Command::Query(Query::Statement { skip: 0, count: 10 }),
+            3000,
+        ),
         (2, last, 7),
-        (0, Command::Position, 5),
+        (0, Command::Query(Query::Position), 5),
     ])
 }
 
@@ -117,7 +121,7 @@ fn steps() -> Result<[Step; 4], Fault> {
         },
         Step::Ask(Ask {
             who: 0,
-            command: Command::Position,
+            command: Command::Query(Query::Position),
             at,
         }),
     ])

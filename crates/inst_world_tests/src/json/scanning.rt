@@ -1,7 +1,8 @@
-//! Which lines are read in one pass, without a tree. What they are read as a contract says, whichever way it is.
+//! Which lines are read in one pass, without a tree. What they are read as a contract says,
+//! whichever way it is.
 use crate::comparing::same_at;
 use inst_base::Fault;
-use inst_json::scan;
+use inst_json::{Fields, Form, scan};
 use std::alloc::Global;
 use std::process::Abort;
 
@@ -147,7 +148,8 @@ fn push_object(line: &mut String, front: &[&str], back: &[&str]) -> Result<(), F
 fn is_scanned(alloc: Global, front: &[&str], back: &[&str]) -> Result<bool, Fault> {
     let mut line = String::from_str(alloc, "{")?;
     push_object(&mut line, front, back)?;
-    Ok(scan(line.as_bytes()).is_some())
+    let mut fields = Fields::new();
+    Ok(matches!(scan(line.as_bytes(), &mut fields), Form::Plain))
 }
 
 /// The members in each order, each of them once in front.

@@ -1,13 +1,14 @@
-//! Rows that are answered: by the ledger, by the plain functions on its events, and a statement by a walk over them.
+//! Rows that are answered: by the ledger, by the plain functions on its events, and a statement by
+//! a walk over them.
 ghost use Rattle.std.specs.Prelude.{◌≡◌, true};
 ghost use Rattle.inst_command.specs.Ask.{command_fits};
 ghost use Rattle.inst_journal.specs.Sound.{Fits};
 
 use crate::comparing::same_at;
 use crate::ledger::asked::{Asks, command, outcome};
-use crate::ledger::told::{Told, is_refused, is_reply};
+use crate::ledger::told::{ExpectedReply, is_refused, is_reply};
 use inst_base::{Fault, Moment};
-use inst_command::{Ask, Command, Outcome};
+use inst_command::{Ask, Command, Outcome, Query};
 use inst_fixtures::{End, Shown, are_lines};
 use inst_journal::{Event, Handled, handle_command, reply_of};
 use inst_ledger::{Ledger, Sending};
@@ -16,7 +17,7 @@ use std::alloc::Global;
 use std::process::Abort;
 
 /// What is asked, its reading, what is found of its transfer, and what is told.
-pub(crate) type Row = (Asks, u64, Option<End>, Told);
+pub(crate) type Row = (Asks, u64, Option<End>, ExpectedReply);
 
 /// Whether the plain function that answers alone answers so.
 fn is_answered(
@@ -24,7 +25,7 @@ fn is_answered(
     ledger: &Ledger,
     ask: &Ask,
     found: &Option<Outcome>,
-    told: &Told,
+    told: &ExpectedReply,
 ) -> bool
     requires { command_fits ledger.now.book.settings ask.now.command ≡ true }
 {
@@ -42,7 +43,7 @@ fn is_handled(
     ledger: &Ledger,
     ask: &Ask,
     found: &Option<Outcome>,
-    told: &Told,
+    told: &ExpectedReply,
     wanted: &Option<Event>,
 ) -> bool
     requires { command_fits ledger.now.book.settings ask.now.command ≡ true }
@@ -61,7 +62,7 @@ fn plainly(
     ledger: &Ledger,
     ask: &Ask,
     found: &Option<Outcome>,
-    told: &Told,
+    told: &ExpectedReply,
     wanted: &Option<Event>,
 )
     requires { command_fits ledger.now.book.settings ask.now.command ≡ true }
@@ -92,10 +93,10 @@ fn by_a_walk(
     rt: &(impl Abort + AllocGlobal),
     ledger: &Ledger,
     asks: &Asks,
-    told: &Told,
+    told: &ExpectedReply,
 ) -> Result<(), Fault> {
     match (asks, told) {
-        (Asks::Statement(skip, count), Told::Lines(wanted)) => {
+        (Asks::Statement(skip, count), ExpectedReply::Lines(wanted)) => {
             walks(rt, ledger, *skip, *count, wanted)
         }
         _ => Ok(()),
@@ -121,7 +122,8 @@ fn keep(ledger: &mut Ledger, event: Event) -> Result<(), Fault>
     Ok(())
 }
 
-/// Whether the ledger, asked by itself whether a submission is new, tells what it tells where it handles it.
+/// Whether the ledger, asked by itself whether a submission is new, tells what it tells where it
+/// handles it.
 fn is_new(ledger: &Ledger, ask: &Ask, handled: &Result<Handled, Fault>) -> bool
     requires { command_fits ledger.now.book.settings ask.now.command ≡ true }
 {
@@ -136,9 +138,9 @@ fn is_new(ledger: &Ledger, ask: &Ask, handled: &Result<Handled, Fault>) -> bool
 }
 
 /// Whether the ledger, asked by itself for the position, tells what is told.
-fn is_position(ledger: &Ledger, ask: &Ask, told: &Told) -> bool {
+fn is_position(ledger: &Ledger, ask: &Ask, told: &ExpectedReply) -> bool {
     match &ask.command {
-        Command::Position => is_reply(&ledger.position_reply(), told),
+        Command::Query(Query::Position) => is_reply(&ledger.position_reply(), told),
         _ => true,
     }
 }
@@ -149,7 +151,7 @@ fn by_the_ledger(
     ledger: &mut Ledger,
     ask: &Ask,
     found: &Option<Outcome>,
-    told: &Told,
+    told: &ExpectedReply,
 ) -> Result<(), Fault>
     requires { command_fits ledger.old.book.settings ask.now.command ≡ true }
 {

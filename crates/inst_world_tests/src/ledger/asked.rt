@@ -1,6 +1,6 @@
 //! What is asked, by short texts and plain numbers.
 use inst_base::{Cents, Fault, Ident, Moment, Reason};
-use inst_command::{Command, Outcome, Submission};
+use inst_command::{Command, Funding, Outcome, Query, Submission};
 use inst_fixtures::End;
 
 /// A command.
@@ -30,14 +30,14 @@ fn submit(id: &str, to: u8, cents: u64, stamp: u64) -> Result<Command, Fault> {
 
 pub(crate) fn command(asks: &Asks) -> Result<Command, Fault> {
     Ok(match *asks {
-        Asks::Fund(reference, cents) => Command::Fund {
+        Asks::Fund(reference, cents) => Command::Fund(Funding {
             reference: Ident::new(reference)?,
             cents: Cents::new(cents)?,
-        },
-        Asks::Defund(reference, cents) => Command::Defund {
+        }),
+        Asks::Defund(reference, cents) => Command::Defund(Funding {
             reference: Ident::new(reference)?,
             cents: Cents::new(cents)?,
-        },
+        }),
         Asks::Submit(id, to, cents, stamp) => submit(id, to, cents, stamp)?,
         Asks::Confirm(from, id) => Command::Confirm {
             from,
@@ -52,8 +52,8 @@ pub(crate) fn command(asks: &Asks) -> Result<Command, Fault> {
             id: Ident::new(id)?,
         },
         Asks::Fetch(max) => Command::Fetch { max },
-        Asks::Position => Command::Position,
-        Asks::Statement(skip, count) => Command::Statement { skip, count },
+        Asks::Position => Command::Query(Query::Position),
+        Asks::Statement(skip, count) => Command::Query(Query::Statement { skip, count }),
     })
 }
 

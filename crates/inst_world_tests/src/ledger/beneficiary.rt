@@ -2,7 +2,7 @@
 use crate::ledger::answering::Row;
 use crate::ledger::asked::Asks;
 use crate::ledger::cases::{Does, First, goes};
-use crate::ledger::told::Told;
+use crate::ledger::told::ExpectedReply;
 use inst_base::Fault;
 use inst_command::LineKind;
 use inst_fixtures::End;
@@ -12,15 +12,15 @@ const FETCHES: &[Row] = &[
         Asks::Fetch(1),
         1000,
         None,
-        Told::Inbox(&[(0, "T1", 20_000, 11_000)]),
+        ExpectedReply::Inbox(&[(0, "T1", 20_000, 11_000)]),
     ),
     (
         Asks::Fetch(9),
         1000,
         None,
-        Told::Inbox(&[(2, "T1", 20_000, 11_000)]),
+        ExpectedReply::Inbox(&[(2, "T1", 20_000, 11_000)]),
     ),
-    (Asks::Fetch(1), 1000, None, Told::Inbox(&[])),
+    (Asks::Fetch(1), 1000, None, ExpectedReply::Inbox(&[])),
 ];
 
 const UNKNOWN: &[Row] = &[
@@ -28,27 +28,27 @@ const UNKNOWN: &[Row] = &[
         Asks::Confirm(0, "D2"),
         2000,
         Some(End::Accepted),
-        Told::Refused(Fault::UnknownTransfer),
+        ExpectedReply::Refused(Fault::UnknownTransfer),
     ),
     (
         Asks::Confirm(1, "T1"),
         2000,
         Some(End::Accepted),
-        Told::Refused(Fault::UnknownTransfer),
+        ExpectedReply::Refused(Fault::UnknownTransfer),
     ),
     (
         Asks::Confirm(0, "T1"),
         2000,
         None,
-        Told::Refused(Fault::Expired),
+        ExpectedReply::Refused(Fault::Expired),
     ),
     (
         Asks::Reject(2, "T1", "AC04"),
         2000,
         None,
-        Told::Pending(2, "T1"),
+        ExpectedReply::Pending(2, "T1"),
     ),
-    (Asks::Position, 2000, None, Told::Position(0, 0, 0)),
+    (Asks::Position, 2000, None, ExpectedReply::Position(0, 0, 0)),
 ];
 
 const CONFIRMS_AND_REJECTS: &[Row] = &[
@@ -56,51 +56,56 @@ const CONFIRMS_AND_REJECTS: &[Row] = &[
         Asks::Confirm(0, "T1"),
         2000,
         Some(End::Accepted),
-        Told::Decided(0, "T1", End::Accepted),
+        ExpectedReply::Decided(0, "T1", End::Accepted),
     ),
     (
         Asks::Confirm(0, "T1"),
         11_000,
         Some(End::TimedOut),
-        Told::Decided(0, "T1", End::Accepted),
+        ExpectedReply::Decided(0, "T1", End::Accepted),
     ),
     (
         Asks::Confirm(0, "T1"),
         11_000,
         None,
-        Told::Decided(0, "T1", End::Accepted),
+        ExpectedReply::Decided(0, "T1", End::Accepted),
     ),
     (
         Asks::Reject(2, "T1", "AC04"),
         2000,
         Some(End::Rejected("AC04")),
-        Told::Decided(2, "T1", End::Rejected("AC04")),
+        ExpectedReply::Decided(2, "T1", End::Rejected("AC04")),
     ),
     (
         Asks::Reject(2, "T1", "AC04"),
         2100,
         None,
-        Told::Decided(2, "T1", End::Rejected("AC04")),
+        ExpectedReply::Decided(2, "T1", End::Rejected("AC04")),
     ),
     (
         Asks::Confirm(2, "T1"),
         2200,
         Some(End::Accepted),
-        Told::Decided(2, "T1", End::Rejected("AC04")),
+        ExpectedReply::Decided(2, "T1", End::Rejected("AC04")),
     ),
     (
         Asks::Position,
         2200,
         None,
-        Told::Position(20_000, 0, 20_000),
+        ExpectedReply::Position(20_000, 0, 20_000),
     ),
-    (Asks::Defund("D2", 20_000), 3000, None, Told::Done("D2")),
-    (Asks::Position, 3000, None, Told::Position(0, 0, 0)),
+    (
+        Asks::Defund("D2", 20_000),
+        3000,
+        None,
+        ExpectedReply::Done("D2"),
+    ),
+    (Asks::Position, 3000, None, ExpectedReply::Position(0, 0, 0)),
     (
         Asks::Statement(0, 10),
         3000,
         None,
-        Told::Lines(&[
+        ExpectedReply::Lines(&[
             (1, LineKind::Received, Some(0), "T1", 20_000, 20_000),
             (2, LineKind::Defunded, None, "D2", 20_000, 0),
         ]),
@@ -116,8 +121,8 @@ const FETCHES_AND_DECIDES: &[Does] = &[
     Does::Knows("T1", (false, None, [true, false]), Some(End::Accepted)),
 ];
 
-/// It fetches, confirms and rejects, defunds what came, and reads its statement. T1 came from participant 0, and from
-/// nobody of the number 1.
+/// It fetches, confirms and rejects, defunds what came, and reads its statement. T1 came from
+/// participant 0, and from nobody of the number 1.
 #[test]
 fn fetches_confirms_and_rejects(rt: HostRuntime) -> Result<(), Fault> {
     goes(
@@ -133,19 +138,19 @@ const RECEIVES_BOTH: &[Row] = &[
         Asks::Confirm(2, "T1"),
         1000,
         Some(End::Accepted),
-        Told::Decided(2, "T1", End::Accepted),
+        ExpectedReply::Decided(2, "T1", End::Accepted),
     ),
     (
         Asks::Confirm(0, "T1"),
         1000,
         Some(End::Accepted),
-        Told::Decided(0, "T1", End::Accepted),
+        ExpectedReply::Decided(0, "T1", End::Accepted),
     ),
     (
         Asks::Statement(0, 10),
         1000,
         None,
-        Told::Lines(&[
+        ExpectedReply::Lines(&[
             (1, LineKind::Received, Some(2), "T1", 300, 300),
             (2, LineKind::Received, Some(0), "T1", 100, 400),
         ]),

@@ -19,16 +19,18 @@ pub(crate) enum First {
     Nothing,
     /// An opening.
     Opened,
-    /// A T1 over so many cents from participant 0, and another over so many from participant 2, to participant 1.
+    /// A T1 over so many cents from participant 0, and another over so many from participant 2, to
+    /// participant 1.
     Forwarded(u64, u64),
 }
 
-/// How many events, fundings and live submissions there are; the reserved sum, the position and the available sum; and
-/// by the journal the net funding, the debits, the credits, and those three sums again.
+/// How many events, fundings and live submissions there are; the reserved sum, the position and the
+/// available sum; and by the journal the net funding, the debits, the credits, and those three sums
+/// again.
 pub(crate) type Held = ([usize; 3], [u128; 3], i128, [u128; 5]);
 
-/// Whether a transfer of a name is taken, its beneficiary, and whether it was forwarded from participant 0 and from
-/// participant 1.
+/// Whether a transfer of a name is taken, its beneficiary, and whether it was forwarded from
+/// participant 0 and from participant 1.
 pub(crate) type Known = (bool, Option<u8>, [bool; 2]);
 
 /// What the ledger does, and what is compared of it.
@@ -116,7 +118,8 @@ fn is_opened_behind(journal: &Journal, kept: usize) -> bool {
     }
 }
 
-/// A ledger that opens from these books, and keeps an opening behind what they have, is in this one's place.
+/// A ledger that opens from these books, and keeps an opening behind what they have, is in this
+/// one's place.
 fn open_again(rt: &(impl Abort + AllocGlobal), ledger: &mut Ledger) -> Result<(), Fault> {
     let kept = ledger.journal().events().len();
     assert!(rt; ledger.journal().has_openings_left());

@@ -1,7 +1,7 @@
 //! Journals by themselves.
 use crate::comparing::same;
 use inst_base::{Cents, Fault, Ident, Moment};
-use inst_command::Outcome;
+use inst_command::{Funding, Outcome};
 use inst_journal::{Event, Journal};
 use std::process::Abort;
 
@@ -14,10 +14,10 @@ fn has_one(rt: &impl Abort, journal: &Journal, event: Event) -> Result<(), Fault
 
 /// Room that is made is no event, and what is pushed is one.
 fn pushes_one(rt: &impl Abort, journal: &mut Journal) -> Result<(), Fault> {
-    let funded = Event::Funded {
+    let funded = Event::Funded(Funding {
         reference: Ident::new("F1")?,
         cents: Cents::new(50_000)?,
-    };
+    });
     same(rt, journal.events().len(), 0);
     journal.reserve()?;
     same(rt, journal.events().len(), 0);
@@ -47,8 +47,8 @@ fn taken(id: Ident) -> Result<Event, Fault> {
     })
 }
 
-/// Participant 0 has its first transfer settled before the hub is opened again, and its third taken after it. One of
-/// the first one's name comes from participant 2.
+/// Participant 0 has its first transfer settled before the hub is opened again, and its third taken
+/// after it. One of the first one's name comes from participant 2.
 fn events(ids: [Ident; 3]) -> Result<[Event; 6], Fault> {
     let [first, second, third] = ids;
     Ok([

@@ -2,78 +2,78 @@
 use crate::ledger::answering::Row;
 use crate::ledger::asked::Asks;
 use crate::ledger::cases::{Does, First, goes};
-use crate::ledger::told::Told;
+use crate::ledger::told::ExpectedReply;
 use inst_base::Fault;
 use inst_fixtures::End;
 
 const REFUSED: &[Row] = &[
-    (Asks::Fund("F1", 1000), 0, None, Told::Done("F1")),
+    (Asks::Fund("F1", 1000), 0, None, ExpectedReply::Done("F1")),
     (
         Asks::Submit("T1", 1, 400, 1000),
         1000,
         None,
-        Told::Taken("T1", 11_000),
+        ExpectedReply::Taken("T1", 11_000),
     ),
     (
         Asks::Submit("T1", 0, 601, 2001),
         1000,
         None,
-        Told::Refused(Fault::SelfTransfer),
+        ExpectedReply::Refused(Fault::SelfTransfer),
     ),
     (
         Asks::Investigate("T2"),
         1000,
         Some(End::Accepted),
-        Told::Refused(Fault::UnknownTransfer),
+        ExpectedReply::Refused(Fault::UnknownTransfer),
     ),
     (
         Asks::Confirm(0, "T1"),
         1000,
         Some(End::Accepted),
-        Told::Refused(Fault::UnknownTransfer),
+        ExpectedReply::Refused(Fault::UnknownTransfer),
     ),
     (
         Asks::Submit("T1", 1, 601, 2001),
         1000,
         None,
-        Told::Refused(Fault::Duplicate),
+        ExpectedReply::Refused(Fault::Duplicate),
     ),
     (
         Asks::Submit("T2", 1, 601, 2001),
         1000,
         None,
-        Told::Refused(Fault::StampAhead),
+        ExpectedReply::Refused(Fault::StampAhead),
     ),
     (
         Asks::Submit("T2", 1, 601, 1000),
         11_000,
         None,
-        Told::Refused(Fault::Expired),
+        ExpectedReply::Refused(Fault::Expired),
     ),
     (
         Asks::Submit("T2", 1, 601, 1000),
         10_999,
         None,
-        Told::Refused(Fault::Shortage),
+        ExpectedReply::Refused(Fault::Shortage),
     ),
     (
         Asks::Submit("T2", 1, 400, 1000),
         10_999,
         None,
-        Told::Taken("T2", 11_000),
+        ExpectedReply::Taken("T2", 11_000),
     ),
     (
         Asks::Submit("T3", 1, 601, 1000),
         10_999,
         None,
-        Told::Refused(Fault::Full),
+        ExpectedReply::Refused(Fault::Full),
     ),
 ];
 
 const IS_REFUSED: &[Does] = &[Does::Answers(REFUSED), Does::Keeps(3)];
 
-/// Each refused command meets the refusal that it gets and some of the later ones, so that the first in
-/// order answers: all seven that a participant's books can give, by number.
+/// Each refused command meets the refusal that it gets and some of the later ones, so that the
+/// first in order answers: all seven that a participant's books can give, by number.
 #[test]
 fn meets_the_first_refusal(rt: HostRuntime) -> Result<(), Fault> {
     goes(&rt, 0, First::Nothing, IS_REFUSED)

@@ -1,36 +1,46 @@
-//! What is funded, paid, received and defunded, in parts of a statement: as the ledger keeps its lines, and as a walk
-//! over the events gives them.
+//! What is funded, paid, received and defunded, in parts of a statement: as the ledger keeps its
+//! lines, and as a walk over the events gives them.
 use crate::ledger::answering::Row;
 use crate::ledger::asked::Asks;
 use crate::ledger::cases::{Does, First, goes};
 use crate::ledger::openings::FUNDED_AGAIN;
-use crate::ledger::told::Told;
+use crate::ledger::told::ExpectedReply;
 use inst_base::Fault;
 use inst_command::LineKind;
 use inst_fixtures::{End, Shown};
 
 const MOVES: &[Row] = &[
-    (Asks::Statement(0, 10), 1000, None, Told::Lines(&[])),
-    (Asks::Fund("F1", 500), 1000, None, Told::Done("F1")),
+    (
+        Asks::Statement(0, 10),
+        1000,
+        None,
+        ExpectedReply::Lines(&[]),
+    ),
+    (Asks::Fund("F1", 500), 1000, None, ExpectedReply::Done("F1")),
     (
         Asks::Submit("T1", 2, 200, 1000),
         1000,
         None,
-        Told::Taken("T1", 11_000),
+        ExpectedReply::Taken("T1", 11_000),
     ),
     (
         Asks::Investigate("T1"),
         1000,
         Some(End::Accepted),
-        Told::Decided(1, "T1", End::Accepted),
+        ExpectedReply::Decided(1, "T1", End::Accepted),
     ),
     (
         Asks::Confirm(2, "T1"),
         1000,
         Some(End::Accepted),
-        Told::Decided(2, "T1", End::Accepted),
+        ExpectedReply::Decided(2, "T1", End::Accepted),
     ),
-    (Asks::Defund("G1", 100), 1000, None, Told::Done("G1")),
+    (
+        Asks::Defund("G1", 100),
+        1000,
+        None,
+        ExpectedReply::Done("G1"),
+    ),
 ];
 
 const LINES: &[Shown] = &[
@@ -41,12 +51,17 @@ const LINES: &[Shown] = &[
 ];
 
 const PARTS: &[Row] = &[
-    (Asks::Statement(0, 10), 1000, None, Told::Lines(LINES)),
+    (
+        Asks::Statement(0, 10),
+        1000,
+        None,
+        ExpectedReply::Lines(LINES),
+    ),
     (
         Asks::Statement(1, 2),
         1000,
         None,
-        Told::Lines(&[
+        ExpectedReply::Lines(&[
             (2, LineKind::Paid, Some(2), "T1", 200, 300),
             (3, LineKind::Received, Some(2), "T1", 300, 600),
         ]),
@@ -55,10 +70,20 @@ const PARTS: &[Row] = &[
         Asks::Statement(3, 10),
         1000,
         None,
-        Told::Lines(&[(4, LineKind::Defunded, None, "G1", 100, 500)]),
+        ExpectedReply::Lines(&[(4, LineKind::Defunded, None, "G1", 100, 500)]),
     ),
-    (Asks::Statement(4, 10), 1000, None, Told::Lines(&[])),
-    (Asks::Statement(u64::MAX, 100), 1000, None, Told::Lines(&[])),
+    (
+        Asks::Statement(4, 10),
+        1000,
+        None,
+        ExpectedReply::Lines(&[]),
+    ),
+    (
+        Asks::Statement(u64::MAX, 100),
+        1000,
+        None,
+        ExpectedReply::Lines(&[]),
+    ),
 ];
 
 const SHOWS_PARTS: &[Does] = &[
@@ -71,9 +96,10 @@ const SHOWS_PARTS: &[Does] = &[
     Does::Answers(FUNDED_AGAIN),
 ];
 
-/// 500 cents are funded, 200 paid, 300 received and 100 defunded, while another transfer of the same name is pending:
-/// four lines, of which parts are asked for; a walk gives none or all where none or more than all are. After an opening
-/// the lines count from 1 again, from the position that was reached.
+/// 500 cents are funded, 200 paid, 300 received and 100 defunded, while another transfer of the
+/// same name is pending: four lines, of which parts are asked for; a walk gives none or all where
+/// none or more than all are. After an opening the lines count from 1 again, from the position that
+/// was reached.
 #[test]
 fn shows_what_moved_the_position(rt: HostRuntime) -> Result<(), Fault> {
     goes(&rt, 1, First::Forwarded(100, 300), SHOWS_PARTS)

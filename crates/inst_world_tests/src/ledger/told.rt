@@ -4,7 +4,7 @@ use inst_command::{Reply, State};
 use inst_fixtures::{Came, End, Shown, are_entries, are_lines, is_end};
 
 #[derive(Clone, Copy)]
-pub(crate) enum Told {
+pub(crate) enum ExpectedReply {
     Done(&'static str),
     Taken(&'static str, u64),
     Pending(u8, &'static str),
@@ -16,12 +16,12 @@ pub(crate) enum Told {
     Refused(Fault),
 }
 
-fn is_state(from: u8, id: &Ident, state: &State, told: &Told) -> bool {
+fn is_state(from: u8, id: &Ident, state: &State, told: &ExpectedReply) -> bool {
     match (state, told) {
-        (State::Pending, Told::Pending(originator, name)) => {
+        (State::Pending, ExpectedReply::Pending(originator, name)) => {
             from == *originator && id.text() == *name
         }
-        (State::Decided(outcome), Told::Decided(originator, name, end)) => {
+        (State::Decided(outcome), ExpectedReply::Decided(originator, name, end)) => {
             from == *originator && id.text() == *name && is_end(outcome, end)
         }
         _ => false,
@@ -29,10 +29,10 @@ fn is_state(from: u8, id: &Ident, state: &State, told: &Told) -> bool {
 }
 
 /// Whether the reply is what is told.
-pub(crate) fn is_reply(reply: &Reply, told: &Told) -> bool {
+pub(crate) fn is_reply(reply: &Reply, told: &ExpectedReply) -> bool {
     match (reply, told) {
-        (Reply::Done { reference }, Told::Done(name)) => reference.text() == *name,
-        (Reply::Taken { id, deadline }, Told::Taken(name, end)) => {
+        (Reply::Done { reference }, ExpectedReply::Done(name)) => reference.text() == *name,
+        (Reply::Taken { id, deadline }, ExpectedReply::Taken(name, end)) => {
             id.text() == *name && deadline.past_base() == *end
         }
         (Reply::State { from, id, state }, told) => is_state(*from, id, state, told),
@@ -42,18 +42,24 @@ pub(crate) fn is_reply(reply: &Reply, told: &Told) -> bool {
                 reserved,
                 available,
             },
-            Told::Position(all, held, free),
+            ExpectedReply::Position(all, held, free),
         ) => position == all && reserved == held && available == free,
-        (Reply::Inbox { entries }, Told::Inbox(wanted)) => are_entries(entries.as_slice(), wanted),
-        (Reply::Statement { lines }, Told::Lines(wanted)) => are_lines(lines.as_slice(), wanted),
+        (Reply::Inbox { entries }, ExpectedReply::Inbox(wanted)) => are_entries(
+            entries.as_slice(),
+            wanted,
+        ),
+        (Reply::Statement { lines }, ExpectedReply::Lines(wanted)) => are_lines(
+            lines.as_slice(),
+            wanted,
+        ),
         _ => false,
     }
 }
 
 /// Whether it is refused as it is told.
-pub(crate) fn is_refused(fault: Fault, told: &Told) -> bool {
+pub(crate) fn is_refused(fault: Fault, told: &ExpectedReply) -> bool {
     match told {
-        Told::Refused(wanted) => fault == *wanted,
+        ExpectedReply::Refused(wanted) => fault == *wanted,
         _ => false,
     }
 }

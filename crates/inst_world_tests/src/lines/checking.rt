@@ -2,7 +2,7 @@
 use crate::comparing::same;
 use inst_agenda::Runner;
 use inst_base::{Fault, Moment};
-use inst_command::{Answer, Ask, Command, Reply, Step};
+use inst_command::{Answer, Ask, Command, Query, Reply, Step};
 use inst_fixtures::{A, settings};
 use inst_lines::{Counts, Mode, Served, serve_lines};
 use inst_settings::Settings;
@@ -17,11 +17,12 @@ const LINES: &str = r#"{"at":0,"cents":500,"cmd":"fund","ref":"F1","who":"AAAADE
 
 {"at":10,"cents":100,"cmd":"defund","ref":"D1","who":"AAAADEFF"}"#;
 
-/// What the first participant is answered that asks for its position: that, what is reserved and what is available.
+/// What the first participant is answered that asks for its position: that, what is reserved and
+/// what is available.
 fn money_of(runner: &mut Runner) -> Result<[u64; 3], Fail> {
     let step = Step::Ask(Ask {
         who: A,
-        command: Command::Position,
+        command: Command::Query(Query::Position),
         at: Moment::new(0, 0)?,
     });
     if !step.fits(runner.settings()) {

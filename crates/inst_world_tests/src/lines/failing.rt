@@ -1,4 +1,5 @@
-//! A reader that fails behind each byte, and a writer that fails behind each byte and in each flush.
+//! A reader that fails behind each byte, and a writer that fails behind each byte and in each
+//! flush.
 use crate::comparing::{same, same_at};
 use crate::lines::failing_writers::{FullOnce, Manner, UnflushedOnce};
 use crate::lines::serving::{Row, are_replies, lines_of, serve, written};
@@ -31,7 +32,8 @@ fn whole(bytes: &[u8]) -> usize {
         .map_or(0, |at| at + 1)
 }
 
-/// Compares what is answered where the reader fails behind these bytes: the lines whose newline it gave.
+/// Compares what is answered where the reader fails behind these bytes: the lines whose newline it
+/// gave.
 fn read_fails(
     rt: &(impl Abort + AllocGlobal),
     settings: &Settings,
@@ -125,7 +127,8 @@ fn writes_fail_in(
     }
 }
 
-/// The writer is full behind each byte but the last of what is written to this input, which are the replies.
+/// The writer is full behind each byte but the last of what is written to this input, which are the
+/// replies.
 fn writes_fail(
     rt: &(impl Abort + AllocGlobal),
     settings: &Settings,
@@ -168,8 +171,8 @@ fn a_writer_fails_after_each_number_of_bytes(rt: HostRuntime) -> Result<(), Fail
     writes_fail_in_each_manner(&rt, &settings)
 }
 
-/// Compares what is written where so many flushes come before the one that fails: the replies to so many bytes of the
-/// lines.
+/// Compares what is written where so many flushes come before the one that fails: the replies to so
+/// many bytes of the lines.
 fn flush_fails(
     rt: &(impl Abort + AllocGlobal),
     mode: Mode,
@@ -194,9 +197,9 @@ fn flush_fails(
     are_replies(rt, &writer.taken, FUND_THEN_POSITION, len)
 }
 
-/// How many bytes a read gives at most, how many flushes come before the one that fails, and how many bytes are
-/// answered. A flush comes after each read in which a line ends. The first line has 64 bytes with its newline, the
-/// second 43.
+/// How many bytes a read gives at most, how many flushes come before the one that fails, and how
+/// many bytes are answered. A flush comes after each read in which a line ends. The first line has
+/// 64 bytes with its newline, the second 43.
 const FLUSHES: &[(usize, usize, usize)] = &[(1, 0, 64), (1, 1, 107), (4_096, 0, 107)];
 
 /// Each of the flushes fails.

@@ -1,5 +1,5 @@
-//! Writers that fail once, so that a run which tries again, or goes on, is seen. Their error is the one after which
-//! std's own loops try again.
+//! Writers that fail once, so that a run which tries again, or goes on, is seen. Their error is the
+//! one after which std's own loops try again.
 use std::io::{self, ErrorKind, Write};
 
 /// What a full writer does.
@@ -9,7 +9,8 @@ pub(crate) enum Manner {
     TakesNone,
 }
 
-/// Takes at most `most` bytes a write, and all of them but once: the write behind `room` bytes fails or takes none.
+/// Takes at most `most` bytes a write, and all of them but once: the write behind `room` bytes
+/// fails or takes none.
 #[derive(Drop)]
 pub(crate) struct FullOnce {
     pub(crate) taken: Vec<u8>,

@@ -38,7 +38,8 @@ pub(crate) fn lines_of(alloc: Global, rows: &[Row]) -> Result<Vec<u8>, Fail> {
     Ok(lines)
 }
 
-/// The replies to so many bytes of the lines, each with a newline. A line that is cut off is no JSON.
+/// The replies to so many bytes of the lines, each with a newline. A line that is cut off is no
+/// JSON.
 fn replies_to(alloc: Global, rows: &[Row], len: usize) -> Result<Vec<u8>, Fail> {
     let mut replies = Vec::new(alloc);
     let mut left = len;

@@ -1,6 +1,6 @@
 //! Batches of one line or two.
 ghost use Rattle.std.specs.Prelude.{◌<◌, length, IfOk, OnOk};
-ghost use Rattle.inst_log.specs.Layout.{recovered, IsBatch, IsWhole};
+ghost use Rattle.inst_log.specs.Layout.{recovered_lines, IsBatch, AreWholeLines};
 
 use inst_base::find_newline;
 use inst_log::{close_batch, push_line};
@@ -13,9 +13,9 @@ pub(crate) fn add(
     batch: &mut Vec<u8>,
     line: &[u8],
 ) -> Result<(), Fail>
-    requires whole { IsWhole batch.old.items }
-    ensures whole { OnOk result (IsWhole batch.new.items) }
-    ensures some { OnOk result (0 < length (recovered batch.new.items)) }
+    requires whole { AreWholeLines batch.old.items }
+    ensures whole { OnOk result (AreWholeLines batch.new.items) }
+    ensures some { OnOk result (0 < length (recovered_lines batch.new.items)) }
 {
     assert!(rt; find_newline(line).is_none());
     push_line(batch, line)?;

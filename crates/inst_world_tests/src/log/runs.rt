@@ -1,4 +1,5 @@
-//! Two runs of one log, of which the first is cut off after each call of its disk: each line is answered once.
+//! Two runs of one log, of which the first is cut off after each call of its disk: each line is
+//! answered once.
 ghost use Rattle.std.specs.Prelude.{◌≡◌, [], IfOk};
 ghost use Rattle.std.proofs.Common.{ap};
 ghost use Rattle.inst_log.specs.Layout.{blocks, IsBatch};
@@ -7,7 +8,7 @@ ghost use Rattle.inst_log.specs.Serving.{Replies, AllBatches};
 use crate::comparing::{same, same_at};
 use crate::disks::filled;
 use crate::log::batches::{one, two};
-use inst_log::{Answers, run_twice, whole_lines};
+use inst_log::{Responder, run_twice, whole_lines};
 use sqlite_disk::Memory;
 use std::alloc::{AllocError, Global};
 use std::process::Abort;
@@ -17,7 +18,7 @@ use std::test::Fail;
 #[derive(Drop)]
 struct Echo;
 
-impl Answers for Echo {
+impl Responder for Echo {
     ghost says = { λ _ replies. replies ≡ blocks };
 
     ghost none = { λ _ _ is. ap (λ (f : Replies). f []) is };
@@ -72,7 +73,8 @@ fn standing(told: &[u8]) -> Option<usize> {
     TOLD.iter().position(|front| *front == told)
 }
 
-/// Each line is told once, and the later the first run stops the more of its batches stand, up to all.
+/// Each line is told once, and the later the first run stops the more of its batches stand, up to
+/// all.
 fn say_each_line_once(
     rt: &(impl Abort + AllocGlobal),
     settings: &[u8],

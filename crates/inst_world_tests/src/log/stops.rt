@@ -1,4 +1,5 @@
-//! A machine that stops at each call of its disk in turn. What the last call wrote is torn at each byte.
+//! A machine that stops at each call of its disk in turn. What the last call wrote is torn at each
+//! byte.
 ghost use Rattle.std.specs.Prelude.{IsTrue};
 ghost use Rattle.sqlite_disk.specs.Disk.{Only};
 ghost use Rattle.inst_log.specs.Layout.{IsBatch};
@@ -62,7 +63,8 @@ fn acknowledged<D: Disk>(
 /// Adds two batches to a log that is open, and says how much of it and of them is acknowledged.
 fn appended<D: Disk>(log: &mut Log<D>, first: &[u8], second: &[u8]) -> usize
     requires usable { IsTrue (D.Disk.is_usable log.old.disk) }
-    requires settled { IsTrue (D.Disk.is_clean log.old.disk) → IsSettled D.Disk.seen D.Disk.may_leave log.old }
+    requires settled { IsTrue (D.Disk.is_clean log.old.disk) →
+        IsSettled D.Disk.seen D.Disk.may_leave log.old }
     requires first { IsBatch first.now }
     requires second { IsBatch second.now }
 {
@@ -123,8 +125,8 @@ fn text_of(rt: &(impl Abort + AllocGlobal), bytes: &[u8]) -> Result<Vec<u8>, Fai
     Ok(log.open(alloc, &settings)?)
 }
 
-/// Says whether the text is that of a log with the settings, the lines that it had at first, and then a front of the
-/// two batches, of which so many are acknowledged.
+/// Says whether the text is that of a log with the settings, the lines that it had at first, and
+/// then a front of the two batches, of which so many are acknowledged.
 fn is_front(text: &[u8], kept: &[u8], acknowledged: usize) -> bool {
     let batches = match text.strip_prefix(TEXT_OF_SETTINGS) {
         Some(lines) => lines.strip_prefix(kept),

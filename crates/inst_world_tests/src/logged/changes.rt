@@ -54,8 +54,8 @@ fn count_sizes(alloc: Global, case: &Case) -> Result<u64, Fail> {
     Ok(u64::MAX - ended.disk.left)
 }
 
-/// The file is changed after so many calls that ask for its size, when so many bytes of the input are answered: the run
-/// ends, and writes nothing more.
+/// The file is changed after so many calls that ask for its size, when so many bytes of the input
+/// are answered: the run ends, and writes nothing more.
 fn change_behind(
     rt: &(impl Abort + AllocGlobal),
     case: &Case,
@@ -73,7 +73,8 @@ fn change_behind(
     Ok(())
 }
 
-/// Each read is followed by two calls that ask for the size: before the batch is written, and after it.
+/// Each read is followed by two calls that ask for the size: before the batch is written, and after
+/// it.
 fn change_behind_each_read(
     rt: &(impl Abort + AllocGlobal),
     mode: Mode,

@@ -1,6 +1,7 @@
-//! Logs of which a byte or a line was changed: a run and a close refuse them, and they are left as they are.
+//! Logs of which a byte or a line was changed: a run and a close refuse them, and they are left as
+//! they are.
 ghost use Rattle.std.specs.Prelude.{◌<◌, length, IsTrue};
-ghost use Rattle.inst_logged.specs.Running.{IsReady};
+ghost use Rattle.inst_logged.specs.Running.{IsReadyHub};
 
 use crate::comparing::{same, same_at};
 use crate::disks::filled;
@@ -33,7 +34,7 @@ fn run_hub<D: Disk + Drop>(
     wanted: Option<Digest>,
     written: &mut Vec<u8>,
 ) -> Result<(), LoggedError>
-    requires ready { IsReady D.Disk hub.old }
+    requires ready { IsReadyHub D.Disk hub.old }
 {
     let mut reader: &[u8] = b"";
     hub.run(alloc, Some(0), wanted, &mut reader, written)
@@ -45,7 +46,7 @@ fn close_hub<D: Disk + Drop>(
     hub: &mut LoggedHub<D>,
     wanted: Option<Digest>,
 ) -> Result<(), LoggedError>
-    requires ready { IsReady D.Disk hub.old }
+    requires ready { IsReadyHub D.Disk hub.old }
 {
     hub.close(alloc, wanted)?;
     Ok(())
@@ -92,8 +93,8 @@ pub(crate) fn use_log(
     })
 }
 
-/// Where the log is damaged: behind this prefix; `None` if the run ended otherwise. A file of which no line is left is no
-/// log.
+/// Where the log is damaged: behind this prefix; `None` if the run ended otherwise. A file of which
+/// no line is left is no log.
 fn damage(outcome: &Result<(), LoggedError>) -> Option<Prefix> {
     match outcome {
         Err(LoggedError::Damaged(right)) => Some(*right),
@@ -102,8 +103,8 @@ fn damage(outcome: &Result<(), LoggedError>) -> Option<Prefix> {
     }
 }
 
-/// The log with these bytes is called damaged by a run and by a close, and is left as it is. Returns behind which prefix
-/// the run called it so.
+/// The log with these bytes is called damaged by a run and by a close, and is left as it is.
+/// Returns behind which prefix the run called it so.
 fn is_damaged(
     rt: &(impl Abort + AllocGlobal),
     settings: &Settings,

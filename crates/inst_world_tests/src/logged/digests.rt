@@ -15,7 +15,8 @@ const ITS: [&str; 3] = [
     "0d5f61eaf5985576c2048c2d2a77b598caf566be348f75845506476b8970d7f0",
 ];
 
-/// The digest of no text, and two that a digest of the log is not: in capital letters, and with another last digit.
+/// The digest of no text, and two that a digest of the log is not: in capital letters, and with
+/// another last digit.
 const OTHERS: [&str; 3] = [
     "e3b0c44298fc1c149afbf4c8996fb92427ae41e4649b934ca495991b7852b855",
     "0D5F61EAF5985576C2048C2D2A77B598CAF566BE348F75845506476B8970D7F0",

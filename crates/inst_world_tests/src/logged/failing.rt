@@ -1,4 +1,5 @@
-//! A reader that fails behind each byte, and another run that goes on behind the lines that it gave.
+//! A reader that fails behind each byte, and another run that goes on behind the lines that it
+//! gave.
 use crate::comparing::same_at;
 use crate::logged::keeping::{Case, case_of, front_len, go_on, newlines, serve};
 use inst_fixtures::Pieces;
@@ -9,8 +10,8 @@ use std::alloc::Global;
 use std::process::Abort;
 use std::test::Fail;
 
-/// Runs a hub whose reader fails behind so many bytes, after the replies to the lines before are written, and gives its
-/// disk.
+/// Runs a hub whose reader fails behind so many bytes, after the replies to the lines before are
+/// written, and gives its disk.
 fn fail(
     rt: &(impl Abort + AllocGlobal),
     case: &Case,

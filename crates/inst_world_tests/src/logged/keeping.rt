@@ -14,7 +14,8 @@ use std::alloc::Global;
 use std::io::Read;
 use std::test::Fail;
 
-/// Lines of each kind: what is taken, what is refused, what doesn't begin with a brace, and what is nothing at all.
+/// Lines of each kind: what is taken, what is refused, what doesn't begin with a brace, and what is
+/// nothing at all.
 pub(crate) const LINES: &[&[u8]] = &[
     br#"{"at":0,"cents":50000,"cmd":"fund","ref":"F1","who":"AAAADEFF"}"#,
     br#"{"at":1000,"cents":20000,"cmd":"submit","id":"T1","stamp":1000,"to":"BBBBFRPP","who":"AAAADEFF"}"#,

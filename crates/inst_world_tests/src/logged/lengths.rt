@@ -8,7 +8,8 @@ use std::alloc::Global;
 use std::process::Abort;
 use std::test::Fail;
 
-/// Lines, each with the length to which it is filled up with spaces. The read buffer has room for 65,536 bytes.
+/// Lines, each with the length to which it is filled up with spaces. The read buffer has room for
+/// 65,536 bytes.
 const ROWS: &[(&[u8], usize)] = &[
     (
         br#"{"at":0,"cents":1,"cmd":"fund","ref":"F1","who":"AAAADEFF"}"#,

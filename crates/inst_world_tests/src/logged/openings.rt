@@ -1,7 +1,7 @@
 //! Logs that begin with the books of others.
 ghost use Rattle.std.specs.Prelude.{IsTrue};
 ghost use Rattle.inst_world.specs.NextOpening.{CanOpenFrom};
-ghost use Rattle.inst_logged.specs.Running.{IsReady};
+ghost use Rattle.inst_logged.specs.Running.{IsReadyHub};
 
 use crate::comparing::{same, same_at};
 use crate::disks::filled;
@@ -88,7 +88,7 @@ fn run_through<D: Disk + Drop>(
     input: &[u8],
     written: &mut Vec<u8>,
 ) -> Result<D, Fail>
-    requires ready { IsReady D.Disk hub }
+    requires ready { IsReadyHub D.Disk hub }
 {
     let mut reader = input;
     let outcome = hub.run(alloc, None, None, &mut reader, written);
@@ -127,7 +127,7 @@ pub(crate) fn begun_from(
 
 /// The log that begins with the books that this hub leaves.
 fn next_of<D: Disk + Drop>(alloc: Global, hub: &mut LoggedHub<D>) -> Result<Option<Vec<u8>>, Fail>
-    requires ready { IsReady D.Disk hub.old }
+    requires ready { IsReadyHub D.Disk hub.old }
 {
     match hub.close(alloc, None)? {
         Some(books) => Ok(Some(begun_from(alloc, hub.settings(), &books)?)),

@@ -7,7 +7,7 @@ use inst_fixtures::{settings, settings_with};
 use inst_lines::Mode;
 use inst_log::LogError;
 use inst_logged::LoggedError;
-use inst_settings::{Numbers, Settings};
+use inst_settings::{HubParameters, Settings};
 use std::alloc::Global;
 use std::process::Abort;
 use std::test::Fail;
@@ -22,10 +22,10 @@ fn reordered(alloc: Global) -> Result<Settings, Fail> {
         Code::new("CCCCITMM")?,
         Code::new("BBBBFRPP")?,
     ];
-    let numbers = Numbers {
+    let numbers = HubParameters {
         places: 2,
         fundings: 4,
-        ..Numbers::DEFAULT
+        ..HubParameters::DEFAULT
     };
     Ok(Settings::check(codes.to_vec(alloc)?, numbers)?)
 }
@@ -134,8 +134,9 @@ fn files_that_are_no_logs_are_left(rt: HostRuntime) -> Result<(), Fail> {
     Ok(())
 }
 
-/// Files by their first lines, and whether they are no logs: those of which the first line is JSON without the members
-/// `log` and `version`, or begins with another byte than a brace. The others are damaged.
+/// Files by their first lines, and whether they are no logs: those of which the first line is JSON
+/// without the members `log` and `version`, or begins with another byte than a brace. The others
+/// are damaged.
 const FIRST_LINES: &[(&[u8], bool)] = &[
     (b"{}\n\0", true),
     (

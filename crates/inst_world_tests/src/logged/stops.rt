@@ -1,5 +1,5 @@
-//! A machine that stops at each call of its disk in turn, and another run that goes on from what is left. What the last
-//! call wrote is torn at each byte, and is never called damaged.
+//! A machine that stops at each call of its disk in turn, and another run that goes on from what is
+//! left. What the last call wrote is torn at each byte, and is never called damaged.
 use crate::comparing::{same, same_at};
 use crate::disks::filled;
 use crate::log::stops::torn;
@@ -90,7 +90,8 @@ fn tears_are_intact(
     Ok(())
 }
 
-/// What a reader has that has these first bytes of the replies, and keeps those of them that are whole.
+/// What a reader has that has these first bytes of the replies, and keeps those of them that are
+/// whole.
 fn gone_on(
     alloc: Global,
     case: &Case,

@@ -3,12 +3,12 @@ use crate::comparing::same;
 use crate::logged::keeping::go_on;
 use inst_base::Code;
 use inst_lines::Mode;
-use inst_settings::{Numbers, Settings};
+use inst_settings::{HubParameters, Settings};
 use std::alloc::Global;
 use std::test::Fail;
 
-/// The log. Each digest is what `sha256sum` prints for the lines before it, from the mark before them on:
-/// `sed -n 1p`, `sed -n 2,4p` and `sed -n 5,6p`.
+/// The log. Each digest is what `sha256sum` prints for the lines before it, from the mark before
+/// them on: `sed -n 1p`, `sed -n 2,4p` and `sed -n 5,6p`.
 pub(crate) const LOG: &[u8] =
     b"{\"ahead\":1000,\"base\":0,\"ceiling\":99999999999,\"fundings\":256,\"limit\":10000,\
     \"log\":\"run\",\"margin\":0,\"participants\":[\"AAAADEFF\",\"BBBBFRPP\",\"CCCCITMM\"],\
@@ -41,7 +41,7 @@ pub(crate) fn settings(alloc: Global) -> Result<Settings, Fail> {
         Code::new("BBBBFRPP")?,
         Code::new("CCCCITMM")?,
     ];
-    Ok(Settings::check(codes.to_vec(alloc)?, Numbers::DEFAULT)?)
+    Ok(Settings::check(codes.to_vec(alloc)?, HubParameters::DEFAULT)?)
 }
 
 /// The log that two runs with these settings leave, of which each reads one batch.

@@ -191,7 +191,8 @@ pub(crate) const UNEXPLAINED: &[Books] = &[
             B_ACCEPTED_BACK,
         ],
     ),
-    // A books T1 before it is delivered the other T1, which B books before it is delivered the first
+    // A books T1 before it is delivered the other T1, which B books before it is delivered the
+    // first
     (
         None,
         &[

@@ -3,10 +3,10 @@ use inst_base::Fault;
 use inst_command::{Answer, Entry, Line, LineKind, Reply, State};
 use inst_fixtures::{End, is_end};
 
-/// What is told: of entries the identifiers, and of statement lines their numbers, what they show and the
-/// positions after them.
+/// What is told: of entries the identifiers, and of statement lines their numbers, what they show
+/// and the positions after them.
 #[derive(Clone, Copy)]
-pub(crate) enum Told {
+pub(crate) enum ExpectedResult {
     Done,
     Taken(u64),
     Pending,
@@ -18,10 +18,10 @@ pub(crate) enum Told {
     Refused(Fault),
 }
 
-fn is_state(state: &State, told: &Told) -> bool {
+fn is_state(state: &State, told: &ExpectedResult) -> bool {
     match (state, told) {
-        (State::Pending, Told::Pending) => true,
-        (State::Decided(outcome), Told::Decided(end)) => is_end(outcome, end),
+        (State::Pending, ExpectedResult::Pending) => true,
+        (State::Decided(outcome), ExpectedResult::Decided(end)) => is_end(outcome, end),
         _ => false,
     }
 }
@@ -45,10 +45,10 @@ fn have_positions(lines: &[Line], wanted: &[(u32, LineKind, u64)]) -> bool {
 }
 
 /// Whether the reply is what is told.
-fn is_reply(reply: &Reply, told: &Told) -> bool {
+fn is_reply(reply: &Reply, told: &ExpectedResult) -> bool {
     match (reply, told) {
-        (Reply::Done { .. }, Told::Done) => true,
-        (Reply::Taken { deadline, .. }, Told::Taken(end)) => deadline.past_base() == *end,
+        (Reply::Done { .. }, ExpectedResult::Done) => true,
+        (Reply::Taken { deadline, .. }, ExpectedResult::Taken(end)) => deadline.past_base() == *end,
         (Reply::State { state, .. }, told) => is_state(state, told),
         (
             Reply::Position {
@@ -56,10 +56,10 @@ fn is_reply(reply: &Reply, told: &Told) -> bool {
                 reserved,
                 available,
             },
-            Told::Position(all, held, free),
+            ExpectedResult::Position(all, held, free),
         ) => position == all && reserved == held && available == free,
-        (Reply::Inbox { entries }, Told::Inbox(ids)) => have_ids(entries.as_slice(), ids),
-        (Reply::Statement { lines }, Told::Lines(wanted)) => have_positions(
+        (Reply::Inbox { entries }, ExpectedResult::Inbox(ids)) => have_ids(entries.as_slice(), ids),
+        (Reply::Statement { lines }, ExpectedResult::Lines(wanted)) => have_positions(
             lines.as_slice(),
             wanted,
         ),
@@ -68,11 +68,11 @@ fn is_reply(reply: &Reply, told: &Told) -> bool {
 }
 
 /// Whether the answer is what is told.
-pub(crate) fn tells(answer: &Result<Answer, Fault>, told: &Told) -> bool {
+pub(crate) fn tells(answer: &Result<Answer, Fault>, told: &ExpectedResult) -> bool {
     match (answer, told) {
         (Ok(Answer::Reply(reply)), told) => is_reply(reply, told),
-        (Ok(Answer::New(is_new)), Told::New(wanted)) => is_new == wanted,
-        (Err(fault), Told::Refused(wanted)) => fault == wanted,
+        (Ok(Answer::New(is_new)), ExpectedResult::New(wanted)) => is_new == wanted,
+        (Err(fault), ExpectedResult::Refused(wanted)) => fault == wanted,
         _ => false,
     }
 }

@@ -1,17 +1,16 @@
 //! What is done, one act after another, what is answered, and what is kept.
 use crate::ledger::asked::{Asks, command};
-use crate::slot::answers::{Told, tells};
+use crate::slot::answers::{ExpectedResult, tells};
 use crate::slot::histories::{Kept, are_copied, copied, keeps};
 use inst_base::{Fault, Ident, Moment, mention};
-use inst_board::Place;
-use inst_command::Answer;
+use inst_command::{Answer, Place};
 use inst_fixtures::{Act, Slots};
 use std::alloc::Global;
 use std::process::Abort;
 use std::test::Fail;
 
-/// What is done, by short texts and plain numbers: a command, a step at a place of an originator, or a
-/// question to the slot.
+/// What is done, by short texts and plain numbers: a command, a step at a place of an originator,
+/// or a question to the slot.
 #[derive(Clone, Copy)]
 pub(crate) enum Does {
     Fund(&'static str, u64),
@@ -32,24 +31,24 @@ pub(crate) enum Does {
     Pays(&'static str, Option<u8>),
     /// Whether the first pair is followed by the second among what waits.
     DueAfter(Option<(u64, u16)>, Option<(u64, u16)>),
-    /// Whether the first arrival from this position on with nothing booked is the second, by its position and the index of
-    /// its place, which is one of the first participant's.
+    /// Whether the first arrival from this position on with nothing booked is the second, by its
+    /// position and the index of its place, which is one of the first participant's.
     UnbookedFrom(usize, Option<(usize, u16)>),
     /// Whether so many places of carried transfers aren't found yet.
     Misses(usize),
 }
 
 /// Who does what, when, and what is answered.
-pub(crate) type Row = (u8, Does, u64, Told);
+pub(crate) type Row = (u8, Does, u64, ExpectedResult);
 
 /// The first participant has 50,000 cents, and T1 over 20,000 to the second.
 const SUBMITTED: &[Row] = &[
-    (0, Does::Fund("F1", 50_000), 0, Told::Done),
+    (0, Does::Fund("F1", 50_000), 0, ExpectedResult::Done),
     (
         0,
         Does::Submit("T1", 1, 20_000, 1000),
         1000,
-        Told::Taken(11_000),
+        ExpectedResult::Taken(11_000),
     ),
 ];
 
@@ -126,8 +125,8 @@ fn question(slots: &Slots, who: u8, does: &Does) -> Result<bool, Fault> {
     }
 }
 
-/// What is answered to the act. An allocation may be made to fail: what was answered `Memory` has left the
-/// history as it was, and is done again.
+/// What is answered to the act. An allocation may be made to fail: what was answered `Memory` has
+/// left the history as it was, and is done again.
 fn answer(
     rt: &impl Abort,
     slots: &mut Slots,
@@ -217,7 +216,8 @@ fn follows_again(
     follows(rt, &mut slots, case)
 }
 
-/// What the case tells comes so at a hub that opens again from the books of one that followed the case `before`.
+/// What the case tells comes so at a hub that opens again from the books of one that followed the
+/// case `before`.
 pub(crate) fn comes_again(
     rt: &(impl Abort + AllocGlobal),
     before: &Case,

@@ -1,5 +1,5 @@
 //! How a transfer is confirmed or rejected, and both sides book it.
-use crate::slot::answers::Told;
+use crate::slot::answers::ExpectedResult;
 use crate::slot::cases::{Case, Does, comes};
 use crate::slot::histories::Kept;
 use inst_base::Fault;
@@ -9,42 +9,52 @@ use std::test::Fail;
 const CONFIRMED_BEFORE_EXPIRE: Case = Case {
     margin: 0,
     rows: &[
-        (1, Does::Deliver(0, 0), 0, Told::New(true)),
+        (1, Does::Deliver(0, 0), 0, ExpectedResult::New(true)),
         (
             1,
             Does::Confirm(0, "T1"),
             10_999,
-            Told::Decided(End::Accepted),
+            ExpectedResult::Decided(End::Accepted),
         ),
         (
             0,
             Does::Position,
             10_999,
-            Told::Position(50_000, 20_000, 30_000),
+            ExpectedResult::Position(50_000, 20_000, 30_000),
         ),
-        (1, Does::Position, 10_999, Told::Position(20_000, 0, 20_000)),
-        (0, Does::Expire(0), 11_000, Told::New(true)),
-        (0, Does::Learn(0, 0), 0, Told::New(false)),
-        (1, Does::Learn(0, 0), 0, Told::New(false)),
-        (0, Does::Expire(0), 11_000, Told::New(false)),
-        (0, Does::Position, 11_000, Told::Position(30_000, 0, 30_000)),
+        (
+            1,
+            Does::Position,
+            10_999,
+            ExpectedResult::Position(20_000, 0, 20_000),
+        ),
+        (0, Does::Expire(0), 11_000, ExpectedResult::New(true)),
+        (0, Does::Learn(0, 0), 0, ExpectedResult::New(false)),
+        (1, Does::Learn(0, 0), 0, ExpectedResult::New(false)),
+        (0, Does::Expire(0), 11_000, ExpectedResult::New(false)),
+        (
+            0,
+            Does::Position,
+            11_000,
+            ExpectedResult::Position(30_000, 0, 30_000),
+        ),
         (
             1,
             Does::Confirm(0, "T1"),
             12_000,
-            Told::Decided(End::Accepted),
+            ExpectedResult::Decided(End::Accepted),
         ),
         (
             1,
             Does::Reject(0, "T1", "AC04"),
             12_000,
-            Told::Decided(End::Accepted),
+            ExpectedResult::Decided(End::Accepted),
         ),
         (
             0,
             Does::Investigate("T1"),
             12_000,
-            Told::Decided(End::Accepted),
+            ExpectedResult::Decided(End::Accepted),
         ),
     ],
     histories: [
@@ -69,16 +79,21 @@ fn confirmed_before_expire(rt: HostRuntime) -> Result<(), Fail> {
 const CONFIRMED_LATE: Case = Case {
     margin: 0,
     rows: &[
-        (1, Does::Deliver(0, 0), 0, Told::New(true)),
+        (1, Does::Deliver(0, 0), 0, ExpectedResult::New(true)),
         (
             1,
             Does::Confirm(0, "T1"),
             11_000,
-            Told::Decided(End::TimedOut),
+            ExpectedResult::Decided(End::TimedOut),
         ),
-        (0, Does::Learn(0, 0), 0, Told::New(true)),
-        (0, Does::Position, 11_000, Told::Position(50_000, 0, 50_000)),
-        (1, Does::Position, 11_000, Told::Position(0, 0, 0)),
+        (0, Does::Learn(0, 0), 0, ExpectedResult::New(true)),
+        (
+            0,
+            Does::Position,
+            11_000,
+            ExpectedResult::Position(50_000, 0, 50_000),
+        ),
+        (1, Does::Position, 11_000, ExpectedResult::Position(0, 0, 0)),
     ],
     histories: [
         &[
@@ -102,22 +117,32 @@ fn confirmed_late(rt: HostRuntime) -> Result<(), Fail> {
 const UNTOLD_THEN_LEARNT: Case = Case {
     margin: 0,
     rows: &[
-        (1, Does::Deliver(0, 0), 0, Told::New(true)),
+        (1, Does::Deliver(0, 0), 0, ExpectedResult::New(true)),
         (
             1,
             Does::Confirm(0, "T1"),
             2000,
-            Told::Decided(End::Accepted),
+            ExpectedResult::Decided(End::Accepted),
         ),
         (
             0,
             Does::Position,
             2000,
-            Told::Position(50_000, 20_000, 30_000),
+            ExpectedResult::Position(50_000, 20_000, 30_000),
         ),
-        (1, Does::Position, 2000, Told::Position(20_000, 0, 20_000)),
-        (0, Does::Learn(0, 0), 0, Told::New(true)),
-        (0, Does::Position, 2000, Told::Position(30_000, 0, 30_000)),
+        (
+            1,
+            Does::Position,
+            2000,
+            ExpectedResult::Position(20_000, 0, 20_000),
+        ),
+        (0, Does::Learn(0, 0), 0, ExpectedResult::New(true)),
+        (
+            0,
+            Does::Position,
+            2000,
+            ExpectedResult::Position(30_000, 0, 30_000),
+        ),
     ],
     histories: [
         &[
@@ -141,26 +166,31 @@ fn untold_then_learnt(rt: HostRuntime) -> Result<(), Fail> {
 const REJECTED_WITH_REASON: Case = Case {
     margin: 0,
     rows: &[
-        (1, Does::Deliver(0, 0), 0, Told::New(true)),
+        (1, Does::Deliver(0, 0), 0, ExpectedResult::New(true)),
         (
             1,
             Does::Reject(0, "T1", "AC04"),
             2000,
-            Told::Decided(End::Rejected("AC04")),
+            ExpectedResult::Decided(End::Rejected("AC04")),
         ),
         (
             0,
             Does::Investigate("T1"),
             2100,
-            Told::Decided(End::Rejected("AC04")),
+            ExpectedResult::Decided(End::Rejected("AC04")),
         ),
         (
             1,
             Does::Confirm(0, "T1"),
             2200,
-            Told::Decided(End::Rejected("AC04")),
+            ExpectedResult::Decided(End::Rejected("AC04")),
         ),
-        (0, Does::Position, 2200, Told::Position(50_000, 0, 50_000)),
+        (
+            0,
+            Does::Position,
+            2200,
+            ExpectedResult::Position(50_000, 0, 50_000),
+        ),
     ],
     histories: [
         &[
@@ -184,30 +214,30 @@ fn rejected_with_reason(rt: HostRuntime) -> Result<(), Fail> {
 const CONFIRMED_IN_THE_MARGIN: Case = Case {
     margin: 2000,
     rows: &[
-        (1, Does::Deliver(0, 0), 0, Told::New(true)),
+        (1, Does::Deliver(0, 0), 0, ExpectedResult::New(true)),
         (
             1,
             Does::Confirm(0, "T1"),
             9000,
-            Told::Refused(Fault::Expired),
+            ExpectedResult::Refused(Fault::Expired),
         ),
         (
             0,
             Does::Position,
             9000,
-            Told::Position(50_000, 20_000, 30_000),
+            ExpectedResult::Position(50_000, 20_000, 30_000),
         ),
         (
             1,
             Does::Reject(0, "T1", "AC04"),
             10_999,
-            Told::Decided(End::Rejected("AC04")),
+            ExpectedResult::Decided(End::Rejected("AC04")),
         ),
         (
             1,
             Does::Confirm(0, "T1"),
             9000,
-            Told::Decided(End::Rejected("AC04")),
+            ExpectedResult::Decided(End::Rejected("AC04")),
         ),
     ],
     histories: [

@@ -1,5 +1,5 @@
 //! How a transfer times out.
-use crate::slot::answers::Told;
+use crate::slot::answers::ExpectedResult;
 use crate::slot::cases::{Case, Does, comes};
 use crate::slot::histories::Kept;
 use inst_base::Fault;
@@ -9,14 +9,14 @@ use std::test::Fail;
 const EXPIRE_BEFORE_CONFIRM: Case = Case {
     margin: 0,
     rows: &[
-        (1, Does::Deliver(0, 0), 0, Told::New(true)),
-        (0, Does::Expire(0), 10_999, Told::New(false)),
-        (0, Does::Expire(0), 11_000, Told::New(true)),
+        (1, Does::Deliver(0, 0), 0, ExpectedResult::New(true)),
+        (0, Does::Expire(0), 10_999, ExpectedResult::New(false)),
+        (0, Does::Expire(0), 11_000, ExpectedResult::New(true)),
         (
             1,
             Does::Confirm(0, "T1"),
             10_999,
-            Told::Decided(End::TimedOut),
+            ExpectedResult::Decided(End::TimedOut),
         ),
     ],
     histories: [
@@ -41,14 +41,14 @@ fn expire_before_confirm(rt: HostRuntime) -> Result<(), Fail> {
 const EXPIRED_BEFORE_DELIVERY: Case = Case {
     margin: 0,
     rows: &[
-        (0, Does::Expire(0), 11_000, Told::New(true)),
-        (1, Does::Deliver(0, 0), 0, Told::New(false)),
-        (1, Does::Learn(0, 0), 0, Told::New(false)),
+        (0, Does::Expire(0), 11_000, ExpectedResult::New(true)),
+        (1, Does::Deliver(0, 0), 0, ExpectedResult::New(false)),
+        (1, Does::Learn(0, 0), 0, ExpectedResult::New(false)),
         (
             1,
             Does::Confirm(0, "T1"),
             11_000,
-            Told::Refused(Fault::UnknownTransfer),
+            ExpectedResult::Refused(Fault::UnknownTransfer),
         ),
     ],
     histories: [
@@ -70,26 +70,31 @@ fn expired_before_delivery(rt: HostRuntime) -> Result<(), Fail> {
 const INVESTIGATE_AT_THE_DEADLINE: Case = Case {
     margin: 0,
     rows: &[
-        (0, Does::Investigate("T1"), 10_999, Told::Pending),
+        (0, Does::Investigate("T1"), 10_999, ExpectedResult::Pending),
         (
             0,
             Does::Investigate("T2"),
             10_999,
-            Told::Refused(Fault::UnknownTransfer),
+            ExpectedResult::Refused(Fault::UnknownTransfer),
         ),
         (
             1,
             Does::Investigate("T1"),
             10_999,
-            Told::Refused(Fault::UnknownTransfer),
+            ExpectedResult::Refused(Fault::UnknownTransfer),
         ),
         (
             0,
             Does::Investigate("T1"),
             11_000,
-            Told::Decided(End::TimedOut),
+            ExpectedResult::Decided(End::TimedOut),
         ),
-        (0, Does::Position, 11_000, Told::Position(50_000, 0, 50_000)),
+        (
+            0,
+            Does::Position,
+            11_000,
+            ExpectedResult::Position(50_000, 0, 50_000),
+        ),
     ],
     histories: [
         &[
@@ -114,32 +119,32 @@ const DUE_ONE_AFTER_ANOTHER: Case = Case {
             0,
             Does::Submit("T2", 1, 200, 500),
             1000,
-            Told::Taken(10_500),
+            ExpectedResult::Taken(10_500),
         ),
         (
             0,
             Does::DueAfter(None, Some((10_500, 1))),
             1000,
-            Told::New(true),
+            ExpectedResult::New(true),
         ),
         (
             0,
             Does::DueAfter(Some((10_500, 1)), Some((11_000, 0))),
             1000,
-            Told::New(true),
+            ExpectedResult::New(true),
         ),
-        (0, Does::Expire(1), 10_500, Told::New(true)),
+        (0, Does::Expire(1), 10_500, ExpectedResult::New(true)),
         (
             0,
             Does::DueAfter(None, Some((11_000, 0))),
             1000,
-            Told::New(true),
+            ExpectedResult::New(true),
         ),
         (
             0,
             Does::DueAfter(Some((11_000, 0)), None),
             1000,
-            Told::New(true),
+            ExpectedResult::New(true),
         ),
     ],
     histories: [

@@ -15,8 +15,8 @@ pub(crate) enum Kept {
 
 fn is_kept(event: &Event, kept: &Kept) -> bool {
     match (event, kept) {
-        (Event::Funded { reference, cents }, Kept::Funded(text, amount)) => {
-            reference.text() == *text && cents.get() == *amount
+        (Event::Funded(funding), Kept::Funded(text, amount)) => {
+            funding.reference.text() == *text && funding.cents.get() == *amount
         }
         (
             Event::Taken {

@@ -8,9 +8,9 @@ ghost use Rattle.inst_board.specs.Plain.{plain_knows};
 use crate::comparing::{same, same_at};
 use inst_base::{Cents, Code, Fault, Ident, Moment, Reason, mention};
 use inst_board::laws::decide_plain_twice;
-use inst_board::{Board, Look, Place, PlainBoard, Wish};
-use inst_command::Outcome;
-use inst_settings::{Numbers, Settings};
+use inst_board::{Board, Look, PlainBoard, Wish};
+use inst_command::{Outcome, Place};
+use inst_settings::{HubParameters, Settings};
 use inst_terms::Terms;
 use std::alloc::Global;
 use std::process::Abort;
@@ -34,13 +34,13 @@ fn settings(alloc: Global) -> Result<Settings, Fault>
     ensures { IfOk result (λ s. (participants s ≡ 2) × (s.places ≡ 3)) }
 {
     let codes = vec![in alloc; Code::new("AAAADEFF")?, Code::new("BBBBFRPP")?]?;
-    let numbers = Numbers {
+    let numbers = HubParameters {
         places: 3,
         fundings: 3,
         limit: 1_000,
         margin: 200,
         ceiling: 1_000,
-        ..Numbers::DEFAULT
+        ..HubParameters::DEFAULT
     };
     Settings::check(codes, numbers)
 }

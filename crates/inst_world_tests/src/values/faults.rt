@@ -20,7 +20,8 @@ const WORDS: &[(&str, Option<AnyFault>)] = &[
     ("", None),
 ];
 
-/// A fault is found by its number and by its name, from the first to the last, and no other word finds one.
+/// A fault is found by its number and by its name, from the first to the last, and no other word
+/// finds one.
 #[test]
 fn faults_are_found_by_number_and_by_name(rt: HostRuntime) {
     for (word, wanted) in WORDS {

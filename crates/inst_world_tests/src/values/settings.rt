@@ -1,12 +1,12 @@
 //! Settings to their bounds, and how participants are found by their codes.
 use crate::comparing::{same, same_at};
 use inst_base::{Code, Fault};
-use inst_settings::{Numbers, Settings, parse_codes};
+use inst_settings::{HubParameters, Settings, parse_codes};
 use std::alloc::{AllocError, Global};
 use std::process::Abort;
 use std::test::Fail;
 
-const LEAST: Numbers = Numbers {
+const LEAST: HubParameters = HubParameters {
     places: 1,
     fundings: 1,
     limit: 1,
@@ -16,7 +16,7 @@ const LEAST: Numbers = Numbers {
     base: 0,
 };
 
-const MOST: Numbers = Numbers {
+const MOST: HubParameters = HubParameters {
     places: 1024,
     fundings: 1024,
     limit: 3_600_000,
@@ -27,8 +27,8 @@ const MOST: Numbers = Numbers {
 };
 
 /// What the readers tell.
-fn told(settings: &Settings) -> Numbers {
-    Numbers {
+fn told(settings: &Settings) -> HubParameters {
+    HubParameters {
         places: settings.places(),
         fundings: settings.fundings(),
         limit: settings.limit(),
@@ -56,50 +56,50 @@ fn codes(alloc: Global, count: u32) -> Result<Vec<Code>, Fail> {
 }
 
 /// Each is one number past a bound.
-const PAST_BOUNDS: &[Numbers] = &[
-    Numbers { places: 0, ..LEAST },
-    Numbers {
+const PAST_BOUNDS: &[HubParameters] = &[
+    HubParameters { places: 0, ..LEAST },
+    HubParameters {
         fundings: 0,
         ..LEAST
     },
-    Numbers { limit: 0, ..LEAST },
-    Numbers {
+    HubParameters { limit: 0, ..LEAST },
+    HubParameters {
         ceiling: 0,
         ..LEAST
     },
-    Numbers {
+    HubParameters {
         places: 1025,
         ..MOST
     },
-    Numbers {
+    HubParameters {
         fundings: 1025,
         ..MOST
     },
-    Numbers {
+    HubParameters {
         limit: 3_600_001,
         ..MOST
     },
-    Numbers { margin: 1, ..LEAST },
-    Numbers {
+    HubParameters { margin: 1, ..LEAST },
+    HubParameters {
         margin: 3_600_000,
         ..MOST
     },
-    Numbers {
+    HubParameters {
         ahead: 60_001,
         ..MOST
     },
-    Numbers {
+    HubParameters {
         ceiling: 100_000_000_000,
         ..MOST
     },
-    Numbers {
+    HubParameters {
         base: 4_611_686_018_427_387_905,
         ..MOST
     },
 ];
 
 /// Settings of these numbers tell them again.
-fn takes(rt: &(impl Abort + AllocGlobal), numbers: Numbers) -> Result<(), Fail> {
+fn takes(rt: &(impl Abort + AllocGlobal), numbers: HubParameters) -> Result<(), Fail> {
     let settings = Settings::check(codes(rt.alloc(), 1)?, numbers)?;
     same(
         rt,
@@ -110,7 +110,7 @@ fn takes(rt: &(impl Abort + AllocGlobal), numbers: Numbers) -> Result<(), Fail> 
 }
 
 /// What so many participants with these numbers are refused for.
-fn refusal(alloc: Global, count: u32, numbers: Numbers) -> Result<Option<Fault>, Fail> {
+fn refusal(alloc: Global, count: u32, numbers: HubParameters) -> Result<Option<Fault>, Fail> {
     Ok(Settings::check(codes(alloc, count)?, numbers).err())
 }
 
@@ -226,8 +226,8 @@ const BANKS: [&str; 8] = [
     "LERC", "MEIS", "NEUN", "PIRO", "RABE", "SPEC", "TAUB", "UHUX",
 ];
 
-/// The text of the code with this number as banks have them, every third with a branch: other banks, the same bank in
-/// other countries and places, and other branches of one bank.
+/// The text of the code with this number as banks have them, every third with a branch: other
+/// banks, the same bank in other countries and places, and other branches of one bank.
 fn bank_text(alloc: Global, index: u32) -> Result<String, AllocError> {
     let bank = BANKS[(index % 8) as usize];
     let country = COUNTRIES[(index / 8 % 8) as usize];

@@ -6,7 +6,7 @@ ghost use Rattle.inst_command.specs.LineText.{line_fits};
 use crate::comparing::same;
 use inst_base::{Cents, Code, Fault, Ident};
 use inst_command::{Line, LineKind, line_text};
-use inst_settings::{Numbers, Settings};
+use inst_settings::{HubParameters, Settings};
 use std::alloc::Global;
 use std::process::Abort;
 
@@ -14,7 +14,7 @@ fn hub(alloc: Global) -> Result<Settings, Fault>
     ensures { IfOk result (λ s. participants s ≡ 2) }
 {
     let codes = [Code::new("AAAADEFF")?, Code::new("BBBBFRPP123")?];
-    Settings::check(codes.to_vec(alloc)?, Numbers::DEFAULT)
+    Settings::check(codes.to_vec(alloc)?, HubParameters::DEFAULT)
 }
 
 /// The line is laid out in 91 columns, so.

@@ -5,9 +5,9 @@ ghost use Rattle.inst_model.specs.Interleaving.{IsInterleaving};
 ghost use Rattle.inst_world.specs.NextOpening.{CanOpenFrom};
 
 use crate::comparing::{same, same_at};
-use crate::world::told::{Told, answers, is_told};
+use crate::world::told::{ExpectedAnswer, answers, is_told};
 use inst_base::{Fault, Ident, Moment, mention};
-use inst_command::{Answer, Command, LineKind, Outcome, Step};
+use inst_command::{Answer, Command, LineKind, Outcome, Query, Step};
 use inst_fixtures::{A, B, ask, books, confirm, fund, settings, submit};
 use inst_journal::{Event, Journal};
 use inst_settings::Settings;
@@ -41,30 +41,38 @@ fn carried_over_an_opening_steps() -> Result<[Step; 7], Fault>
         index: 0,
     };
     Ok([
-        ask(A, Command::Position, 1002)?,
+        ask(A, Command::Query(Query::Position), 1002)?,
         submit(A, "T1", B, 20_000, 1000, 1002)?,
         submit(A, "T1", B, 19_999, 1000, 1002)?,
-        ask(A, Command::Statement { skip: 0, count: 10 }, 1002)?,
+        ask(
+            A,
+            Command::Query(Query::Statement { skip: 0, count: 10 }),
+            1002,
+        )?,
         confirm(B, A, "T1", 2000)?,
         learn,
-        ask(A, Command::Statement { skip: 0, count: 10 }, 2000)?,
+        ask(
+            A,
+            Command::Query(Query::Statement { skip: 0, count: 10 }),
+            2000,
+        )?,
     ])
 }
 
-/// What is told of a transfer that is carried over: it is reserved and known again, then confirmed, and stands in the
-/// statement once it is learnt.
-const CARRIED: [Told; 7] = [
-    Told::Position(50_000, 20_000, 30_000),
-    Told::Taken("T1", 11_000),
-    Told::Refused(Fault::Duplicate),
-    Told::Lines(&[]),
-    Told::Decided(A, Outcome::Accepted),
-    Told::New(true),
-    Told::Lines(&[(1, LineKind::Paid, Some(B), "T1", 20_000, 30_000)]),
+/// What is told of a transfer that is carried over: it is reserved and known again, then confirmed,
+/// and stands in the statement once it is learnt.
+const CARRIED: [ExpectedAnswer; 7] = [
+    ExpectedAnswer::Position(50_000, 20_000, 30_000),
+    ExpectedAnswer::Taken("T1", 11_000),
+    ExpectedAnswer::Refused(Fault::Duplicate),
+    ExpectedAnswer::Lines(&[]),
+    ExpectedAnswer::Decided(A, Outcome::Accepted),
+    ExpectedAnswer::New(true),
+    ExpectedAnswer::Lines(&[(1, LineKind::Paid, Some(B), "T1", 20_000, 30_000)]),
 ];
 
 /// Whether this is the nth answer.
-fn is_nth(answers: &[Answer], told: &[Told], nth: usize) -> bool {
+fn is_nth(answers: &[Answer], told: &[ExpectedAnswer], nth: usize) -> bool {
     match (answers.get(nth), told.get(nth)) {
         (Some(answer), Some(told)) => is_told(answer, told),
         _ => false,
@@ -72,7 +80,7 @@ fn is_nth(answers: &[Answer], told: &[Told], nth: usize) -> bool {
 }
 
 /// These are the answers.
-fn are_told(rt: &impl Abort, answers: &[Answer], told: &[Told]) {
+fn are_told(rt: &impl Abort, answers: &[Answer], told: &[ExpectedAnswer]) {
     same(rt, answers.len(), told.len());
     for nth in 0..told.len() {
         same_at(rt, nth, is_nth(answers, told, nth), true);
@@ -157,7 +165,7 @@ fn runs_from(
     settings: &Settings,
     journals: &[Journal],
     steps: &[Step],
-    told: &[Told],
+    told: &[ExpectedAnswer],
 ) -> Result<(), Fail>
     requires journals { CanOpenFrom settings.now journals.now }
     requires fits { IsInterleaving settings.now steps.now }
@@ -173,7 +181,7 @@ fn runs_after(
     settings: &Settings,
     before: &[Step],
     steps: &[Step],
-    told: &[Told],
+    told: &[ExpectedAnswer],
 ) -> Result<(), Fail>
     requires before { IsInterleaving settings.now before.now }
     requires fits { IsInterleaving settings.now steps.now }
@@ -244,14 +252,15 @@ fn places_given_back_steps() -> Result<[Step; 6], Fault>
     ])
 }
 
-/// What is told of a settled transfer, which gave its place back, and of a pending one, which has the first place.
-const GIVEN_BACK: [Told; 6] = [
-    Told::Taken("T3", 13_000),
-    Told::Refused(Fault::Full),
-    Told::Decided(A, Outcome::Accepted),
-    Told::Taken("T1", 11_000),
-    Told::New(true),
-    Told::Decided(A, Outcome::TimedOut),
+/// What is told of a settled transfer, which gave its place back, and of a pending one, which has
+/// the first place.
+const GIVEN_BACK: [ExpectedAnswer; 6] = [
+    ExpectedAnswer::Taken("T3", 13_000),
+    ExpectedAnswer::Refused(Fault::Full),
+    ExpectedAnswer::Decided(A, Outcome::Accepted),
+    ExpectedAnswer::Taken("T1", 11_000),
+    ExpectedAnswer::New(true),
+    ExpectedAnswer::Decided(A, Outcome::TimedOut),
 ];
 
 #[test]

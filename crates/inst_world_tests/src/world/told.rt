@@ -8,7 +8,7 @@ use std::process::Abort;
 use std::test::Fail;
 
 #[derive(Clone, Copy)]
-pub(crate) enum Told {
+pub(crate) enum ExpectedAnswer {
     /// Whether a step was new.
     New(bool),
     Done(&'static str),
@@ -21,37 +21,37 @@ pub(crate) enum Told {
     Refused(Fault),
 }
 
-fn is_done(reference: &Ident, told: &Told) -> bool {
+fn is_done(reference: &Ident, told: &ExpectedAnswer) -> bool {
     match told {
-        Told::Done(name) => reference.text() == *name,
+        ExpectedAnswer::Done(name) => reference.text() == *name,
         _ => false,
     }
 }
 
-fn is_taken(id: &Ident, deadline: &Moment, told: &Told) -> bool {
+fn is_taken(id: &Ident, deadline: &Moment, told: &ExpectedAnswer) -> bool {
     match told {
-        Told::Taken(name, end) => id.text() == *name && deadline.past_base() == *end,
+        ExpectedAnswer::Taken(name, end) => id.text() == *name && deadline.past_base() == *end,
         _ => false,
     }
 }
 
-fn is_decided(from: u8, state: &State, told: &Told) -> bool {
+fn is_decided(from: u8, state: &State, told: &ExpectedAnswer) -> bool {
     match told {
-        Told::Decided(originator, outcome) => {
+        ExpectedAnswer::Decided(originator, outcome) => {
             from == *originator && *state == State::Decided(*outcome)
         }
         _ => false,
     }
 }
 
-fn is_position(found: [u64; 3], told: &Told) -> bool {
+fn is_position(found: [u64; 3], told: &ExpectedAnswer) -> bool {
     match told {
-        Told::Position(all, held, free) => found == [*all, *held, *free],
+        ExpectedAnswer::Position(all, held, free) => found == [*all, *held, *free],
         _ => false,
     }
 }
 
-fn is_reply(reply: &Reply, told: &Told) -> bool {
+fn is_reply(reply: &Reply, told: &ExpectedAnswer) -> bool {
     match reply {
         Reply::Taken { id, deadline } => is_taken(id, deadline, told),
         Reply::State { from, state, .. } => is_decided(*from, state, told),
@@ -61,20 +61,20 @@ fn is_reply(reply: &Reply, told: &Told) -> bool {
             available,
         } => is_position([*position, *reserved, *available], told),
         Reply::Inbox { entries } => {
-            matches!(told, Told::Inbox(wanted) if are_entries(entries.as_slice(), wanted))
+            matches!(told, ExpectedAnswer::Inbox(wanted) if are_entries(entries.as_slice(), wanted))
         }
         Reply::Statement { lines } => {
-            matches!(told, Told::Lines(wanted) if are_lines(lines.as_slice(), wanted))
+            matches!(told, ExpectedAnswer::Lines(wanted) if are_lines(lines.as_slice(), wanted))
         }
-        Reply::Refused(fault) => matches!(told, Told::Refused(wanted) if fault == wanted),
+        Reply::Refused(fault) => matches!(told, ExpectedAnswer::Refused(wanted) if fault == wanted),
         Reply::Done { reference } => is_done(reference, told),
     }
 }
 
 /// Whether the answer is what is told.
-pub(crate) fn is_told(answer: &Answer, told: &Told) -> bool {
+pub(crate) fn is_told(answer: &Answer, told: &ExpectedAnswer) -> bool {
     match (answer, told) {
-        (Answer::New(is_new), Told::New(wanted)) => is_new == wanted,
+        (Answer::New(is_new), ExpectedAnswer::New(wanted)) => is_new == wanted,
         (Answer::Reply(reply), told) => is_reply(reply, told),
         _ => false,
     }
@@ -85,7 +85,7 @@ fn is_answered(
     rt: &impl Abort,
     world: &mut World,
     step: &Step,
-    told: Option<&Told>,
+    told: Option<&ExpectedAnswer>,
 ) -> Result<bool, Fail> {
     assert!(rt; step.fits(world.settings()));
     let answer = world.step(step)?;
@@ -100,7 +100,7 @@ pub(crate) fn answers(
     rt: &impl Abort,
     world: &mut World,
     steps: &[Step],
-    told: &[Told],
+    told: &[ExpectedAnswer],
 ) -> Result<(), Fail> {
     for (nth, step) in steps.iter().enumerate() {
         same_at(rt, nth, is_answered(rt, world, step, told.get(nth))?, true);

@@ -3,9 +3,9 @@ ghost use Rattle.std.specs.Prelude.{◌≡◌, IfOk};
 ghost use Rattle.inst_model.specs.Rows as rows;
 
 use crate::comparing::same;
-use crate::world::told::{Told, is_told};
+use crate::world::told::{ExpectedAnswer, is_told};
 use inst_base::Fault;
-use inst_command::{Answer, Command, LineKind, Outcome, Step};
+use inst_command::{Answer, Command, LineKind, Outcome, Query, Step};
 use inst_fixtures::{A, B, C, ask, confirm, fund, settings, submit};
 use inst_settings::Settings;
 use inst_world::run_both;
@@ -27,8 +27,12 @@ fn alone() -> Result<[Step; 7], Fault>
         deliver,
         ask(B, Command::Fetch { max: 10 }, 1500)?,
         confirm(B, A, "T1", 2000)?,
-        ask(B, Command::Statement { skip: 0, count: 10 }, 2100)?,
-        ask(B, Command::Position, 2100)?,
+        ask(
+            B,
+            Command::Query(Query::Statement { skip: 0, count: 10 }),
+            2100,
+        )?,
+        ask(B, Command::Query(Query::Position), 2100)?,
     ])
 }
 
@@ -62,17 +66,22 @@ fn among_others() -> Result<[Step; 13], Fault>
         confirm(A, C, "Z1", 1600)?,
         confirm(B, A, "T1", 2000)?,
         learn,
-        ask(B, Command::Statement { skip: 0, count: 10 }, 2100)?,
-        ask(B, Command::Position, 2100)?,
+        ask(
+            B,
+            Command::Query(Query::Statement { skip: 0, count: 10 }),
+            2100,
+        )?,
+        ask(B, Command::Query(Query::Position), 2100)?,
     ])
 }
 
-/// What B is told: it is handed out the transfer, told that it is accepted, and shown its line and its amount.
-const TOLD: [Told; 4] = [
-    Told::Inbox(&[(A, "T1", 20_000, 11_000)]),
-    Told::Decided(A, Outcome::Accepted),
-    Told::Lines(&[(1, LineKind::Received, Some(A), "T1", 20_000, 20_000)]),
-    Told::Position(20_000, 0, 20_000),
+/// What B is told: it is handed out the transfer, told that it is accepted, and shown its line and
+/// its amount.
+const TOLD: [ExpectedAnswer; 4] = [
+    ExpectedAnswer::Inbox(&[(A, "T1", 20_000, 11_000)]),
+    ExpectedAnswer::Decided(A, Outcome::Accepted),
+    ExpectedAnswer::Lines(&[(1, LineKind::Received, Some(A), "T1", 20_000, 20_000)]),
+    ExpectedAnswer::Position(20_000, 0, 20_000),
 ];
 
 /// Whether B is told so by its nth reply.
@@ -113,7 +122,8 @@ fn told_in_both(
     Ok((first, told_to_b(among_others, busy.answers.as_slice())))
 }
 
-/// Among others' traffic B is told what it is told alone: all four asks are answered as they must be.
+/// Among others' traffic B is told what it is told alone: all four asks are answered as they must
+/// be.
 fn hides_others(rt: &(impl Abort + AllocGlobal), settings: &Settings) -> Result<(), Fail>
     requires { settings.now ≡ rows.settings }
 {

@@ -1,11 +1,11 @@
-//! Worlds, step by step and line by line, over three participants with 2 places and 4 fundings each.
+//! Worlds, step by step and line by line, over three participants with 2 places and 4 fundings
+//! each.
 use crate::comparing::{same, same_at};
 use crate::ledger::asked::outcome;
-use crate::world::told::{Told, answers};
+use crate::world::told::{ExpectedAnswer, answers};
 use inst_agenda::{Runner, follow_up};
 use inst_base::{Cents, Fault, Ident, Moment, mention};
-use inst_board::Place;
-use inst_command::{Answer, Ask, Command, Outcome, Reply, Step, Submission};
+use inst_command::{Answer, Ask, Command, Outcome, Place, Reply, Step, Submission};
 use inst_fixtures::{End, confirm, fund, settings, submit};
 use inst_journal::Event;
 use inst_json::LineReader;
@@ -46,7 +46,8 @@ fn is_taken(answer: &Answer) -> bool {
     }
 }
 
-/// The transfer of the first participant to the second lies at its first place, and is pending until 11,000.
+/// The transfer of the first participant to the second lies at its first place, and is pending
+/// until 11,000.
 fn lies_at_the_first_place(rt: &impl Abort, world: &mut World, id: &Ident) -> Result<(), Fail> {
     let place = Place { owner: 0, index: 0 };
     let deadline = Moment::new(0, 11_000)?;
@@ -65,16 +66,19 @@ fn is_submitted(rt: &impl Abort, world: &mut World) -> Result<(), Fail> {
         rt,
         world,
         &steps,
-        &[Told::Done("F1"), Told::Taken("T1", 11_000)],
+        &[
+            ExpectedAnswer::Done("F1"),
+            ExpectedAnswer::Taken("T1", 11_000),
+        ],
     )?;
     lies_at_the_first_place(rt, world, &Ident::new("T1")?)
 }
 
 /// What is told where a transfer comes, twice, and is confirmed.
-const CONFIRMED: [Told; 3] = [
-    Told::New(true),
-    Told::New(false),
-    Told::Decided(0, Outcome::Accepted),
+const CONFIRMED: [ExpectedAnswer; 3] = [
+    ExpectedAnswer::New(true),
+    ExpectedAnswer::New(false),
+    ExpectedAnswer::Decided(0, Outcome::Accepted),
 ];
 
 /// The second is told of a transfer of the first, once, and confirms it.
@@ -91,7 +95,11 @@ fn is_confirmed(rt: &impl Abort, world: &mut World) -> Result<(), Fail> {
 }
 
 /// What is told where an outcome is learnt, twice, and then the deadline passes.
-const LEARNT: [Told; 3] = [Told::New(true), Told::New(false), Told::New(false)];
+const LEARNT: [ExpectedAnswer; 3] = [
+    ExpectedAnswer::New(true),
+    ExpectedAnswer::New(false),
+    ExpectedAnswer::New(false),
+];
 
 /// The first learns it, once, and nothing is left that may expire.
 fn is_learnt(rt: &impl Abort, world: &mut World) -> Result<(), Fail> {
@@ -137,7 +145,8 @@ fn is_line_taken(
     Ok((is_taken(&answer), at))
 }
 
-/// Runs the line as a run does, and goes over what it names and what is due; it must not be refused.
+/// Runs the line as a run does, and goes over what it names and what is due; it must not be
+/// refused.
 fn run_line(
     rt: &impl Abort,
     reader: &mut LineReader,
@@ -162,7 +171,8 @@ fn run_lines(
     Ok(())
 }
 
-/// How a transfer of the first participant ended: its beneficiary, its identifier, its cents, and the end.
+/// How a transfer of the first participant ended: its beneficiary, its identifier, its cents, and
+/// the end.
 type Ended = (u8, &'static str, u64, End);
 
 /// The beneficiary was told of the transfer, and has booked how it ended.
@@ -211,8 +221,9 @@ fn opens_and_runs_to(
     runs_to(rt, &mut runner, lines, ends, money)
 }
 
-/// The histories show what the replies of a run don't: that each side books each outcome, the originator
-/// before its transfer may expire. One is rejected, the other times out, and the first participant has its money back.
+/// The histories show what the replies of a run don't: that each side books each outcome, the
+/// originator before its transfer may expire. One is rejected, the other times out, and the first
+/// participant has its money back.
 #[test]
 fn a_run_tells_both_sides(rt: HostRuntime) -> Result<(), Fail> {
     opens_and_runs_to(

@@ -2,7 +2,7 @@ use Rattle.std.proofs.Common.{refl, sym, ◌∙◌, subst}
 use Rattle.inst_agenda.specs.Agenda.{Agenda}
 use Rattle.inst_agenda.specs.FollowUps.{followed_up}
 use Rattle.inst_agenda.specs.Watching.{Watches}
-use Rattle.inst_agenda.proofs.Skipping.{going_at_first, goes_on, skips_to_the_end}
+use Rattle.inst_agenda.proofs.SkippedPlacesAreAtRest.{going_at_first, goes_on, skips_to_the_end}
 use Rattle.inst_agenda.proofs.follow_ups.follow_up.Goals as goal
 
 pub loop-place-init : goal.loop-place-init

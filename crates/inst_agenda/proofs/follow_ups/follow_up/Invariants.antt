@@ -2,7 +2,7 @@ use Rattle.std.proofs.Common.{◌≡◌, List, length}
 use Rattle.inst_command.specs.declared.step.Step.{Step}
 use Rattle.inst_model.specs.Opening.{Opening}
 use Rattle.inst_agenda.specs.Watching.{Watches}
-use Rattle.inst_agenda.proofs.Skipping.{IsGoing}
+use Rattle.inst_agenda.proofs.SkippedPlacesAreAtRest.{IsGoing}
 use Rattle.inst_agenda.proofs.follow_ups.follow_up.Given as goal
 
 abbrev pub invariant-loop-place : goal.invariant-loop-place

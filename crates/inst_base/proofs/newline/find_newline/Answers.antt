@@ -1,4 +1,4 @@
-use Rattle.inst_base.proofs.Searching.{breaks_from_search}
+use Rattle.inst_base.proofs.LineEndBySearch.{breaks_from_search}
 use Rattle.inst_base.proofs.newline.find_newline.Goals as goal
 
 pub returns : goal.returns

@@ -1,7 +1,7 @@
 use Rattle.std.proofs.Common.{subst}
 use Rattle.inst_settings.specs.Settings.{HubSettings}
 use Rattle.inst_board.specs.Learning.{Decides}
-use Rattle.inst_board.proofs.Deciding.{decided_once}
+use Rattle.inst_board.proofs.DecisionsStay.{decided_once}
 use Rattle.inst_board.proofs.laws.decide_twice.Goals as goal
 
 pub returns-clause-once : goal.returns-clause-once

@@ -1,4 +1,4 @@
-use Rattle.inst_board.proofs.Deciding.{decided_once}
+use Rattle.inst_board.proofs.DecisionsStay.{decided_once}
 use Rattle.inst_board.proofs.laws.decided_once.Goals as goal
 
 pub returns : goal.returns

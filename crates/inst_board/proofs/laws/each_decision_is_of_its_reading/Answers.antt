@@ -1,4 +1,4 @@
-use Rattle.inst_board.proofs.Deciding.{decided_now}
+use Rattle.inst_board.proofs.DecisionsStay.{decided_now}
 use Rattle.inst_board.proofs.laws.each_decision_is_of_its_reading.Goals as goal
 
 pub returns : goal.returns

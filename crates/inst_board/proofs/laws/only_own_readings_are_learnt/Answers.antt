@@ -1,4 +1,4 @@
-use Rattle.inst_board.proofs.Deciding.{own_reading}
+use Rattle.inst_board.proofs.DecisionsStay.{own_reading}
 use Rattle.inst_board.proofs.laws.only_own_readings_are_learnt.Goals as goal
 
 pub returns : goal.returns

@@ -1,4 +1,4 @@
-use Rattle.inst_board.proofs.Knowing.{only_beneficiary}
+use Rattle.inst_board.proofs.KnowledgeOfHolders.{only_beneficiary}
 use Rattle.inst_board.proofs.laws.only_the_beneficiary_answers.Goals as goal
 
 pub returns : goal.returns

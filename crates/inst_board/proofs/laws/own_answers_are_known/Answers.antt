@@ -1,4 +1,4 @@
-use Rattle.inst_board.proofs.Knowing.{own_answers}
+use Rattle.inst_board.proofs.KnowledgeOfHolders.{own_answers}
 use Rattle.inst_board.proofs.laws.own_answers_are_known.Goals as goal
 
 pub returns : goal.returns

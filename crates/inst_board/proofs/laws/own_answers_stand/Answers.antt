@@ -1,4 +1,4 @@
-use Rattle.inst_board.proofs.Knowing.{answers_stand}
+use Rattle.inst_board.proofs.KnowledgeOfHolders.{answers_stand}
 use Rattle.inst_board.proofs.laws.own_answers_stand.Goals as goal
 
 pub returns : goal.returns

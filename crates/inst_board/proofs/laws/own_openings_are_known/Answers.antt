@@ -1,4 +1,4 @@
-use Rattle.inst_board.proofs.Knowing.{own_openings}
+use Rattle.inst_board.proofs.KnowledgeOfHolders.{own_openings}
 use Rattle.inst_board.proofs.laws.own_openings_are_known.Goals as goal
 
 pub returns : goal.returns

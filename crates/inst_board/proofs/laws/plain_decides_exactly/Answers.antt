@@ -1,4 +1,4 @@
-use Rattle.inst_board.proofs.Exact.{decides_exactly}
+use Rattle.inst_board.proofs.PromisesExactOnPlainBoard.{decides_exactly}
 use Rattle.inst_board.proofs.laws.plain_decides_exactly.Goals as goal
 
 pub returns : goal.returns

@@ -1,4 +1,4 @@
-use Rattle.inst_board.proofs.Exact.{looks_exactly}
+use Rattle.inst_board.proofs.PromisesExactOnPlainBoard.{looks_exactly}
 use Rattle.inst_board.proofs.laws.plain_looks_exactly.Goals as goal
 
 pub returns : goal.returns

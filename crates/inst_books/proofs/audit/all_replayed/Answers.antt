@@ -1,6 +1,6 @@
 use Rattle.std.proofs.Common.{ap, length, length-append, ◌∷◌, [], arith}
 use Rattle.std.proofs.lemmas.Grind.{elements}
-use Rattle.inst_books.proofs.Replaying.{one_kept}
+use Rattle.inst_books.proofs.ReplayedJournals.{one_kept}
 use Rattle.inst_books.proofs.audit.all_replayed.Goals as goal
 
 pub loop-who-preserved : goal.loop-who-preserved

@@ -1,7 +1,7 @@
 use Rattle.std.proofs.Common.{◌≡◌, length, subst, arith, IfSome}
 use Rattle.inst_settings.specs.Settings.{participants}
 use Rattle.inst_books.specs.inner.Replaying.{AreAllKept}
-use Rattle.inst_books.proofs.Replaying.{agreement_tells}
+use Rattle.inst_books.proofs.ReplayedJournals.{agreement_tells}
 use Rattle.inst_books.proofs.audit.can_open.Goals as goal
 
 pub returns-in-Some : goal.returns-in-Some

@@ -1,6 +1,6 @@
 use Rattle.std.proofs.Common.{sym, ◌∙◌}
 use Rattle.std.proofs.lemmas.Bool.{false≢true}
-use Rattle.inst_books.proofs.Replaying.{next_fits, kept_more, sound_more}
+use Rattle.inst_books.proofs.ReplayedJournals.{next_fits, kept_more, sound_more}
 use Rattle.inst_books.proofs.audit.keep_all.Goals as goal
 
 pub returns-then-not-may_keep-clause-can : goal.returns-then-not-may_keep-clause-can

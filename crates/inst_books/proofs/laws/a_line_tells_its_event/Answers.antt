@@ -1,4 +1,4 @@
-use Rattle.inst_books.proofs.Back.{line_tells}
+use Rattle.inst_books.proofs.WrittenEventReadsBack.{line_tells}
 use Rattle.inst_books.proofs.laws.a_line_tells_its_event.Goals as goal
 
 pub returns : goal.returns

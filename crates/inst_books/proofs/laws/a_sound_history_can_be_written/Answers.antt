@@ -1,4 +1,4 @@
-use Rattle.inst_books.proofs.Sound.{sound_writable}
+use Rattle.inst_books.proofs.SoundHistoryCanBeWritten.{sound_writable}
 use Rattle.inst_books.proofs.laws.a_sound_history_can_be_written.Goals as goal
 
 pub returns : goal.returns

@@ -1,4 +1,4 @@
-use Rattle.inst_books.proofs.Whole.{text_tells}
+use Rattle.inst_books.proofs.WrittenBooksReadBack.{text_tells}
 use Rattle.inst_books.proofs.laws.a_text_tells_its_books.Goals as goal
 
 pub returns : goal.returns

@@ -1,4 +1,4 @@
-use Rattle.inst_books.proofs.Back.{plain_line}
+use Rattle.inst_books.proofs.WrittenEventReadsBack.{plain_line}
 use Rattle.inst_books.proofs.laws.an_event_is_a_plain_line.Goals as goal
 
 pub returns : goal.returns

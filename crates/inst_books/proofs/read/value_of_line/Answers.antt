@@ -1,6 +1,6 @@
 use Rattle.std.proofs.Common.{inr, true≢false, sym, ◌∙◌}
 use Rattle.serde_json.specs.Errors.{IsMemory}
-use Rattle.inst_json.proofs.Json.{json_of-value, json_of-none}
+use Rattle.inst_json.proofs.LineAsJson.{json_of-value, json_of-none}
 use Rattle.inst_books.proofs.read.value_of_line.Goals as goal
 
 pub returns-in-Ok : goal.returns-in-Ok

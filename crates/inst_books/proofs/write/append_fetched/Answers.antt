@@ -3,9 +3,9 @@ use Rattle.std.proofs.lemmas.Result.{on_ok_weaker}
 use Rattle.json.specs.Print.{escape_byte}
 use Rattle.serde_json.specs.Written.{compact_text}
 use Rattle.inst_json.specs.Replies.{whole}
-use Rattle.inst_json.proofs.Plain.{escape-code}
-use Rattle.inst_books.specs.Events.{named, fetched_data}
-use Rattle.inst_books.proofs.Texts.{begun, text_next, whole_next, ended}
+use Rattle.inst_json.proofs.TextsWithoutEscapes.{escape-code}
+use Rattle.inst_books.specs.Events.{event_member, fetched_data}
+use Rattle.inst_books.proofs.ObjectTextByMembers.{begun, text_next, whole_next, ended}
 use Rattle.inst_books.proofs.write.append_fetched.Goals as goal
 
 pub returns : goal.returns
@@ -18,4 +18,4 @@ returns c =
     let count = whole_next old book [] (codes "count") number refl begin c.in_ok-push_whole_member.ensures in
     let all = text_next old book ((codes "count", whole number) ∷ []) (codes "event") (codes "fetched") refl refl count c.in_ok-push_text_member.ensures in
     let same = ap (λ n. old ++ compact_text (fetched_data book n)) c.from.ensures in
-    on_ok_weaker c.push_end.result (λ h. ended old book ((codes "count", whole number) ∷ named (codes "fetched") ∷ []) all h ∙ same) c.push_end.ensures
+    on_ok_weaker c.push_end.result (λ h. ended old book ((codes "count", whole number) ∷ event_member (codes "fetched") ∷ []) all h ∙ same) c.push_end.ensures

@@ -4,9 +4,9 @@ use Rattle.json.specs.Print.{escape_byte}
 use Rattle.serde_json.specs.Data.{string}
 use Rattle.serde_json.specs.Written.{compact_text}
 use Rattle.inst_json.specs.Replies.{whole}
-use Rattle.inst_json.proofs.Plain.{escape-code, escape-identifier}
-use Rattle.inst_books.specs.Events.{named, forwarded_data}
-use Rattle.inst_books.proofs.Texts.{begun, text_next, whole_next, ended}
+use Rattle.inst_json.proofs.TextsWithoutEscapes.{escape-code, escape-identifier}
+use Rattle.inst_books.specs.Events.{event_member, forwarded_data}
+use Rattle.inst_books.proofs.ObjectTextByMembers.{begun, text_next, whole_next, ended}
 use Rattle.inst_books.proofs.write.append_forwarded.Goals as goal
 
 pub returns-clause-text : goal.returns-clause-text
@@ -22,7 +22,7 @@ returns-clause-text c =
     let cents = whole_next old book [] (codes "cents") amount refl begin c.in_ok-push_whole_member.ensures in
     let deadline = whole_next old book ((codes "cents", whole amount) ∷ []) (codes "deadline") ms refl cents c.in_ok-push_whole_member-2.ensures in
     let event = text_next old book ((codes "cents", whole amount) ∷ (codes "deadline", whole ms) ∷ []) (codes "event") (codes "forwarded") refl refl deadline c.in_ok-push_text_member.ensures in
-    let from_put = text_next old book ((codes "cents", whole amount) ∷ (codes "deadline", whole ms) ∷ named (codes "forwarded") ∷ []) (codes "from") from refl (escape-code from c.requires.from) event c.in_ok-push_text_member-2.ensures in
-    let all = text_next old book ((codes "cents", whole amount) ∷ (codes "deadline", whole ms) ∷ named (codes "forwarded") ∷ (codes "from", string from) ∷ []) (codes "id") id refl (escape-identifier id c.text-id.ensures.form) from_put c.in_ok-push_text_member-3.ensures in
+    let from_put = text_next old book ((codes "cents", whole amount) ∷ (codes "deadline", whole ms) ∷ event_member (codes "forwarded") ∷ []) (codes "from") from refl (escape-code from c.requires.from) event c.in_ok-push_text_member-2.ensures in
+    let all = text_next old book ((codes "cents", whole amount) ∷ (codes "deadline", whole ms) ∷ event_member (codes "forwarded") ∷ (codes "from", string from) ∷ []) (codes "id") id refl (escape-identifier id c.text-id.ensures.form) from_put c.in_ok-push_text_member-3.ensures in
     let same = ap₂ (λ i n. old ++ compact_text (forwarded_data book from i n ms)) c.text-id.ensures.value c.get.ensures.value in
-    on_ok_weaker c.push_end.result (λ h. ended old book ((codes "cents", whole amount) ∷ (codes "deadline", whole ms) ∷ named (codes "forwarded") ∷ (codes "from", string from) ∷ (codes "id", string id) ∷ []) all h ∙ same) c.push_end.ensures
+    on_ok_weaker c.push_end.result (λ h. ended old book ((codes "cents", whole amount) ∷ (codes "deadline", whole ms) ∷ event_member (codes "forwarded") ∷ (codes "from", string from) ∷ (codes "id", string id) ∷ []) all h ∙ same) c.push_end.ensures

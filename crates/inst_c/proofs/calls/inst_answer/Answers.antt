@@ -1,7 +1,7 @@
 use Rattle.std.proofs.Common.{Some, ap, sym, ◌∙◌}
 use Rattle.std.specs.Vec.{vec_len}
 use Rattle.inst_c.specs.declared.line_hub.LineHub.{LineHub}
-use Rattle.inst_c.proofs.Calling.{has_answered}
+use Rattle.inst_c.proofs.HandleAfterCall.{has_answered}
 use Rattle.inst_c.proofs.calls.inst_answer.Goals as goal
 
 pub returns : goal.returns

@@ -1,6 +1,6 @@
 use Rattle.std.proofs.Common.{sym, ◌∙◌}
 use Rattle.inst_c.specs.Chosen.{chosen, mode_of}
-use Rattle.inst_c.proofs.Calling.{has_opened}
+use Rattle.inst_c.proofs.HandleAfterCall.{has_opened}
 use Rattle.inst_c.proofs.calls.inst_open.Goals as goal
 
 pub returns-in-Ok : goal.returns-in-Ok

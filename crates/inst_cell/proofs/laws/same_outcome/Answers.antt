@@ -1,5 +1,5 @@
 use Rattle.std.proofs.Common.{inl, inr}
-use Rattle.inst_board.proofs.Agreeing.{same_decided}
+use Rattle.inst_board.proofs.FactsOfOneStandingAgree.{same_decided}
 use Rattle.inst_board.specs.declared.about.About.TheVariants.{Decided}
 use Rattle.inst_board.specs.Standing.{about}
 use Rattle.inst_cell.proofs.laws.same_outcome.Goals as goal

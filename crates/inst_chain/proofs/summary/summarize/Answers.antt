@@ -1,4 +1,4 @@
-use Rattle.inst_chain.proofs.Summing.{started}
+use Rattle.inst_chain.proofs.SummaryOfLines.{started}
 use Rattle.inst_chain.proofs.summary.summarize.Goals as goal
 
 pub loop-init : goal.loop-init

@@ -1,14 +1,14 @@
 use Rattle.std.proofs.Common.{◌<◌, length, sym, ◌∙◌, ap, subst, arith}
-use Rattle.inst_log.specs.Layout.{recovered, blocks}
+use Rattle.inst_log.specs.Layout.{recovered_lines, blocks}
 use Rattle.inst_log.proofs.Pieces.{no_blocks, some_blocks}
 use Rattle.inst_chain.specs.Verifying.{SealedBy, IsDamagedAfter}
-use Rattle.inst_chain.proofs.Wrong.{wrong_end, not_sealed_end, sealed_end}
+use Rattle.inst_chain.proofs.PlaceOfDamage.{wrong_end, not_sealed_end, sealed_end}
 use Rattle.inst_chain.proofs.verifying.end.Goals as goal
 
 pub returns-then-extent-eq0-clause-found : goal.returns-then-extent-eq0-clause-found
 returns-then-extent-eq0-clause-found c = λ file k.
     let end = c.extent-extent.ensures file k.done k.reading k.ended in
-    record { extent = end.1; marker = no_blocks (recovered file) (omega (arith, end.1.end, c.if-extent-eq0.true)) }
+    record { extent = end.1; marker = no_blocks (recovered_lines file) (omega (arith, end.1.end, c.if-extent-eq0.true)) }
 
 pub returns-then-not-is_sealed-clause-damaged : goal.returns-then-not-is_sealed-clause-damaged
 returns-then-not-is_sealed-clause-damaged c = λ file k _.

@@ -1,12 +1,12 @@
 use Rattle.std.proofs.Common.{[], ◌++◌, List, ℕ, refl, ◌∙◌, sym, ap, subst, arith}
 use Rattle.std.proofs.lemmas.Result.{IfOk-weaker, IfErr-weaker, err_from_is_err_and}
 use Rattle.sqlite_disk.specs.Disk.{MoreFaults}
-use Rattle.inst_log.specs.Layout.{recovered}
+use Rattle.inst_log.specs.Layout.{recovered_lines}
 use Rattle.inst_log.specs.Pieces.{IsReading}
 use Rattle.inst_log.proofs.Pieces.{file_lines, all_cut, through}
 use Rattle.inst_chain.specs.Chain.{has_wanted}
 use Rattle.inst_chain.specs.Checking.{IsWrongAt}
-use Rattle.inst_chain.proofs.Wrong.{wrong_mark, damaged_err, log_failed, wanted_none, checked}
+use Rattle.inst_chain.proofs.PlaceOfDamage.{wrong_mark, damaged_err, log_failed, wanted_none, checked}
 use Rattle.inst_chain.proofs.verifying.verify.Goals as goal
 
 pub loop-wanted-init : goal.loop-wanted-init
@@ -31,11 +31,11 @@ returns-in-Err-clause-cause g c clean =
     let file = g.D.Disk.seen c.args.disk.now in
     let piece = c.in_ok-piece.piece.items in
     let before = i.reading (c.next.ensures.clean clean) in
-    let reading = subst (λ (f : List ℕ). IsReading f c.next.new.self (before.0 ++ recovered piece)) i.seen
+    let reading = subst (λ (f : List ℕ). IsReading f c.next.new.self (before.0 ++ recovered_lines piece)) i.seen
     (c.in_ok-piece.ensures.reading clean before.0 (subst (λ (f : List ℕ). IsReading f c.loop-wanted.lines before.0) (sym i.seen) before.1)) in
     wrong_mark file c.loop-wanted.checker before.0 _ piece c.in-Err.right before.2
     (subst (λ (l : List ℕ). IsWrongAt c.loop-wanted.checker l c.in-Err.right) c.deref.ensures.value c.in-Err.ensures.wrong)
-    (file_lines file c.next.new.self.cutter (before.0 ++ recovered piece) reading.cut)
+    (file_lines file c.next.new.self.cutter (before.0 ++ recovered_lines piece) reading.cut)
     (omega (arith, reading.len, c.in_ok-piece.ensures.len, i.fits))
 
 pub returns-clause-found : goal.returns-clause-found

@@ -1,11 +1,11 @@
 use Rattle.inst_settings.specs.Settings.{participants}
 use Rattle.inst_participant.specs.Together.{histories}
-use Rattle.inst_participant.proofs.Parted.{if_ok}
-use Rattle.inst_participant.proofs.PlaceByPlace.{told_nothing}
+use Rattle.inst_participant.proofs.OneBookSettlesOthersStay.{if_ok}
+use Rattle.inst_participant.proofs.SettlementPlaceByPlace.{told_nothing}
 use Rattle.inst_participant.specs.Apart.{histories_of}
 use Rattle.inst_model.specs.Opening.{Opening}
 use Rattle.inst_close.specs.Closing.{IsOpenedSo, HaveOpened, GoOnFrom, AreOnlyTold, TellAll, AreOfHub}
-use Rattle.inst_close.proofs.Left.{books_of_parts, left_then}
+use Rattle.inst_close.proofs.RemainsOfClosingHub.{books_of_parts, left_then}
 use Rattle.inst_close.proofs.closing.close.Goals as goal
 use Rattle.inst_close.proofs.closing.close.Goals.{In-Ok}
 

@@ -1,4 +1,4 @@
-use Rattle.inst_command.proofs.Telling.{line_tells}
+use Rattle.inst_command.proofs.LineTextTellsLine.{line_tells}
 use Rattle.inst_command.proofs.laws.a_text_tells_its_line.Goals as goal
 
 pub returns : goal.returns

@@ -1,4 +1,4 @@
-use Rattle.inst_command.proofs.Fitting.{commands_fit, steps_fit}
+use Rattle.inst_command.proofs.CommandsAndStepsThatFit.{commands_fit, steps_fit}
 use Rattle.inst_command.proofs.laws.what_fits.Goals as goal
 
 pub returns : goal.returns

@@ -1,7 +1,7 @@
 use Rattle.std.proofs.Common.{ap, ◌∙◌, ◌∷◌, [], ◌++◌, List}
 use Rattle.inst_command.specs.declared.outcome.State.{State}
-use Rattle.inst_board.specs.declared.place.Place.{Place}
-use Rattle.inst_crew.proofs.Gathered.{ends_more, gathered_more}
+use Rattle.inst_command.specs.declared.place.Place.{Place}
+use Rattle.inst_crew.proofs.GatheredShifts.{ends_more, gathered_more}
 use Rattle.inst_crew.proofs.gathering.gather.Goals as goal
 
 pub loop-result-preserved : goal.loop-result-preserved

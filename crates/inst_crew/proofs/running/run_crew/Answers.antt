@@ -7,8 +7,8 @@ use Rattle.inst_hub.specs.declared.teller.Teller.{Teller}
 use Rattle.inst_hub.specs.Calls.{AreOf}
 use Rattle.inst_crew.specs.Crew.{sweeper_of, IsSwept}
 use Rattle.inst_crew.specs.inner.Workers.{AllWork}
-use Rattle.inst_crew.proofs.Pairing.{all_ready, are_hands, are_tellers, same_parts, same_row, pairs_length}
-use Rattle.inst_crew.proofs.Together.{Ran, ran}
+use Rattle.inst_crew.proofs.PairsOfWorkersAndShifts.{all_ready, are_hands, are_tellers, same_parts, same_row, pairs_length}
+use Rattle.inst_crew.proofs.WorkOfCrew.{Ran, ran}
 use Rattle.inst_crew.proofs.running.run_crew.Given.{Over}
 use Rattle.inst_crew.proofs.running.run_crew.Goals as goal
 

@@ -1,7 +1,7 @@
 use Rattle.std.proofs.Common.{List, ◌++◌, ◌∷◌, [], ◌∙◌, take, ap, sym}
 use Rattle.std.proofs.lemmas.List.{take_more}
 use Rattle.inst_journal.specs.declared.event.Event.{Event}
-use Rattle.inst_drill.proofs.Ends.{one_more_counted}
+use Rattle.inst_drill.proofs.TransferEnds.{one_more_counted}
 use Rattle.inst_drill.proofs.counting.ends.Goals as goal
 
 pub loop-event-preserved : goal.loop-event-preserved

@@ -1,4 +1,4 @@
-use Rattle.inst_drill.proofs.Ends.{Counted}
+use Rattle.inst_drill.proofs.TransferEnds.{Counted}
 use Rattle.inst_drill.proofs.counting.ends.Given as goal
 
 abbrev pub invariant-loop-event : goal.invariant-loop-event

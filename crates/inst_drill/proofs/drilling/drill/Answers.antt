@@ -2,8 +2,8 @@ use Rattle.std.proofs.Common.{◌≡◌, ◌≤◌, ◌+◌, ℕ, subst, arith}
 use Rattle.inst_settings.specs.Settings.{HubSettings}
 use Rattle.inst_drill.specs.Drilled.{IsDrilled, drill_opening}
 use Rattle.inst_drill.specs.inner.Chain.{opening_of}
-use Rattle.inst_drill.proofs.Counted.{after_next}
-use Rattle.inst_drill.proofs.Drilled.{none_drilled, one_drilled}
+use Rattle.inst_drill.proofs.CountOfOpenings.{after_next}
+use Rattle.inst_drill.proofs.DrilledOpenings.{none_drilled, one_drilled}
 use Rattle.inst_drill.proofs.drilling.drill.Goals as goal
 
 pub loop-done-init : goal.loop-done-init

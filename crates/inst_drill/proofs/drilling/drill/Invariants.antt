@@ -1,4 +1,4 @@
-use Rattle.inst_drill.proofs.Drilled.{DrilledSoFar}
+use Rattle.inst_drill.proofs.DrilledOpenings.{DrilledSoFar}
 use Rattle.inst_drill.proofs.drilling.drill.Given as goal
 
 abbrev pub invariant-loop-done : goal.invariant-loop-done

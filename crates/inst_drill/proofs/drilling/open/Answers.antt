@@ -4,8 +4,8 @@ use Rattle.inst_close.specs.ClosedHub.{ClosedHub, IsClosed}
 use Rattle.inst_close.specs.Closing.{IsOpenedSo}
 use Rattle.std.proofs.lemmas.Result.{IfOk-weaker}
 use Rattle.inst_drill.specs.inner.Chain.{AreAfter, IsAfter, opening_of}
-use Rattle.inst_drill.proofs.Counted.{from_the_books, may_open}
-use Rattle.inst_drill.proofs.Staffed.{only_memory}
+use Rattle.inst_drill.proofs.CountOfOpenings.{from_the_books, may_open}
+use Rattle.inst_drill.proofs.StaffOfOpening.{only_memory}
 use Rattle.inst_drill.proofs.drilling.open.Goals as goal
 use Rattle.inst_drill.proofs.drilling.open.Goals.{In-Some}
 

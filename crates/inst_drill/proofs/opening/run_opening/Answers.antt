@@ -1,5 +1,5 @@
 use Rattle.std.proofs.Common.{subst, ◌∙◌, sym, refl, ap, arith, List}
-use Rattle.inst_board.specs.declared.place.Place.{Place}
+use Rattle.inst_command.specs.declared.place.Place.{Place}
 use Rattle.inst_command.specs.declared.outcome.Outcome.TheVariants.{Accepted, TimedOut}
 use Rattle.inst_command.specs.declared.outcome.State.{State}
 use Rattle.inst_settings.specs.Settings.{HubSettings}
@@ -8,7 +8,7 @@ use Rattle.inst_participant.specs.Together.{histories}
 use Rattle.inst_drill.specs.Report.{ended}
 use Rattle.inst_drill.specs.inner.Chain.{opening_of}
 use Rattle.inst_drill.specs.inner.Report.{NoneContradicts}
-use Rattle.inst_drill.proofs.Seen.{none_contradicts, same_number}
+use Rattle.inst_drill.proofs.SeenStatesAreInBooks.{none_contradicts, same_number}
 use Rattle.inst_drill.proofs.opening.run_opening.Goals as goal
 
 pub returns-clause-drilled : goal.returns-clause-drilled

@@ -3,8 +3,8 @@ use Rattle.inst_hub.specs.declared.teller.Teller.{Teller}
 use Rattle.inst_hub.specs.Calls.{AreOf}
 use Rattle.inst_hub.specs.Opening.{parts_of}
 use Rattle.inst_crew.specs.Seen.{AreSeenByOne}
-use Rattle.inst_drill.proofs.Seen.{seen_later}
-use Rattle.inst_drill.proofs.Staffed.{all_tellers}
+use Rattle.inst_drill.proofs.SeenStatesAreInBooks.{seen_later}
+use Rattle.inst_drill.proofs.StaffOfOpening.{all_tellers}
 use Rattle.inst_drill.proofs.opening.work.Goals as goal
 
 pub submit-requires-after_bounds : goal.submit-requires-after_bounds

@@ -1,6 +1,6 @@
 use Rattle.std.proofs.Common.{refl, ◌∙◌, ◌++◌, ap, if◌then◌else◌, Ok, Err, List, ℕ, arith}
 use Rattle.inst_base.specs.declared.fault.Fault.TheVariants.{BadIdentifier}
-use Rattle.inst_drill.proofs.Naming.{named}
+use Rattle.inst_drill.proofs.IdentifierOfNumber.{named}
 use Rattle.inst_drill.proofs.plan.name.Goals as goal
 
 pub unreachable-requires : goal.unreachable-requires

@@ -1,5 +1,5 @@
 use Rattle.inst_board.specs.Plain.{Contents, plain_knows}
-use Rattle.inst_fixtures.proofs.Together.{lawful_are, others_are}
+use Rattle.inst_fixtures.proofs.SlotsOverOneBoard.{lawful_are, others_are}
 use Rattle.inst_fixtures.proofs.acts.act_of.Goals.{in-Deliver+in_ok-is_new-in-Deliver, in-Learn+in_ok-is_new-in-Learn, in-Adopt, in-Expire+in_ok-is_new-in-Expire}
 use Rattle.inst_fixtures.proofs.acts.act_of.Goals as goal
 

@@ -1,8 +1,8 @@
 use Rattle.std.proofs.Common.{◌≡◌, arith}
 use Rattle.inst_board.specs.Plain.{Contents, plain_knows}
 use Rattle.inst_slot.specs.Opening.{unfound}
-use Rattle.inst_slot.proofs.Adopting.{asks_adopted}
-use Rattle.inst_slot.proofs.Found.{all_found}
+use Rattle.inst_slot.proofs.ForwardedTransfersHavePlaces.{asks_adopted}
+use Rattle.inst_slot.proofs.ArrivalGetsItsPlace.{all_found}
 use Rattle.inst_fixtures.proofs.acts.ask_of.Goals as goal
 
 pub apply-requires-clause-adopted : goal.apply-requires-clause-adopted

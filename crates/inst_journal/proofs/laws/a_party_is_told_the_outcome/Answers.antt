@@ -1,4 +1,4 @@
-use Rattle.inst_journal.proofs.Answering.{told_the_outcome, told_nothing}
+use Rattle.inst_journal.proofs.OutcomeIsToldToPartiesAlone.{told_the_outcome, told_nothing}
 use Rattle.inst_journal.proofs.laws.a_party_is_told_the_outcome.Goals as goal
 
 pub returns-clause-party : goal.returns-clause-party

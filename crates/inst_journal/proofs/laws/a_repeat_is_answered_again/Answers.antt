@@ -1,4 +1,4 @@
-use Rattle.inst_journal.proofs.Repeating.{the_very_same, answered_again}
+use Rattle.inst_journal.proofs.RepeatIsAnsweredAgain.{the_very_same, answered_again}
 use Rattle.inst_journal.proofs.laws.a_repeat_is_answered_again.Goals as goal
 
 pub returns-clause-same : goal.returns-clause-same

@@ -1,5 +1,5 @@
-use Rattle.inst_journal.proofs.Leading.{count_from_one, begins_a_statement, leads_to_the_position}
-use Rattle.inst_journal.proofs.Paging.{next_part}
+use Rattle.inst_journal.proofs.StatementLeadsToPosition.{count_from_one, begins_a_statement, leads_to_the_position}
+use Rattle.inst_journal.proofs.PagesOfInboxAndStatement.{next_part}
 use Rattle.inst_journal.proofs.laws.a_statement_leads_to_the_position.Goals as goal
 
 pub returns-clause-numbers : goal.returns-clause-numbers

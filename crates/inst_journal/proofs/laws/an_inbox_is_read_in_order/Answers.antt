@@ -1,4 +1,4 @@
-use Rattle.inst_journal.proofs.Paging.{in_order_of_arrival, next_page}
+use Rattle.inst_journal.proofs.PagesOfInboxAndStatement.{in_order_of_arrival, next_page}
 use Rattle.std.proofs.Common.{refl}
 use Rattle.inst_journal.proofs.laws.an_inbox_is_read_in_order.Goals as goal
 

@@ -1,4 +1,4 @@
-use Rattle.inst_journal.proofs.Living.{same_money, same_keys, begins_anew}
+use Rattle.inst_journal.proofs.EffectsOfAnOpening.{same_money, same_keys, begins_anew}
 use Rattle.inst_journal.proofs.laws.an_opening_keeps_the_books.Goals as goal
 
 pub returns-clause-keeps : goal.returns-clause-keeps

@@ -1,4 +1,4 @@
-use Rattle.inst_journal.proofs.Living.{living_within}
+use Rattle.inst_journal.proofs.EffectsOfAnOpening.{living_within}
 use Rattle.inst_journal.proofs.laws.the_live_have_places.Goals as goal
 
 pub returns : goal.returns

@@ -1,7 +1,7 @@
 use Rattle.std.proofs.Common.{◌≡◌, sym, refl, subst, arith, ℕ, List, ◌+◌, true, false}
 use Rattle.inst_journal.specs.declared.event.Event.{Event}
 use Rattle.inst_journal.specs.Opened.{is_opening}
-use Rattle.inst_journal.proofs.Carrying.{LastOpened, last_opened, last_before, carried_all, current_all}
+use Rattle.inst_journal.proofs.EventsCarriedOverOpening.{LastOpened, last_opened, last_before, carried_all, current_all}
 use Rattle.inst_journal.proofs.opened.carried_length.Goals as goal
 use Rattle.inst_journal.proofs.opened.carried_length.Goals.{then-is_opening, else-is_opening}
 

@@ -1,4 +1,4 @@
-use Rattle.inst_journal.proofs.Carrying.{LastOpened}
+use Rattle.inst_journal.proofs.EventsCarriedOverOpening.{LastOpened}
 use Rattle.inst_journal.proofs.opened.carried_length.Given as goal
 
 abbrev pub invariant-loop-index : goal.invariant-loop-index

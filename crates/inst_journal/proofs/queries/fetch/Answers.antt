@@ -1,4 +1,4 @@
-use Rattle.inst_journal.proofs.Reading.{handed_within}
+use Rattle.inst_journal.proofs.HandedOutWithinInbox.{handed_within}
 use Rattle.inst_journal.proofs.queries.fetch.Goals as goal
 
 pub unread-requires : goal.unread-requires

@@ -1,6 +1,6 @@
 use Rattle.std.proofs.Common.{arith}
-use Rattle.inst_journal.proofs.Counting.{position_fits}
-use Rattle.inst_journal.proofs.Covering.{covered}
+use Rattle.inst_journal.proofs.CountsOfEvents.{position_fits}
+use Rattle.inst_journal.proofs.PaidAndReservedIsCovered.{covered}
 use Rattle.inst_journal.proofs.queries.position.Goals as goal
 
 pub overflow_cast-result : goal.overflow_cast-result

@@ -1,5 +1,5 @@
 use Rattle.std.proofs.Common.{arith}
-use Rattle.inst_journal.proofs.Reading.{inbox_short}
+use Rattle.inst_journal.proofs.HandedOutWithinInbox.{inbox_short}
 use Rattle.inst_journal.proofs.queries.unread.Goals as goal
 
 pub handed_out-read-requires : goal.handed_out-read-requires

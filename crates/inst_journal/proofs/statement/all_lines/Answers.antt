@@ -3,7 +3,7 @@ use Rattle.std.proofs.lemmas.Grind.{common_steps}
 use Rattle.inst_command.specs.declared.line.Line.{Line}
 use Rattle.inst_journal.specs.declared.event.Event.{Event}
 use Rattle.inst_journal.specs.Statement.{line_of, statement}
-use Rattle.inst_journal.proofs.Walking.{lines_few, sound_front, walked_none, walked_some}
+use Rattle.inst_journal.proofs.WalkOverFronts.{lines_few, sound_front, walked_none, walked_some}
 use Rattle.inst_journal.proofs.statement.all_lines.Goals as goal
 use Rattle.inst_journal.proofs.statement.all_lines.Goals.{in-Some+in_ok-push, in_default}
 

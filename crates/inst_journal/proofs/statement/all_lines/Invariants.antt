@@ -1,5 +1,5 @@
 use Rattle.inst_journal.specs.Statement.{statement}
-use Rattle.inst_journal.proofs.Walking.{Walked}
+use Rattle.inst_journal.proofs.WalkOverFronts.{Walked}
 use Rattle.inst_journal.proofs.statement.all_lines.Given as goal
 
 abbrev pub invariant-loop-index : goal.invariant-loop-index

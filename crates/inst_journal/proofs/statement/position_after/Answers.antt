@@ -1,5 +1,5 @@
 use Rattle.std.proofs.Common.{arith, rules}
-use Rattle.inst_journal.proofs.Counting.{position_fits}
+use Rattle.inst_journal.proofs.CountsOfEvents.{position_fits}
 use Rattle.inst_journal.proofs.statement.position_after.Goals as goal
 
 pub overflow_cast-result : goal.overflow_cast-result

@@ -2,8 +2,8 @@ use Rattle.std.proofs.Common.{◌∙◌, ◌≡◌, ◌++◌, ap, List, ℕ}
 use Rattle.std.proofs.lemmas.Result.{on_ok_weaker}
 use Rattle.serde_json.specs.Written.{compact_text}
 use Rattle.inst_json.specs.Replies.{entry_data}
-use Rattle.inst_json.proofs.Plain.{escape-code, escape-identifier}
-use Rattle.inst_json.proofs.Texts.{one_more, entry_line, entry_text}
+use Rattle.inst_json.proofs.TextsWithoutEscapes.{escape-code, escape-identifier}
+use Rattle.inst_json.proofs.ReplyTexts.{one_more, entry_line, entry_text}
 use Rattle.inst_json.proofs.lists.append_entry.Goals as goal
 
 pub returns-clause-text : goal.returns-clause-text

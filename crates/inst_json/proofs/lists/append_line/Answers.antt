@@ -4,10 +4,10 @@ use Rattle.std.proofs.lemmas.Bool.Decides.{nat_tests}
 use Rattle.std.proofs.lemmas.Result.{on_ok_weaker}
 use Rattle.std.proofs.lemmas.Fmt.{length-decimal-le}
 use Rattle.inst_command.specs.LineText.{last_number, line_text}
-use Rattle.inst_command.proofs.Latin.{line_text-latin, latin-code}
-use Rattle.inst_command.proofs.Widths.{identifier_form}
-use Rattle.inst_json.proofs.Plain.{escape-latin}
-use Rattle.inst_json.proofs.Texts.{quoted_line}
+use Rattle.inst_command.proofs.LineTextIsLatin.{line_text-latin, latin-code}
+use Rattle.inst_command.proofs.ColumnWidths.{identifier_form}
+use Rattle.inst_json.proofs.TextsWithoutEscapes.{escape-latin}
+use Rattle.inst_json.proofs.ReplyTexts.{quoted_line}
 use Rattle.inst_json.proofs.Rows.{filled_row}
 use Rattle.inst_json.proofs.lists.append_line.Goals as goal
 

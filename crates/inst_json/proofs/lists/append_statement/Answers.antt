@@ -1,7 +1,7 @@
 use Rattle.std.proofs.Common.{◌∙◌, arith}
 use Rattle.std.proofs.lemmas.Grind.{common_steps}
 use Rattle.std.proofs.lemmas.Result.{on_ok_weaker}
-use Rattle.inst_json.proofs.Texts.{statement_line}
+use Rattle.inst_json.proofs.ReplyTexts.{statement_line}
 use Rattle.inst_json.proofs.lists.append_statement.Goals as goal
 
 pub returns : goal.returns

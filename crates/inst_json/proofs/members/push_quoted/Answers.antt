@@ -1,7 +1,7 @@
 use Rattle.std.proofs.Common.{[], ◌∷◌, ◌++◌, ap, sym, ◌∙◌, List, ℕ}
 use Rattle.std.proofs.lemmas.Result.{on_ok_weaker}
-use Rattle.inst_json.proofs.Plain.{escape_plain}
-use Rattle.inst_json.proofs.Texts.{one_more}
+use Rattle.inst_json.proofs.TextsWithoutEscapes.{escape_plain}
+use Rattle.inst_json.proofs.ReplyTexts.{one_more}
 use Rattle.inst_json.proofs.members.push_quoted.Goals as goal
 
 pub returns : goal.returns

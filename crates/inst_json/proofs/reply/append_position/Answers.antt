@@ -1,6 +1,6 @@
 use Rattle.std.proofs.Common.{◌++◌, ap, ◌∙◌, List, ℕ}
 use Rattle.std.proofs.lemmas.Result.{on_ok_weaker}
-use Rattle.inst_json.proofs.Texts.{one_more, position_line}
+use Rattle.inst_json.proofs.ReplyTexts.{one_more, position_line}
 use Rattle.inst_json.proofs.reply.append_position.Goals as goal
 
 pub returns : goal.returns

@@ -1,6 +1,6 @@
 use Rattle.std.proofs.Common.{◌++◌, ap, ap₂, ◌∙◌, List, ℕ, codes, decimal}
 use Rattle.std.proofs.lemmas.Result.{on_ok_weaker}
-use Rattle.inst_json.proofs.Texts.{one_more, refused_line}
+use Rattle.inst_json.proofs.ReplyTexts.{one_more, refused_line}
 use Rattle.inst_json.proofs.reply.append_refused.Goals as goal
 
 pub returns : goal.returns

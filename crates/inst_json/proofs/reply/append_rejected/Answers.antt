@@ -2,8 +2,8 @@ use Rattle.std.proofs.Common.{◌++◌, ap, ap₂, ◌∙◌, List, ℕ}
 use Rattle.std.proofs.lemmas.Result.{on_ok_weaker}
 use Rattle.serde_json.specs.Written.{compact_text}
 use Rattle.inst_json.specs.Replies.{rejected_data}
-use Rattle.inst_json.proofs.Plain.{escape-code, escape-identifier, escape-reason}
-use Rattle.inst_json.proofs.Texts.{one_more, rejected_line}
+use Rattle.inst_json.proofs.TextsWithoutEscapes.{escape-code, escape-identifier, escape-reason}
+use Rattle.inst_json.proofs.ReplyTexts.{one_more, rejected_line}
 use Rattle.inst_json.proofs.reply.append_rejected.Goals as goal
 
 pub returns : goal.returns

@@ -2,8 +2,8 @@ use Rattle.std.proofs.Common.{◌++◌, ap, ◌∙◌, List, ℕ}
 use Rattle.std.proofs.lemmas.Result.{on_ok_weaker}
 use Rattle.serde_json.specs.Written.{compact_text}
 use Rattle.inst_json.specs.Replies.{taken_data}
-use Rattle.inst_json.proofs.Plain.{escape-identifier}
-use Rattle.inst_json.proofs.Texts.{one_more, taken_line}
+use Rattle.inst_json.proofs.TextsWithoutEscapes.{escape-identifier}
+use Rattle.inst_json.proofs.ReplyTexts.{one_more, taken_line}
 use Rattle.inst_json.proofs.reply.append_taken.Goals as goal
 
 pub returns : goal.returns

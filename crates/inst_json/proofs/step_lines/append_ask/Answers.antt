@@ -2,7 +2,7 @@ use Rattle.std.proofs.Common.{[], ◌∷◌, ◌++◌, ap₂, ◌∙◌, codes, 
 use Rattle.std.proofs.lemmas.Result.{on_ok_weaker}
 use Rattle.serde_json.specs.Data.{string}
 use Rattle.inst_json.specs.Replies.{whole}
-use Rattle.inst_json.specs.StepLines.{command_rows, line_of}
+use Rattle.inst_json.specs.StepLines.{command_rows, members_line}
 use Rattle.inst_json.proofs.Tables.{one_member, whole_line}
 use Rattle.inst_json.proofs.step_lines.append_ask.Goals as goal
 
@@ -13,5 +13,5 @@ returns-clause-text c =
     let who = c.code_text-who.result.now in
     let rows = command_rows c.args.settings.now c.args.ask.now.command in
     let rest = one_member c.begin_with_whole.new.out.items rows (codes "who", string who) c.in_ok-push_command.ensures.text c.in_ok-push_text_member.ensures in
-    let same = ap₂ (λ n (w : List ℕ). old ++ line_of ((codes "at", whole n) ∷ (rows ++ (codes "who", string w) ∷ []))) c.millis-at.ensures.value c.code_text-who.ensures.value in
+    let same = ap₂ (λ n (w : List ℕ). old ++ members_line ((codes "at", whole n) ∷ (rows ++ (codes "who", string w) ∷ []))) c.millis-at.ensures.value c.code_text-who.ensures.value in
     on_ok_weaker c.push_end.result (λ h. whole_line old (codes "at", whole at) (rows ++ (codes "who", string who) ∷ []) c.in_ok-begin_with_whole.ensures rest h ∙ same) c.push_end.ensures

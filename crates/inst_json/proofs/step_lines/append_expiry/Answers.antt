@@ -2,7 +2,7 @@ use Rattle.std.proofs.Common.{[], ◌∷◌, ◌++◌, ap, ap₂, ◌∙◌, cod
 use Rattle.std.proofs.lemmas.Result.{on_ok_weaker}
 use Rattle.serde_json.specs.Data.{string}
 use Rattle.inst_json.specs.Replies.{whole}
-use Rattle.inst_json.specs.StepLines.{named_step, line_of}
+use Rattle.inst_json.specs.StepLines.{named_step, members_line}
 use Rattle.inst_json.proofs.Tables.{four_line}
 use Rattle.inst_json.proofs.step_lines.append_expiry.Goals as goal
 
@@ -11,7 +11,7 @@ returns-clause-text c =
     let old : List ℕ = c.args.out.now.items in
     let at = c.millis-at.result in
     let who = c.code_text-who.result.now in
-    let line : ℕ → ℕ → List ℕ → List ℕ = λ place a w. line_of ((codes "at", whole a) ∷ (codes "place", whole place) ∷ named_step (codes "expire") ∷ (codes "who", string w) ∷ []) in
+    let line : ℕ → ℕ → List ℕ → List ℕ = λ place a w. members_line ((codes "at", whole a) ∷ (codes "place", whole place) ∷ named_step (codes "expire") ∷ (codes "who", string w) ∷ []) in
     let same = ap (λ n. old ++ line n at who) c.from.ensures ∙ ap₂ (λ n (w : List ℕ). old ++ line c.args.index n w) c.millis-at.ensures.value c.code_text-who.ensures.value in
     on_ok_weaker c.push_end.result
     (λ h. four_line old (codes "at", whole at) (codes "place", whole c.from.result) (named_step (codes "expire")) (codes "who", string who)

@@ -2,7 +2,7 @@ use Rattle.std.proofs.Common.{[], ◌∷◌, ◌++◌, ap, ap₂, ◌∙◌, cod
 use Rattle.std.proofs.lemmas.Result.{on_ok_weaker}
 use Rattle.serde_json.specs.Data.{string}
 use Rattle.inst_json.specs.Replies.{whole}
-use Rattle.inst_json.specs.StepLines.{named_step, line_of}
+use Rattle.inst_json.specs.StepLines.{named_step, members_line}
 use Rattle.inst_json.proofs.Tables.{four_line}
 use Rattle.inst_json.proofs.step_lines.append_passing.Goals as goal
 
@@ -12,7 +12,7 @@ returns-clause-text c =
     let from = c.code_text-from.result.now in
     let who = c.code_text-who.result.now in
     let step = c.args.name.now in
-    let line : ℕ → List ℕ → List ℕ → List ℕ = λ place f w. line_of ((codes "from", string f) ∷ (codes "place", whole place) ∷ named_step step ∷ (codes "who", string w) ∷ []) in
+    let line : ℕ → List ℕ → List ℕ → List ℕ = λ place f w. members_line ((codes "from", string f) ∷ (codes "place", whole place) ∷ named_step step ∷ (codes "who", string w) ∷ []) in
     let same = ap (λ n. old ++ line n from who) c.from.ensures ∙ ap₂ (λ (f w : List ℕ). old ++ line c.args.passing.index f w) c.code_text-from.ensures.value c.code_text-who.ensures.value in
     on_ok_weaker c.push_end.result
     (λ h. four_line old (codes "from", string from) (codes "place", whole c.from.result) (named_step step) (codes "who", string who)

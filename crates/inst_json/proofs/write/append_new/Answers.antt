@@ -1,6 +1,6 @@
 use Rattle.std.proofs.Common.{◌++◌, ap, ◌∙◌, List, ℕ, codes}
 use Rattle.std.proofs.lemmas.Result.{on_ok_weaker}
-use Rattle.inst_json.proofs.Texts.{one_more, new_line}
+use Rattle.inst_json.proofs.ReplyTexts.{one_more, new_line}
 use Rattle.inst_json.proofs.write.append_new.Goals as goal
 
 pub returns : goal.returns

@@ -1,6 +1,6 @@
 use Rattle.std.proofs.Common.{ap, ◌∙◌, rules}
 use Rattle.serde_json.specs.Read.{read}
-use Rattle.inst_json.proofs.Reading.{answer_reads_back}
+use Rattle.inst_json.proofs.ReplyReadsBack.{answer_reads_back}
 use Rattle.inst_json.proofs.write.write_answer.Goals as goal
 
 pub returns-clause-text : goal.returns-clause-text

@@ -1,6 +1,6 @@
 use Rattle.std.proofs.Common.{ap, ◌∙◌, rules}
 use Rattle.serde_json.specs.Read.{read}
-use Rattle.inst_json.proofs.Reading.{words_read_back}
+use Rattle.inst_json.proofs.ReplyReadsBack.{words_read_back}
 use Rattle.inst_json.proofs.write.write_reply.Goals as goal
 
 pub returns-clause-text : goal.returns-clause-text

@@ -1,4 +1,4 @@
-use Rattle.inst_ledger.proofs.Right.{right_of}
+use Rattle.inst_ledger.proofs.TableStaysRight.{right_of}
 use Rattle.inst_ledger.proofs.laws.a_table_is_right.Goals as goal
 
 pub returns : goal.returns

@@ -9,8 +9,8 @@ use Rattle.inst_settings.specs.Settings.{HubSettings}
 use Rattle.inst_json.specs.Lines.{command_of_line}
 use Rattle.inst_lines.specs.Answering.{command_answer, after_command}
 use Rattle.inst_lines.specs.declared.mode.Mode.TheVariants.{Run}
-use Rattle.inst_lines.proofs.AnsweringLemmas.{command_read, read_ok, read_err, refused_read}
-use Rattle.inst_lines.proofs.Writing.{model_written}
+use Rattle.inst_lines.proofs.AnswerToHeldLine.{command_read, read_ok, read_err, refused_read}
+use Rattle.inst_lines.proofs.AnswersCanBeWritten.{model_written}
 use Rattle.inst_lines.proofs.answer.answer_command.Goals as goal
 
 pub returns-in_ok-follow_up-in-Ok : goal.returns-in_ok-follow_up-in-Ok

@@ -3,7 +3,7 @@ use Rattle.std.proofs.lemmas.Result.{IfOk-weaker}
 use Rattle.serde_json.specs.Written.{compact_text}
 use Rattle.inst_json.specs.Replies.{answer_data}
 use Rattle.inst_base.specs.Newline.{newline}
-use Rattle.inst_lines.proofs.AnsweringLemmas.{answers_line, ok_both}
+use Rattle.inst_lines.proofs.AnswerToHeldLine.{answers_line, ok_both}
 use Rattle.inst_lines.proofs.answer.answer_part.Goals as goal
 
 pub returns : goal.returns

@@ -8,8 +8,8 @@ use Rattle.inst_settings.specs.Settings.{HubSettings}
 use Rattle.inst_json.specs.Lines.{step_of_line}
 use Rattle.inst_lines.specs.Answering.{script_answer, after_script}
 use Rattle.inst_lines.specs.declared.mode.Mode.TheVariants.{Play}
-use Rattle.inst_lines.proofs.AnsweringLemmas.{script_answered, read_ok, read_err, refused_read}
-use Rattle.inst_lines.proofs.Writing.{result_written}
+use Rattle.inst_lines.proofs.AnswerToHeldLine.{script_answered, read_ok, read_err, refused_read}
+use Rattle.inst_lines.proofs.AnswersCanBeWritten.{result_written}
 use Rattle.inst_lines.proofs.answer.answer_step.Goals as goal
 
 pub returns-in-Ok : goal.returns-in-Ok

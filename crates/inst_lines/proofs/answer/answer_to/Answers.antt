@@ -2,7 +2,7 @@ use Rattle.std.proofs.Common.{◌≡◌, false, nat_lt, length, sym, ◌∙◌, 
 use Rattle.std.proofs.lemmas.Bool.{or_parts}
 use Rattle.std.proofs.lemmas.Result.{IfOk-weaker}
 use Rattle.inst_lines.specs.Limits.{most_line_bytes}
-use Rattle.inst_lines.proofs.AnsweringLemmas.{command_whole, script_whole}
+use Rattle.inst_lines.proofs.AnswerToHeldLine.{command_whole, script_whole}
 use Rattle.inst_lines.proofs.answer.answer_to.Goals as goal
 
 pub returns-in-Run : goal.returns-in-Run

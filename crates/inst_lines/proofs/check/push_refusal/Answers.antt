@@ -1,6 +1,6 @@
 use Rattle.std.proofs.Common.{◌++◌, ap₂, ◌∙◌, List, ℕ, codes, decimal}
 use Rattle.std.proofs.lemmas.Result.{on_ok_weaker}
-use Rattle.inst_json.proofs.Texts.{one_more}
+use Rattle.inst_json.proofs.ReplyTexts.{one_more}
 use Rattle.inst_lines.specs.Check.{field_text}
 use Rattle.inst_lines.proofs.check.push_refusal.Goals as goal
 

@@ -1,7 +1,7 @@
 use Rattle.std.proofs.Common.{rules, ◌<◌, length}
 use Rattle.std.proofs.lemmas.List.{take_rest}
 use Rattle.std.proofs.lemmas.Result.{on_ok_weaker}
-use Rattle.inst_lines.proofs.Checking.{told-line, told-last}
+use Rattle.inst_lines.proofs.RefusedLinesToldSoFar.{told-line, told-last}
 use Rattle.inst_lines.proofs.check.tell_lines.Goals as goal
 
 pub loop-len-preserved : goal.loop-len-preserved

@@ -1,5 +1,5 @@
 use Rattle.std.proofs.Common.{length}
-use Rattle.inst_lines.proofs.Checking.{ToldFirst}
+use Rattle.inst_lines.proofs.RefusedLinesToldSoFar.{ToldFirst}
 use Rattle.inst_lines.proofs.check.tell_lines.Given as goal
 
 abbrev pub invariant-loop-len : goal.invariant-loop-len

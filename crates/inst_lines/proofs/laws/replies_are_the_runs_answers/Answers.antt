@@ -1,4 +1,4 @@
-use Rattle.inst_lines.proofs.Replying.{replies_are_answers}
+use Rattle.inst_lines.proofs.RepliesAreAnswers.{replies_are_answers}
 use Rattle.inst_lines.proofs.laws.replies_are_the_runs_answers.Goals as goal
 
 pub returns : goal.returns

@@ -1,10 +1,10 @@
 use Rattle.std.proofs.lemmas.Result.{err_from_is_err_and}
-use Rattle.inst_lines.specs.Answering.{answering, opened}
+use Rattle.inst_lines.specs.Answering.{hub_answerer, opened}
 use Rattle.inst_lines.specs.Lines.{lines_of}
 use Rattle.inst_lines.specs.Session.{FailsAfter}
-use Rattle.inst_lines.proofs.AnsweringLemmas.{keeps_opened}
-use Rattle.inst_lines.proofs.RunBehind.{opened_keep}
-use Rattle.inst_lines.proofs.SessionLemmas.{err_passed}
+use Rattle.inst_lines.proofs.AnswerToHeldLine.{keeps_opened}
+use Rattle.inst_lines.proofs.RunBehindLines.{opened_keep}
+use Rattle.inst_lines.proofs.ProgressOfSession.{err_passed}
 use Rattle.inst_lines.proofs.run.serve_lines.Goals as goal
 
 pub returns-clause-output : goal.returns-clause-output
@@ -34,7 +34,7 @@ returns-in_err-counts-clause-err g c =
     let now' = g.W.Write.contents c.answer_lines.new.writer in
     let left = g.R.Read.remaining c.args.reader.now in
     let left' = g.R.Read.remaining c.answer_lines.new.reader in
-    err_passed (FailsAfter (answering c.args.mode) (opened s) before now' left left') c.from_residual-in_err-counts.result _
+    err_passed (FailsAfter (hub_answerer c.args.mode) (opened s) before now' left left') c.from_residual-in_err-counts.result _
     (err_from_is_err_and c.from_residual-in_err-counts.result c.from_residual-in_err-counts.ensures.1)
     (c.in_err-counts.ensures.err (opened s) (keeps_opened s c.in_ok-runner.runner c.in_ok-runner.ensures.settings c.in_ok-runner.ensures.watches c.args.mode))
 

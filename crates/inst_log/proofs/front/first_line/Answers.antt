@@ -1,5 +1,5 @@
 use Rattle.std.proofs.Common.{rules}
-use Rattle.inst_log.proofs.Mending.{first_line_is}
+use Rattle.inst_log.proofs.CrashDuringRepair.{first_line_is}
 use Rattle.inst_log.proofs.Lines.{none_without_newline}
 use Rattle.inst_log.proofs.front.first_line.Goals as goal
 

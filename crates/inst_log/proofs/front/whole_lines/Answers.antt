@@ -1,4 +1,4 @@
-use Rattle.inst_log.proofs.Mending.{front_of_file}
+use Rattle.inst_log.proofs.CrashDuringRepair.{front_of_file}
 use Rattle.inst_log.proofs.front.whole_lines.Goals as goal
 
 pub returns : goal.returns

@@ -1,5 +1,5 @@
 use Rattle.std.proofs.Common.{refl}
-use Rattle.inst_log.proofs.Beginning.{begins_test}
+use Rattle.inst_log.proofs.FilesOpenWithSettings.{begins_test}
 use Rattle.inst_log.proofs.opening.begins.Goals as goal
 
 pub returns : goal.returns

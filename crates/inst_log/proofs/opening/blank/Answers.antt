@@ -1,5 +1,5 @@
 use Rattle.std.proofs.lemmas.Result.{on_ok_weaker}
-use Rattle.inst_log.proofs.Beginning.{blanked}
+use Rattle.inst_log.proofs.FilesOpenWithSettings.{blanked}
 use Rattle.inst_log.proofs.opening.blank.Goals as goal
 
 pub returns-clause-written : goal.returns-clause-written

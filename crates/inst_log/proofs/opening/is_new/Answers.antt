@@ -1,5 +1,5 @@
-use Rattle.inst_log.proofs.Beginning.{new_test}
-use Rattle.inst_log.proofs.Crash.{tail_is}
+use Rattle.inst_log.proofs.FilesOpenWithSettings.{new_test}
+use Rattle.inst_log.proofs.CrashDuringAppend.{tail_is}
 use Rattle.inst_log.proofs.opening.is_new.Goals as goal
 
 pub returns : goal.returns

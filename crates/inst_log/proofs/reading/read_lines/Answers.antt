@@ -1,10 +1,10 @@
 use Rattle.std.proofs.Common.{◌≡◌, ◌++◌, [], List, ℕ, length, take, refl, ◌∙◌, sym, ap, subst, arith, length-append, rules}
 use Rattle.std.proofs.lemmas.Result.{err_from_is_err_and}
 use Rattle.sqlite_disk.specs.Disk.{MoreFaults}
-use Rattle.inst_log.specs.Layout.{recovered, blocks, IsWhole}
+use Rattle.inst_log.specs.Layout.{recovered_lines, blocks, AreWholeLines}
 use Rattle.inst_log.specs.Pieces.{IsReading}
 use Rattle.inst_log.proofs.Pieces.{lines_short, lines_more, whole_more, first_of, enough_lines, all_cut, through}
-use Rattle.inst_log.proofs.Causes.{counts_passed}
+use Rattle.inst_log.proofs.CausesOfErrors.{counts_passed}
 use Rattle.inst_log.proofs.reading.read_lines.Goals.{then-loop-found-test+else-has_more, else-loop-found-test}
 use Rattle.inst_log.proofs.reading.read_lines.Goals as goal
 
@@ -14,9 +14,9 @@ loop-found-init g c =
     let none : c.new-text.result.items ≡ [] = c.new-text.ensures.items in
     record {
       reading = λ clean.
-          subst (λ (l : List ℕ). IsReading file c.in_ok-lines.lines (recovered l)) (sym none) (c.in_ok-lines.ensures.reading clean [] file refl refl refl);
-      whole = subst IsWhole (sym none) refl;
-      found = ap (λ (l : List ℕ). length (recovered l)) (sym none);
+          subst (λ (l : List ℕ). IsReading file c.in_ok-lines.lines (recovered_lines l)) (sym none) (c.in_ok-lines.ensures.reading clean [] file refl refl refl);
+      whole = subst AreWholeLines (sym none) refl;
+      found = ap (λ (l : List ℕ). length (recovered_lines l)) (sym none);
       seen = c.new.ensures.seen;
       crash = c.new.ensures.crash;
       calm = c.in_ok-lines.ensures.calm;
@@ -43,15 +43,15 @@ loop-found-preserved g c =
     let piece = c.in_ok-piece.piece.items in
     let file = g.D.Disk.seen c.args.disk.now in
     let both : c.extend_from_slice.new.self.items ≡ text ++ piece = search rules in
-    let lines : recovered c.extend_from_slice.new.self.items ≡ recovered text ++ recovered piece = ap recovered both ∙ lines_more text piece i.whole in
-    let counted : c.count_lines.result ≡ length (recovered piece) = c.count_lines.ensures.count ∙ ap (λ (l : List ℕ). length (recovered l)) c.deref.ensures.value in
+    let lines : recovered_lines c.extend_from_slice.new.self.items ≡ recovered_lines text ++ recovered_lines piece = ap recovered_lines both ∙ lines_more text piece i.whole in
+    let counted : c.count_lines.result ≡ length (recovered_lines piece) = c.count_lines.ensures.count ∙ ap (λ (l : List ℕ). length (recovered_lines l)) c.deref.ensures.value in
     record {
       reading = λ clean.
-          let was = subst (λ (f : List ℕ). IsReading f c.loop-found.lines (recovered text)) (sym i.seen) (i.reading (c.next.ensures.clean clean)) in
-          let now = subst (λ (f : List ℕ). IsReading f c.next.new.self (recovered text ++ recovered piece)) i.seen (c.in_ok-piece.ensures.reading clean (recovered text) was) in
+          let was = subst (λ (f : List ℕ). IsReading f c.loop-found.lines (recovered_lines text)) (sym i.seen) (i.reading (c.next.ensures.clean clean)) in
+          let now = subst (λ (f : List ℕ). IsReading f c.next.new.self (recovered_lines text ++ recovered_lines piece)) i.seen (c.in_ok-piece.ensures.reading clean (recovered_lines text) was) in
           subst (IsReading file c.next.new.self) (sym lines) now;
-      whole = subst IsWhole (sym both) (whole_more text piece i.whole c.in_ok-piece.ensures.whole);
-      found = omega (arith, i.found, counted, ap length lines, length-append (recovered text) (recovered piece));
+      whole = subst AreWholeLines (sym both) (whole_more text piece i.whole c.in_ok-piece.ensures.whole);
+      found = omega (arith, i.found, counted, ap length lines, length-append (recovered_lines text) (recovered_lines piece));
       seen = c.next.ensures.seen ∙ i.seen;
       crash = λ left may. i.crash left (c.next.ensures.crash left may);
       calm = c.in_ok-piece.ensures.calm ∙ i.calm;
@@ -65,14 +65,14 @@ returns-clause-lines g c clean =
     let text = c.loop-found.text.items in
     let file = g.D.Disk.seen c.args.disk.now in
     let reading = i.reading clean in
-    let size : c.lines_len.result ≡ length (blocks (take c.args.count (recovered text))) =
-    c.lines_len.ensures.len ∙ ap (λ (l : List ℕ). length (blocks (take c.args.count (recovered l)))) c.deref-2.ensures.value in
+    let size : c.lines_len.result ≡ length (blocks (take c.args.count (recovered_lines text))) =
+    c.lines_len.ensures.len ∙ ap (λ (l : List ℕ). length (blocks (take c.args.count (recovered_lines l)))) c.deref-2.ensures.value in
     let cut : c.truncate.new.self.items ≡ take c.lines_len.result text = search rules in
-    let enough : take c.args.count (recovered file) ≡ take c.args.count (recovered text) = elim c.loop-found-test.branch [
+    let enough : take c.args.count (recovered_lines file) ≡ take c.args.count (recovered_lines text) = elim c.loop-found-test.branch [
       | then-loop-found-test+else-has_more w ↦
-          ap (take c.args.count) (all_cut file c.loop-found.lines.cutter (recovered text) reading.cut (through file c.loop-found.lines (recovered text) reading (sym w.has_more.ensures ∙ w.if-has_more.false)))
+          ap (take c.args.count) (all_cut file c.loop-found.lines.cutter (recovered_lines text) reading.cut (through file c.loop-found.lines (recovered_lines text) reading (sym w.has_more.ensures ∙ w.if-has_more.false)))
       | else-loop-found-test w ↦
-          enough_lines file c.loop-found.lines.cutter (recovered text) c.args.count reading.cut (omega (arith, w.loop-found-test.false, i.found))
+          enough_lines file c.loop-found.lines.cutter (recovered_lines text) c.args.count reading.cut (omega (arith, w.loop-found-test.false, i.found))
     ] in
     cut ∙ first_of text c.args.count c.lines_len.result i.whole size ∙ ap blocks (sym enough)
 
@@ -81,7 +81,7 @@ returns-in_err-piece-clause-cause g c =
     let i = c.loop-found.invariant in
     let old = g.D.Disk.faults c.args.disk.now in
     let new = g.D.Disk.faults c.next.new.disk in
-    let done = recovered c.loop-found.text.items in
+    let done = recovered_lines c.loop-found.text.items in
     counts_passed _ _ _ c.from_residual-in_err-piece.result _ (err_from_is_err_and c.from_residual-in_err-piece.result c.from_residual-in_err-piece.ensures.1)
     (λ failed clean. subst (λ (n : ℕ). MoreFaults n new) i.calm
     (failed clean done (subst (λ (f : List ℕ). IsReading f c.loop-found.lines done) (sym i.seen) (i.reading (c.next.ensures.clean clean))))) c.in_err-piece.ensures.cause

@@ -1,7 +1,7 @@
 use Rattle.std.proofs.Common.{subst, IsTrue}
 use Rattle.std.proofs.lemmas.Result.{on_ok_weaker}
 use Rattle.sqlite_disk.specs.Disk.{Torn}
-use Rattle.inst_log.proofs.Mending.{torn_close, closed_now}
+use Rattle.inst_log.proofs.CrashDuringRepair.{torn_close, closed_now}
 use Rattle.inst_log.proofs.repair.close_at.Goals as goal
 
 pub returns-clause-repaired : goal.returns-clause-repaired

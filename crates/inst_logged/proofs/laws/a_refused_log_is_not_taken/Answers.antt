@@ -1,4 +1,4 @@
-use Rattle.inst_logged.proofs.Causes.{not_taken}
+use Rattle.inst_logged.proofs.CausesOfRefusal.{not_taken}
 use Rattle.inst_logged.proofs.laws.a_refused_log_is_not_taken.Goals as goal
 
 pub returns : goal.returns

@@ -1,4 +1,4 @@
-use Rattle.inst_logged.proofs.Alike.{lines_answer_alike}
+use Rattle.inst_logged.proofs.LoggedLinesAnswerAlike.{lines_answer_alike}
 use Rattle.inst_logged.proofs.laws.lines_answer_alike.Goals as goal
 
 pub returns : goal.returns

@@ -1,6 +1,6 @@
-use Rattle.inst_model.proofs.Closed.{closing_closes, closing_decides_nothing, closing_only_tells, closing_again_adds_nothing, closing_leaves_nothing_to_tell, nothing_left_is_closed}
-use Rattle.inst_model.proofs.SettledUp.{closing_settles_up}
-use Rattle.inst_model.proofs.Rounds.{there_is_a_closing}
+use Rattle.inst_model.proofs.BooksAfterClosing.{closing_closes, closing_decides_nothing, closing_only_tells, closing_again_adds_nothing, closing_leaves_nothing_to_tell, nothing_left_is_closed}
+use Rattle.inst_model.proofs.NothingUntoldAfterClosing.{closing_settles_up}
+use Rattle.inst_model.proofs.ClosingExists.{there_is_a_closing}
 use Rattle.inst_model.proofs.laws.a_closing_closes_the_books.Goals as goal
 
 pub returns : goal.returns

@@ -1,4 +1,4 @@
-use Rattle.inst_model.proofs.Naming.{places_name, identifiers_name}
+use Rattle.inst_model.proofs.NamesOfTransfers.{places_name, identifiers_name}
 use Rattle.inst_model.proofs.laws.a_name_is_for_good.Goals as goal
 
 pub returns : goal.returns

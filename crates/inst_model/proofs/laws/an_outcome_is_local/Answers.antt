@@ -1,4 +1,4 @@
-use Rattle.inst_model.proofs.Local.{outcome_is_local}
+use Rattle.inst_model.proofs.OutcomeFromOwnSteps.{outcome_is_local}
 use Rattle.inst_model.proofs.laws.an_outcome_is_local.Goals as goal
 
 pub returns : goal.returns

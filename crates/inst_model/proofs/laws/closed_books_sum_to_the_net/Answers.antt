@@ -1,4 +1,4 @@
-use Rattle.inst_model.proofs.Closing.{closed_books_sum_to_the_net}
+use Rattle.inst_model.proofs.ClosedBooksSumToNet.{closed_books_sum_to_the_net}
 use Rattle.inst_model.proofs.laws.closed_books_sum_to_the_net.Goals as goal
 
 pub returns : goal.returns

@@ -1,4 +1,4 @@
-use Rattle.inst_model.proofs.Fitting.{histories_are_sound, histories_fit}
+use Rattle.inst_model.proofs.HistoriesFitOneAnother.{histories_are_sound, histories_fit}
 use Rattle.inst_model.proofs.laws.histories_are_sound_and_fit.Goals as goal
 
 pub returns : goal.returns

@@ -1,4 +1,4 @@
-use Rattle.inst_model.proofs.Conserved.{money_is_conserved}
+use Rattle.inst_model.proofs.ConservationOfMoney.{money_is_conserved}
 use Rattle.inst_model.proofs.laws.money_is_conserved.Goals as goal
 
 pub returns : goal.returns

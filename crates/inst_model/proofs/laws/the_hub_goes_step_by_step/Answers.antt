@@ -1,5 +1,5 @@
 use Rattle.std.proofs.Common.{refl}
-use Rattle.inst_model.proofs.Stepping.{at_most_one_entry_is_seen, replies_are_in_the_trace}
+use Rattle.inst_model.proofs.EntriesAndRepliesOfSteps.{at_most_one_entry_is_seen, replies_are_in_the_trace}
 use Rattle.inst_model.proofs.laws.the_hub_goes_step_by_step.Goals as goal
 
 pub returns : goal.returns

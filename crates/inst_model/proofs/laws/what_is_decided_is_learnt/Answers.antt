@@ -1,5 +1,5 @@
-use Rattle.inst_model.proofs.Learnt.{learning_books, expiry_books, delivery_forwards, nothing_decided_is_delivered}
-use Rattle.inst_model.proofs.Asking.{asking_tells}
+use Rattle.inst_model.proofs.WhatIsLearntIsBooked.{learning_books, expiry_books, delivery_forwards, nothing_decided_is_delivered}
+use Rattle.inst_model.proofs.AskerIsToldOutcome.{asking_tells}
 use Rattle.inst_model.proofs.laws.what_is_decided_is_learnt.Goals as goal
 
 pub returns : goal.returns

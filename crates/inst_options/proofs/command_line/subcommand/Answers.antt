@@ -4,13 +4,13 @@ use Rattle.clap.specs.Simple.{app_of_fields}
 use Rattle.clap.specs.Words.{App, app_of, with_rule}
 use Rattle.inst_options.specs.CommandLine.{with_rules}
 use Rattle.inst_options.specs.inner.Table.{with_groups}
-use Rattle.inst_options.specs.declared.table.Choice.{Choice}
+use Rattle.inst_options.specs.declared.table.OptionRow.{OptionRow}
 use Rattle.inst_options.specs.declared.table.Group.{Group}
 use Rattle.inst_options.proofs.command_line.subcommand.Invariants.{with_choices}
 use Rattle.inst_options.proofs.command_line.subcommand.Goals as goal
 
 -- at the end no option is to come
-all_chosen : (before after : App) (choices : List Choice) (n : ℕ) → length choices ≤ n →
+all_chosen : (before after : App) (choices : List OptionRow) (n : ℕ) → length choices ≤ n →
     with_choices after (drop n choices) ≡ with_choices before choices → after ≡ with_choices before choices
 all_chosen before after choices n most is = ap (with_choices after) (sym (drop_all n choices most)) ∙ is
 

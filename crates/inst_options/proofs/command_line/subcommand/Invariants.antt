@@ -3,11 +3,11 @@ use Rattle.clap.specs.Words.{App, app_of}
 use Rattle.inst_options.specs.CommandLine.{with_rules}
 use Rattle.inst_options.specs.inner.CommandLine.{IsLocal}
 use Rattle.inst_options.specs.inner.Table.{rule_of_choice, with_groups}
-use Rattle.inst_options.specs.declared.table.Choice.{Choice}
+use Rattle.inst_options.specs.declared.table.OptionRow.{OptionRow}
 use Rattle.inst_options.proofs.command_line.subcommand.Given as goal
 
 -- with the options of these rows
-abbrev pub with_choices : App → List Choice → App
+abbrev pub with_choices : App → List OptionRow → App
 with_choices app choices = with_rules app (map rule_of_choice choices)
 
 -- the options that are still to come make of the command what all of them make of it as the loop begins

@@ -1,6 +1,6 @@
 use Rattle.std.proofs.Common.{codes, sym, ◌∙◌}
 use Rattle.clap.specs.Words.{found_of}
-use Rattle.inst_options.proofs.Naming.{given_text, given_none}
+use Rattle.inst_options.proofs.OptionsOfLog.{given_text, given_none}
 use Rattle.inst_options.proofs.options.digest.Goals as goal
 
 pub returns-in-Some-clause-digest : goal.returns-in-Some-clause-digest

@@ -3,7 +3,7 @@ use Rattle.clap.specs.Words.{found_of, rows_of}
 use Rattle.inst_settings.specs.Settings.{same_text}
 use Rattle.inst_options.specs.Options.{AreOfNoLog}
 use Rattle.inst_options.specs.inner.Options.{AskForNone, ChooseNone}
-use Rattle.inst_options.proofs.Refused.{no_other, none_of_all, numberless, passed_more, passed_on}
+use Rattle.inst_options.proofs.OptionsWithoutSettings.{no_other, none_of_all, numberless, passed_more, passed_on}
 use Rattle.inst_options.proofs.options.hub_wish.Goals as goal
 
 pub returns-in_err-settings-clause-fault : goal.returns-in_err-settings-clause-fault

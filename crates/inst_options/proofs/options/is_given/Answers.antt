@@ -1,6 +1,6 @@
 use Rattle.std.proofs.Common.{◌∙◌, sym}
 use Rattle.clap.specs.Words.{found_of}
-use Rattle.inst_options.proofs.Naming.{given_some, some_given}
+use Rattle.inst_options.proofs.OptionsOfLog.{given_some, some_given}
 use Rattle.inst_options.proofs.options.is_given.Goals as goal
 
 pub returns : goal.returns

@@ -1,7 +1,7 @@
 use Rattle.std.proofs.Common.{codes, inr}
 use Rattle.std.specs.Str.Parse.{ParsesUnsigned, ExplainsUnsignedError, HasUnsignedDigitsIfOk}
 use Rattle.clap.specs.Words.{found_of}
-use Rattle.inst_options.proofs.Naming.{given_text, given_none, given_told}
+use Rattle.inst_options.proofs.OptionsOfLog.{given_text, given_none, given_told}
 use Rattle.inst_options.proofs.options.log_options.Goals as goal
 
 pub returns-in-Some-clause-log : goal.returns-in-Some-clause-log

@@ -1,8 +1,8 @@
 use Rattle.std.proofs.Common.{◌^◌, arith}
 use Rattle.clap.specs.Words.{found_of, rows_of}
 use Rattle.inst_options.specs.Options.{GivesNoneBelow}
-use Rattle.inst_options.proofs.Given.{none_lower, on_err}
-use Rattle.inst_options.proofs.Refused.{none_narrow}
+use Rattle.inst_options.proofs.OptionTextsAndNumbers.{none_lower, on_err}
+use Rattle.inst_options.proofs.OptionsWithoutSettings.{none_narrow}
 use Rattle.inst_options.proofs.options.medium.Goals as goal
 
 pub returns-in_err-whole-clause-none : goal.returns-in_err-whole-clause-none

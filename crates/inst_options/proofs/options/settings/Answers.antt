@@ -6,7 +6,7 @@ use Rattle.inst_options.specs.inner.Options.{ChooseNone}
 use Rattle.inst_settings.specs.Parts.{parts_of}
 use Rattle.inst_settings.specs.Settings.{HubSettings}
 use Rattle.inst_settings.specs.Lawful.{IsSettings, settings_with}
-use Rattle.inst_options.proofs.Refused.{none_in_range, no_places, no_fundings, no_limit, no_margin, no_ahead, no_ceiling, no_base, passed_on, refused_by}
+use Rattle.inst_options.proofs.OptionsWithoutSettings.{none_in_range, no_places, no_fundings, no_limit, no_margin, no_ahead, no_ceiling, no_base, passed_on, refused_by}
 use Rattle.inst_options.proofs.options.settings.Goals as goal
 
 -- the settings of the options

@@ -1,6 +1,6 @@
 use Rattle.std.proofs.Common.{◌≡◌, Some, None, sym, subst, IfOk, OnErr}
 use Rattle.clap.specs.Words.{first_of, found_of, rows_of}
-use Rattle.inst_options.proofs.Given.{none_text, text_given}
+use Rattle.inst_options.proofs.OptionTextsAndNumbers.{none_text, text_given}
 use Rattle.inst_options.proofs.options.text.Goals as goal
 
 pub returns-clause-text : goal.returns-clause-text

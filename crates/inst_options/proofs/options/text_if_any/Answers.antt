@@ -1,7 +1,7 @@
 use Rattle.std.proofs.Common.{subst, sym}
 use Rattle.clap.specs.Words.{found_of, rows_of}
 use Rattle.inst_options.specs.Options.{IsText}
-use Rattle.inst_options.proofs.Given.{text_or_none}
+use Rattle.inst_options.proofs.OptionTextsAndNumbers.{text_or_none}
 use Rattle.inst_options.proofs.options.text_if_any.Goals as goal
 
 pub returns : goal.returns

@@ -2,7 +2,7 @@ use Rattle.std.proofs.Common.{◌^◌, sym, subst, IfOk, OnErr}
 use Rattle.std.specs.Str.Parse.{ParsesUnsigned, ExplainsUnsignedError, HasUnsignedDigitsIfOk}
 use Rattle.clap.specs.Words.{found_of, rows_of}
 use Rattle.inst_options.specs.Options.{Gives, GivesNoneBelow}
-use Rattle.inst_options.proofs.Given.{none_given, number_given}
+use Rattle.inst_options.proofs.OptionTextsAndNumbers.{none_given, number_given}
 use Rattle.inst_options.proofs.options.whole.Goals as goal
 
 pub returns-clause-number : goal.returns-clause-number

@@ -3,7 +3,7 @@ use Rattle.std.specs.Box.{box_value}
 use Rattle.clap.specs.declared.parser.matches.ArgMatches.TheViews.{out-ArgMatches, out-SubCommand}
 use Rattle.clap.specs.Words.{found_of, rows_of, subcommand_rows_of}
 use Rattle.inst_options.specs.inner.Asking.{IsAsked, IsUnasked}
-use Rattle.inst_options.proofs.Refused.{both_of}
+use Rattle.inst_options.proofs.OptionsWithoutSettings.{both_of}
 use Rattle.inst_options.proofs.words.asked.Goals as goal
 use Rattle.inst_options.proofs.words.asked.Goals.{In-Some}
 

@@ -4,8 +4,8 @@ use Rattle.clap.proofs.OnLiterals.{clap_on_literals}
 use Rattle.clap.specs.Words.{HasKind, HasMatchesOf, fault_of, is_simple, is_simple_and_free, subcommand_of, subcommand_rows_of}
 use Rattle.inst_options.specs.CommandLine.{command_line}
 use Rattle.inst_options.specs.Asking.{AreWhole}
-use Rattle.inst_options.proofs.Given.{unread}
-use Rattle.inst_options.proofs.Refused.{unwished_from, wished_from}
+use Rattle.inst_options.proofs.OptionTextsAndNumbers.{unread}
+use Rattle.inst_options.proofs.OptionsWithoutSettings.{unwished_from, wished_from}
 use Rattle.inst_options.proofs.words.wished.Goals as goal
 
 simple : is_simple command_line ≡ true

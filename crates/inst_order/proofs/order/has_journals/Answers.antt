@@ -3,7 +3,7 @@ use Rattle.std.proofs.lemmas.Bool.{cases_eq, lt-ltb, false≢true}
 use Rattle.inst_settings.specs.Settings.{participants}
 use Rattle.inst_world.specs.HasRun.{journal_of}
 use Rattle.inst_world.specs.NextOpening.{books_of}
-use Rattle.inst_order.proofs.Explaining.{book_at}
+use Rattle.inst_order.proofs.StepsExplainJournals.{book_at}
 use Rattle.inst_order.proofs.order.has_journals.Goals as goal
 
 pub loop-who-preserved : goal.loop-who-preserved

@@ -4,7 +4,7 @@ use Rattle.inst_model.specs.Opening.Opening.{First}
 use Rattle.inst_world.specs.HasRun.{journal_of}
 use Rattle.inst_world.specs.Headline.{run_of, KeepsTheHeadline}
 use Rattle.inst_order.specs.Order.{ExplainsJournals}
-use Rattle.inst_order.proofs.Explaining.{if_given, explained}
+use Rattle.inst_order.proofs.StepsExplainJournals.{if_given, explained}
 use Rattle.inst_order.proofs.order.interleaving.Goals as goal
 
 pub returns : goal.returns

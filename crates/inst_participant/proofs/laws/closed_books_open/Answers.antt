@@ -1,4 +1,4 @@
-use Rattle.inst_participant.proofs.Wider.{closed_wider, open_next, open_wider}
+use Rattle.inst_participant.proofs.HistoryFitsMoreParticipants.{closed_wider, open_next, open_wider}
 use Rattle.inst_participant.proofs.laws.closed_books_open.Goals as goal
 
 pub returns : goal.returns

@@ -1,4 +1,4 @@
-use Rattle.inst_participant.proofs.Fitting.{are_closed}
+use Rattle.inst_participant.proofs.BooksOverOneBoardFit.{are_closed}
 use Rattle.inst_participant.proofs.laws.settled_books_are_closed.Goals as goal
 
 pub returns : goal.returns

@@ -1,4 +1,4 @@
-use Rattle.inst_participant.proofs.Fitting.{books_fit}
+use Rattle.inst_participant.proofs.BooksOverOneBoardFit.{books_fit}
 use Rattle.inst_participant.proofs.laws.together_books_fit.Goals as goal
 
 pub returns : goal.returns

@@ -1,4 +1,4 @@
-use Rattle.inst_participant.proofs.Fitting.{in_the_books}
+use Rattle.inst_participant.proofs.BooksOverOneBoardFit.{in_the_books}
 use Rattle.inst_participant.proofs.laws.what_is_known_is_told.Goals as goal
 
 pub returns : goal.returns

@@ -2,7 +2,7 @@ use Rattle.std.proofs.Common.{◌≡◌, ◌∙◌, arith, sym, ap, subst}
 use Rattle.inst_settings.specs.Settings.{HubSettings, participants}
 use Rattle.inst_model.specs.Closing.{AreClosed}
 use Rattle.inst_participant.specs.Together.{histories}
-use Rattle.inst_participant.proofs.Parted.{parts_on, one_more_settled, closed_then, told_then}
+use Rattle.inst_participant.proofs.OneBookSettlesOthersStay.{parts_on, one_more_settled, closed_then, told_then}
 use Rattle.inst_participant.proofs.settled.settle_each.Goals as goal
 
 pub settle_one-requires : goal.settle_one-requires

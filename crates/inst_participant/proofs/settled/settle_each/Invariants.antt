@@ -1,5 +1,5 @@
 use Rattle.inst_participant.specs.Parts.{AreLaterParts}
-use Rattle.inst_participant.proofs.Parted.{SettledBelow}
+use Rattle.inst_participant.proofs.OneBookSettlesOthersStay.{SettledBelow}
 use Rattle.inst_participant.proofs.settled.settle_each.Given as goal
 
 abbrev pub invariant-loop-who : goal.invariant-loop-who

@@ -1,5 +1,5 @@
 use Rattle.inst_participant.specs.Together.{IsSettled}
-use Rattle.inst_participant.proofs.Parted.{at, one_later, one_settled, others_settled, if_ok}
+use Rattle.inst_participant.proofs.OneBookSettlesOthersStay.{at, one_later, one_settled, others_settled, if_ok}
 use Rattle.inst_participant.proofs.settled.settle_one.Goals as goal
 
 pub settle-requires : goal.settle-requires

@@ -1,4 +1,4 @@
-use Rattle.inst_participant.proofs.PlaceByPlace.{at_ok, delivered_later, ready_on, delivered_come}
+use Rattle.inst_participant.proofs.SettlementPlaceByPlace.{at_ok, delivered_later, ready_on, delivered_come}
 use Rattle.inst_participant.proofs.settling.deliver_at.Goals as goal
 
 pub returns-in_err-deliver-clause-ready : goal.returns-in_err-deliver-clause-ready

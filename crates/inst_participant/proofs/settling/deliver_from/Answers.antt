@@ -1,4 +1,4 @@
-use Rattle.inst_participant.proofs.PlaceByPlace.{later_on, come_more}
+use Rattle.inst_participant.proofs.SettlementPlaceByPlace.{later_on, come_more}
 use Rattle.inst_participant.proofs.settling.deliver_from.Goals as goal
 
 pub returns-in_err-deliver_at-clause-later : goal.returns-in_err-deliver_at-clause-later

@@ -1,4 +1,4 @@
-use Rattle.inst_participant.proofs.PlaceByPlace.{at_ok, learnt_later, ready_on, learnt_booked}
+use Rattle.inst_participant.proofs.SettlementPlaceByPlace.{at_ok, learnt_later, ready_on, learnt_booked}
 use Rattle.inst_participant.proofs.settling.learn_at.Goals as goal
 
 pub returns-in_err-learn-clause-ready : goal.returns-in_err-learn-clause-ready

@@ -1,7 +1,7 @@
 use Rattle.std.proofs.Common.{◌≡◌, ℕ, sym, ◌∙◌, subst}
 use Rattle.inst_slot.specs.Book.{place_at}
 use Rattle.inst_participant.specs.inner.Settling.{IsBookedAt}
-use Rattle.inst_participant.proofs.PlaceByPlace.{later_on, own_more}
+use Rattle.inst_participant.proofs.SettlementPlaceByPlace.{later_on, own_more}
 use Rattle.inst_participant.proofs.settling.learn_own.Goals as goal
 
 pub returns-in_err-learn_at-clause-later : goal.returns-in_err-learn_at-clause-later

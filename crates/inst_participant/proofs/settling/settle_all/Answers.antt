@@ -3,7 +3,7 @@ use Rattle.std.specs.Prelude.{Result, Ok, Err, IfOk}
 use Rattle.std.specs.declared.alloc.AllocError.{AllocError}
 use Rattle.inst_participant.specs.Together.{IsSettled}
 use Rattle.inst_participant.specs.inner.Settling.{HaveCome}
-use Rattle.inst_participant.proofs.PlaceByPlace.{later_on, settled_then}
+use Rattle.inst_participant.proofs.SettlementPlaceByPlace.{later_on, settled_then}
 use Rattle.inst_participant.proofs.settling.settle_all.Goals as goal
 
 pub returns-in_err-learn_arrived-clause-later : goal.returns-in_err-learn_arrived-clause-later

@@ -4,7 +4,7 @@ use Rattle.std.proofs.Common.{◌≡◌, length, arith, ◌∙◌, sym, ap, List
 use Rattle.std.specs.Vec.Iter.{into_iter_items}
 use Rattle.std.proofs.lemmas.List.{nil_from_length}
 use Rattle.inst_cell.specs.declared.shared_board.SharedBoard.{SharedBoard}
-use Rattle.inst_participant.proofs.Joining.{first_so_far, more_so_far, one_table, all_joined, all_known}
+use Rattle.inst_participant.proofs.BooksLawfulOverJoinedBoard.{first_so_far, more_so_far, one_table, all_joined, all_known}
 use Rattle.inst_participant.proofs.uniting.join_all.Goals as goal
 
 pub loop-board-init : goal.loop-board-init

@@ -1,7 +1,7 @@
 use Rattle.std.proofs.Common.{List}
 use Rattle.std.specs.Vec.Iter.{into_iter_items}
 use Rattle.inst_cell.specs.declared.shared_board.SharedBoard.{SharedBoard}
-use Rattle.inst_participant.proofs.Joining.{SoFar}
+use Rattle.inst_participant.proofs.BooksLawfulOverJoinedBoard.{SoFar}
 use Rattle.inst_participant.proofs.uniting.join_all.Given as goal
 
 abbrev pub invariant-loop-board : goal.invariant-loop-board

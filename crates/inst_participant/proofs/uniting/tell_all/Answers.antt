@@ -1,7 +1,7 @@
 use Rattle.std.proofs.Common.{arith, [], ◌∷◌, ◌++◌}
 use Rattle.std.specs.Vec.Iter.{into_iter_items}
 use Rattle.std.proofs.lemmas.List.{nil_from_length}
-use Rattle.inst_participant.proofs.Joining.{more_told, teller_table, all_told}
+use Rattle.inst_participant.proofs.BooksLawfulOverJoinedBoard.{more_told, teller_table, all_told}
 use Rattle.inst_participant.proofs.uniting.tell_all.Goals as goal
 
 pub join_sight-requires : goal.join_sight-requires

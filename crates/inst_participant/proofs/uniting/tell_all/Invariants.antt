@@ -1,7 +1,7 @@
 use Rattle.std.proofs.Common.{List}
 use Rattle.std.specs.Vec.Iter.{into_iter_items}
 use Rattle.inst_cell.specs.declared.sight.Sight.{Sight}
-use Rattle.inst_participant.proofs.Joining.{ToldSoFar}
+use Rattle.inst_participant.proofs.BooksLawfulOverJoinedBoard.{ToldSoFar}
 use Rattle.inst_participant.proofs.uniting.tell_all.Given as goal
 
 abbrev pub invariant-loop-sight : goal.invariant-loop-sight

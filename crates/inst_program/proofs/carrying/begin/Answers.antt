@@ -1,10 +1,10 @@
 use Rattle.std.proofs.Common.{inl}
 use Rattle.std.proofs.lemmas.Result.{IfErr-weaker, err_from_is_err_and, on_ok_weaker, on_err_weaker}
-use Rattle.inst_program.proofs.Closing.{unbegun_in}
-use Rattle.inst_program.proofs.Passing.{err_all_at}
+use Rattle.inst_program.proofs.CausesOfUnclosedHub.{unbegun_in}
+use Rattle.inst_program.proofs.PassedOnOutcome.{err_all_at}
 use Rattle.inst_program.proofs.Statuses.{in_use_or}
 use Rattle.inst_program.specs.inner.Visiting.{IsVisitedAs}
-use Rattle.inst_program.proofs.Visiting.{begun_in, safe_in, visited}
+use Rattle.inst_program.proofs.LogAfterVisit.{begun_in, safe_in, visited}
 use Rattle.inst_program.proofs.carrying.begin.Goals as goal
 
 pub returns-clause-ok : goal.returns-clause-ok

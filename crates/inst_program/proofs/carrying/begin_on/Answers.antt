@@ -3,14 +3,14 @@ use Rattle.inst_logged.specs.Header.{header_from}
 use Rattle.inst_logged.specs.Refused.{IsTaken}
 use Rattle.inst_logged.specs.declared.version.Version.{Version}
 use Rattle.inst_logged.specs.declared.version.Version.TheVariants.{Two}
-use Rattle.inst_logged.proofs.Causes.{not_taken}
+use Rattle.inst_logged.proofs.CausesOfRefusal.{not_taken}
 use Rattle.std.proofs.lemmas.Result.{on_ok_weaker}
 use Rattle.std.specs.declared.alloc.Global.{Global}
 use Rattle.inst_logged.specs.Running.{HasKeptFaith}
 use Rattle.inst_program.specs.Files.{change_on}
 use Rattle.inst_program.specs.Keeping.{IsBegun}
-use Rattle.inst_program.proofs.Behind.{begun_new, begun_on, begun_with, left_equal, safe_on}
-use Rattle.inst_program.proofs.Passing.{err_turned, on_err_through, on_ok_through}
+use Rattle.inst_program.proofs.LogOnReturnedDisk.{begun_new, begun_on, begun_with, left_equal, safe_on}
+use Rattle.inst_program.proofs.PassedOnOutcome.{err_turned, on_err_through, on_ok_through}
 use Rattle.inst_program.proofs.carrying.begin_on.Goals as goal
 
 pub returns-clause-ok : goal.returns-clause-ok

@@ -1,5 +1,5 @@
 use Rattle.std.proofs.Common.{◌∙◌, ℕ, ◌==◌, length, ap}
-use Rattle.inst_logged.proofs.Behind.{header_of_text, log_has_a_line}
+use Rattle.inst_logged.proofs.BooksBehindFirstLine.{header_of_text, log_has_a_line}
 use Rattle.inst_program.proofs.FirstLine.{lines_of_first, none_first, none_if_empty}
 use Rattle.inst_program.proofs.carrying.beginning_of.Goals as goal
 

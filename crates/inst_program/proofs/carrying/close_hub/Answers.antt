@@ -1,14 +1,14 @@
 use Rattle.std.proofs.Common.{inl, inr, IsTrue, sym, subst}
 use Rattle.inst_agenda.specs.declared.runner.Runner.{Runner}
-use Rattle.inst_world.specs.HasRun.{settings_of}
+use Rattle.inst_world.specs.HasRun.{world_settings}
 use Rattle.inst_world.specs.NextOpening.{CanOpenFrom}
 use Rattle.inst_logged.specs.Header.{header_from}
 use Rattle.inst_logged.specs.Running.{HasKeptFaith}
 use Rattle.inst_logged.specs.declared.version.Version.TheVariants.{Two}
 use Rattle.inst_program.specs.Files.{change_on}
 use Rattle.inst_program.specs.Keeping.{CarriesBooks}
-use Rattle.inst_program.proofs.Behind.{begun_with, carries_on, left_behind, left_equal, no_opening_on, left_as_it_was, safe_closed, safe_on}
-use Rattle.inst_program.proofs.Closing.{unfound_to_close, untaken_to_close}
+use Rattle.inst_program.proofs.LogOnReturnedDisk.{begun_with, carries_on, left_behind, left_equal, no_opening_on, left_as_it_was, safe_closed, safe_on}
+use Rattle.inst_program.proofs.CausesOfUnclosedHub.{unfound_to_close, untaken_to_close}
 use Rattle.inst_program.proofs.carrying.close_hub.Goals as goal
 
 pub returns-in-Ok-Some : goal.returns-in-Ok-Some
@@ -33,9 +33,9 @@ returns-in-Ok-Some g c =
           let there = (c.requires.read (c.of_log.ensures.read.clean clean-found)).there in
           let closes = rw c.in-Ok-Some.field-0-is at (c.in-Ok-Some.ensures.ok clean) in
           let carried = carries_on disks mode s hub after c.args.disk disk' has left left' stay digest c.args.wanted asked c.in-Ok-Some.journals there closes (c.close-books.ensures.any_moment clean) in
-          subst (λ (r : Runner). CarriesBooks digest ((d : g.row.D.Denot) → IsTrue (disks.is_mixing d)) (header_from Two mode (settings_of r.world) c.in-Ok-Some.journals.items) (change_on disks c.args.disk disk'))
+          subst (λ (r : Runner). CarriesBooks digest ((d : g.row.D.Denot) → IsTrue (disks.is_mixing d)) (header_from Two mode (world_settings r.world) c.in-Ok-Some.journals.items) (change_on disks c.args.disk disk'))
           (sym c.into_parts-runner.ensures.runner) carried;
-      can = subst (λ (r : Runner). CanOpenFrom (settings_of r.world) c.in-Ok-Some.journals.items) (sym c.into_parts-runner.ensures.runner) (rw c.in-Ok-Some.field-0-is at c.in-Ok-Some.ensures.can);
+      can = subst (λ (r : Runner). CanOpenFrom (world_settings r.world) c.in-Ok-Some.journals.items) (sym c.into_parts-runner.ensures.runner) (rw c.in-Ok-Some.field-0-is at c.in-Ok-Some.ensures.can);
       err = tt;
       refused = tt;
     }

@@ -1,9 +1,9 @@
 use Rattle.std.proofs.Common.{◌∙◌, inl, inr, Ok, ap, sym, subst}
 use Rattle.inst_program.specs.inner.Carrying.{IsRead}
 use Rattle.std.proofs.lemmas.Result.{IfErr-weaker, IfOk-weaker, on_err_weaker}
-use Rattle.inst_program.proofs.Behind.{left_as_it_was}
-use Rattle.inst_program.proofs.Closing.{is_read, refused_to_close, unclosed_before, unread_to_close}
-use Rattle.inst_program.proofs.Visiting.{carries_books, left_change, safe_or}
+use Rattle.inst_program.proofs.LogOnReturnedDisk.{left_as_it_was}
+use Rattle.inst_program.proofs.CausesOfUnclosedHub.{is_read, refused_to_close, unclosed_before, unread_to_close}
+use Rattle.inst_program.proofs.LogAfterVisit.{carries_books, left_change, safe_or}
 use Rattle.inst_program.proofs.carrying.close_on.Goals as goal
 
 pub close_hub-requires-clause-read : goal.close_hub-requires-clause-read

@@ -1,10 +1,10 @@
 use Rattle.std.proofs.Common.{◌≡◌, ◌≢◌, ℕ, List, Bor, option_map, rules, subst}
 use Rattle.std.proofs.lemmas.Result.{IfErr-weaker, err_from_is_err_and, on_err_weaker, on_ok_weaker}
-use Rattle.inst_program.proofs.Passing.{err_all_at, on_err_all}
+use Rattle.inst_program.proofs.PassedOnOutcome.{err_all_at, on_err_all}
 use Rattle.inst_program.proofs.TwoLogs.{both_untouched, carries, not_begun, not_closed, absent_uncarried, uncarried_first, uncarried_second}
 use Rattle.inst_program.proofs.Statuses.{memory_is_no_refusal, no_refusal}
-use Rattle.inst_program.specs.inner.Ending.{status_of_ending}
-use Rattle.inst_program.specs.declared.ending.Ending.{Ending}
+use Rattle.inst_program.specs.inner.ExitReason.{status_of_ending}
+use Rattle.inst_program.specs.declared.exit_reason.ExitReason.{ExitReason}
 use Rattle.inst_program.proofs.carrying.next.Goals as goal
 
 pub returns-in_err-has-clause-err : goal.returns-in_err-has-clause-err
@@ -52,7 +52,7 @@ returns-in_err-closed-clause-refused g c =
     err_all_at c.from_residual-in_err-closed.result _ (err_from_is_err_and c.from_residual-in_err-closed.result c.from_residual-in_err-closed.ensures.1)
     (λ e is two.
     uncarried_first c.args.from.now c.args.to.now apart _ _ _ _ (g.met.L.Logs.mixing c.args.logs.now) c.has.ensures.untouched c.close.ensures.visited
-    (option_map (λ (d : Bor (List ℕ)). d.now) c.args.digest) c.in_ok-wanted.wanted c.in_ok-wanted.ensures (c.in_err-closed.ensures.refused (subst (λ (f : Ending). status_of_ending f ≡ 2) is two)))
+    (option_map (λ (d : Bor (List ℕ)). d.now) c.args.digest) c.in_ok-wanted.wanted c.in_ok-wanted.ensures (c.in_err-closed.ensures.refused (subst (λ (f : ExitReason). status_of_ending f ≡ 2) is two)))
 
 pub returns-clause-refused : goal.returns-clause-refused
 returns-clause-refused g c =

@@ -1,4 +1,4 @@
-use Rattle.inst_program.proofs.Visiting.{nothing_happened}
+use Rattle.inst_program.proofs.LogAfterVisit.{nothing_happened}
 use Rattle.inst_program.proofs.drilling.drill_hub.Goals as goal
 
 pub returns-in-Some-clause-ok : goal.returns-in-Some-clause-ok

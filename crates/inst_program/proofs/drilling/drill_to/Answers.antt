@@ -1,4 +1,4 @@
-use Rattle.inst_program.proofs.Scripting.{scripted, steps_fit}
+use Rattle.inst_program.proofs.DrillWithScript.{scripted, steps_fit}
 use Rattle.inst_program.proofs.drilling.drill_to.Goals as goal
 
 pub returns-in-Ok : goal.returns-in-Ok

@@ -1,10 +1,10 @@
 use Rattle.std.proofs.Common.{inl, inr, refl}
 use Rattle.std.proofs.lemmas.Result.{err_from_is_err_and}
-use Rattle.inst_program.proofs.Passing.{err_all_at}
-use Rattle.inst_program.proofs.Scripting.{drills_in, undrilled_in}
+use Rattle.inst_program.proofs.PassedOnOutcome.{err_all_at}
+use Rattle.inst_program.proofs.DrillWithScript.{drills_in, undrilled_in}
 use Rattle.inst_program.proofs.Statuses.{in_use_or}
 use Rattle.inst_program.specs.inner.Visiting.{IsVisitedAs}
-use Rattle.inst_program.proofs.Visiting.{others_untouched, visited}
+use Rattle.inst_program.proofs.LogAfterVisit.{others_untouched, visited}
 use Rattle.inst_program.proofs.drilling.drill_to_file.Goals as goal
 
 pub returns-clause-ok : goal.returns-clause-ok

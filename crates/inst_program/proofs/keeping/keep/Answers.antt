@@ -2,9 +2,9 @@ use Rattle.std.proofs.Common.{inl, inr, refl}
 use Rattle.std.proofs.lemmas.Result.{IfOk-at_ok, err_from_is_err_and}
 use Rattle.inst_program.specs.inner.Visiting.{IsVisitedAs}
 use Rattle.inst_program.proofs.FirstLine.{absent_untaken}
-use Rattle.inst_program.proofs.Passing.{err_all_at, passed_err}
+use Rattle.inst_program.proofs.PassedOnOutcome.{err_all_at, passed_err}
 use Rattle.inst_program.proofs.Statuses.{in_use_or, memory_is_no_refusal, no_refusal}
-use Rattle.inst_program.proofs.Visiting.{keeps_in, opened_behind, others_untouched, unkept_in, unkept_untouched, untouched_behind, visited}
+use Rattle.inst_program.proofs.LogAfterVisit.{keeps_in, opened_behind, others_untouched, unkept_in, unkept_untouched, untouched_behind, visited}
 use Rattle.inst_program.proofs.keeping.keep.Goals as goal
 
 pub returns-in_err-disk-clause-others : goal.returns-in_err-disk-clause-others

@@ -2,14 +2,14 @@ use Rattle.std.proofs.Common.{◌≡◌, ◌∙◌, ◌-◌, ℕ, List, length, 
 use Rattle.std.proofs.lemmas.Result.{err_from_is_err_and, on_ok_weaker, IfErr-weaker}
 use Rattle.std.specs.Prelude.{unwrap_or}
 use Rattle.std.specs.Io.KnownBytes.{Appends}
-use Rattle.inst_log.specs.Layout.{recovered}
+use Rattle.inst_log.specs.Layout.{recovered_lines}
 use Rattle.inst_chain.specs.Chain.{said}
 use Rattle.inst_chain.specs.Summing.{HasFirst, IsSummary, Unsummed}
-use Rattle.inst_logged.specs.Beginning.{IsHeaderLine}
+use Rattle.inst_logged.specs.LogHeader.{IsHeaderLine}
 use Rattle.inst_program.specs.Keeping.{log_text}
-use Rattle.inst_program.proofs.Passing.{err_all_at}
+use Rattle.inst_program.proofs.PassedOnOutcome.{err_all_at}
 use Rattle.inst_program.proofs.Statuses.{refused_by}
-use Rattle.inst_program.proofs.Told.{damaged_bad, last_of, no_byte_bad, of_the_file, only_none, says_so, unread_bad, unsummed_bad}
+use Rattle.inst_program.proofs.ReportOnLog.{damaged_bad, last_of, no_byte_bad, of_the_file, only_none, says_so, unread_bad, unsummed_bad}
 use Rattle.inst_program.proofs.showing.show.Goals as goal
 
 pub returns-in_err-reader-clause-err : goal.returns-in_err-reader-clause-err
@@ -42,7 +42,7 @@ returns-in_default-clause-err g c two = (
       let file = (g.L.Logs.files c.args.logs.now).bytes name in
       let summary = of_the_file _ (λ (f : List ℕ). IsSummary f c.in-Ok.summary) _ file (c.in_ok-reader.ensures.bytes clean) (c.in_ok-reader.ensures.untouched.all clean name).same c.in-Ok.ensures.found in
       unread_bad file c.deref.result.now c.in_ok-beginning.field-0 c.in_ok-beginning.ensures c.in_default.is
-      (subst (HasFirst (recovered file)) (sym c.deref.ensures.value) summary.first) good,
+      (subst (HasFirst (recovered_lines file)) (sym c.deref.ensures.value) summary.first) good,
 )
 
 pub returns-in-Err-digest_of-clause-err : goal.returns-in-Err-digest_of-clause-err
@@ -53,7 +53,7 @@ returns-in-Err-digest_of-clause-err g c two = (
       let file = (g.L.Logs.files c.args.logs.now).bytes name in
       let summary = of_the_file _ (λ (f : List ℕ). IsSummary f c.in-Ok.summary) _ file (c.in_ok-reader.ensures.bytes clean) (c.in_ok-reader.ensures.untouched.all clean name).same c.in-Ok.ensures.found in
       damaged_bad file c.deref-2.result.now c.in_ok-version_of.field-0 c.in_ok-version_of.ensures.back
-      (subst (HasFirst (recovered file)) (sym c.deref-2.ensures.value) summary.first) c.in-Ok.summary.chain c.in-Err-digest_of.right summary.chain
+      (subst (HasFirst (recovered_lines file)) (sym c.deref-2.ensures.value) summary.first) c.in-Ok.summary.chain c.in-Err-digest_of.right summary.chain
       (sym c.unwrap_or-version.ensures ∙ c.in-Err-digest_of.ensures.none.0) c.in-Err-digest_of.ensures.none.1 good,
 )
 
@@ -77,7 +77,7 @@ returns-clause-ok g c = on_ok_weaker c.tell.result (λ (told : Appends _ _ (log_
       told =
           let held = g.W.Write.contents c.args.writer.now in
           let held' = g.W.Write.contents c.tell.new.writer in
-          let lines : c.saturating_sub-lines.result ≡ length (said (recovered file)) - 1 - unwrap_or c.in-Some.beginning.books 0 =
+          let lines : c.saturating_sub-lines.result ≡ length (said (recovered_lines file)) - 1 - unwrap_or c.in-Some.beginning.books 0 =
           omega (arith, c.saturating_sub-lines.ensures, c.saturating_sub.ensures, c.unwrap_or.ensures, summary.count) in
           subst (λ (n : ℕ). Appends held held' (log_text c.in-Ok.summary.first.items n c.in-Ok-digest_of.digest)) lines
           (subst (λ (f : List ℕ). Appends held held' (log_text f c.saturating_sub-lines.result c.in-Ok-digest_of.digest)) c.deref-3.ensures.value told);

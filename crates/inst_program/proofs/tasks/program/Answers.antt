@@ -1,7 +1,7 @@
 use Rattle.std.proofs.Common.{map, string_bytes, refl}
 use Rattle.inst_options.specs.Asking.{IsNoWish, IsWished}
-use Rattle.inst_program.proofs.Serving.{ends_done, ends_undone, ends_wrong}
-use Rattle.inst_program.proofs.Visiting.{nothing_happened}
+use Rattle.inst_program.proofs.ChangesByExitStatus.{ends_done, ends_undone, ends_wrong}
+use Rattle.inst_program.proofs.LogAfterVisit.{nothing_happened}
 use Rattle.inst_program.proofs.tasks.program.Goals as goal
 
 pub returns-in-Ok-serve-clause-ends : goal.returns-in-Ok-serve-clause-ends

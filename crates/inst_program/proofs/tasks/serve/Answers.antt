@@ -2,8 +2,8 @@ use Rattle.std.proofs.Common.{ℕ, List, Bor, option_map, refl}
 use Rattle.std.proofs.lemmas.Result.{on_ok_weaker}
 use Rattle.inst_options.specs.Asking.{AskForTheNext}
 use Rattle.inst_program.specs.Program.Done.{Carried, Explained, Shown}
-use Rattle.inst_program.proofs.Doing.{answered, checked, drilled, unanswered_err, uncarried_err, unchecked_err, undrilled_err, unexplained_err, unshown_err}
-use Rattle.inst_program.proofs.Visiting.{nothing_happened}
+use Rattle.inst_program.proofs.OutcomeOfTask.{answered, checked, drilled, unanswered_err, uncarried_err, unchecked_err, undrilled_err, unexplained_err, unshown_err}
+use Rattle.inst_program.proofs.LogAfterVisit.{nothing_happened}
 use Rattle.inst_program.proofs.tasks.serve.Goals as goal
 
 pub returns-in-Run-clause-ok : goal.returns-in-Run-clause-ok

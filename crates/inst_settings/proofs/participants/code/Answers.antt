@@ -1,4 +1,4 @@
-use Rattle.inst_settings.proofs.Refused.{utf8_of_code}
+use Rattle.inst_settings.proofs.TextsThatAreNoCodes.{utf8_of_code}
 use Rattle.inst_settings.proofs.participants.code.Goals as goal
 
 pub returns-in_default-clause-code : goal.returns-in_default-clause-code

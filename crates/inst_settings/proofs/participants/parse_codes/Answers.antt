@@ -1,6 +1,6 @@
 use Rattle.std.proofs.Common.{◌≡◌, List, ℕ, map, Bor, ap, ◌∙◌, arith}
 use Rattle.inst_settings.specs.Parts.{parts_of}
-use Rattle.inst_settings.proofs.Refused.{other_code, passed_on}
+use Rattle.inst_settings.proofs.TextsThatAreNoCodes.{other_code, passed_on}
 use Rattle.inst_settings.proofs.participants.parse_codes.Goals as goal
 
 pub returns-in_err-code-clause-fault : goal.returns-in_err-code-clause-fault

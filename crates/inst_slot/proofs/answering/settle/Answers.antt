@@ -5,19 +5,19 @@ use Rattle.inst_journal.specs.declared.event.Event.TheVariants.{Booked}
 use Rattle.inst_journal.specs.Sound.{Fits}
 use Rattle.inst_ledger.specs.Book.{Book as Kept, with_event}
 use Rattle.inst_slot.specs.declared.arrival.Arrival.{Arrival}
-use Rattle.inst_slot.specs.inner.Answering.{over, beside, IsOwnAt}
+use Rattle.inst_slot.specs.inner.Answering.{book_with_spots, book_with_arrivals, IsOwnAt}
 use Rattle.inst_slot.specs.Book.{place_at}
 use Rattle.inst_slot.specs.Spots.{rows_of, arrivals_of}
 use Rattle.inst_slot.specs.Asking.{Finds}
-use Rattle.inst_slot.proofs.Deciding.{asked}
-use Rattle.inst_slot.proofs.Answered.{settle_fits, settled_so, settle_own}
+use Rattle.inst_slot.proofs.SlotMayDecideWhatIsAsked.{asked}
+use Rattle.inst_slot.proofs.AnswersToDecisions.{settle_fits, settled_so, settle_own}
 use Rattle.inst_slot.proofs.Spots.{spots_over, over_after}
 use Rattle.inst_slot.proofs.answering.settle.Goals as goal
 
 pub find-requires-clause-may : goal.find-requires-clause-may
 find-requires-clause-may g c =
     let b = g.B.Board in
-    (asked b.settings b.knows b.has_role c.args.board.now (over c.args.ledger.now.book c.args.arrivals.now) c.args.ask.now.command (c.args.asked.now.place, c.args.asked.now.wish) c.requires.lawful c.requires.asking.is).may
+    (asked b.settings b.knows b.has_role c.args.board.now (book_with_spots c.args.ledger.now.book c.args.arrivals.now) c.args.ask.now.command (c.args.asked.now.place, c.args.asked.now.wish) c.requires.lawful c.requires.asking.is).may
 
 pub returns-in_default-clause-settles : goal.returns-in_default-clause-settles
 returns-in_default-clause-settles g c =
@@ -30,7 +30,7 @@ returns-in_default-clause-settles g c =
     c.pending.ensures
     (c.find.ensures.book ∙ ap (λ (J : List Event). record l.book { events = J }) (sym (append-nil l.book.events)))
     (subst (λ (o : Option Outcome). Finds (b.settings c.args.board.now).margin b.knows b.has_role b.stood b.stays c.args.board.now r.place r.wish c.args.ask.now.at o c.find.new.board) c.in_default.is c.in_ok-decided.ensures.found)
-    (over c.find.new.ledger.book c.args.arrivals.now) (ap (λ (x : Kept). over x c.args.arrivals.now) c.find.ensures.book ∙ sym (ap (λ (x : Kept). beside x A) c.find.ensures.book))
+    (book_with_spots c.find.new.ledger.book c.args.arrivals.now) (ap (λ (x : Kept). book_with_spots x c.args.arrivals.now) c.find.ensures.book ∙ sym (ap (λ (x : Kept). book_with_arrivals x A) c.find.ensures.book))
 
 pub book-requires-clause-fits : goal.book-requires-clause-fits
 book-requires-clause-fits g c =
@@ -53,7 +53,7 @@ returns-clause-settles g c =
     refl
     is
     (subst (λ (d : Option Outcome). Finds (b.settings c.args.board.now).margin b.knows b.has_role b.stood b.stays c.args.board.now r.place r.wish c.args.ask.now.at d c.find.new.board) c.in-Some.is c.in_ok-decided.ensures.found)
-    (over c.book.new.ledger.book c.args.arrivals.now) (over_after l.book c.book.new.ledger.book (Booked r.found.from r.found.id o) c.args.arrivals.now is c.requires.spots ∙ sym (ap (λ (x : Kept). beside x A) is))
+    (book_with_spots c.book.new.ledger.book c.args.arrivals.now) (over_after l.book c.book.new.ledger.book (Booked r.found.from r.found.id o) c.args.arrivals.now is c.requires.spots ∙ sym (ap (λ (x : Kept). book_with_arrivals x A) is))
 
 pub book-requires-clause-own : goal.book-requires-clause-own
 book-requires-clause-own g c =
@@ -71,4 +71,4 @@ returns-clause-spots g c =
     spots_over l.book c.book.new.ledger.book e c.args.arrivals.now (c.in_ok-book.ensures.ok ∙ ap (λ (x : Kept). with_event x e) c.find.ensures.book) c.requires.spots
 
 pub returns-in_err-decided-clause-settles : goal.returns-in_err-decided-clause-settles
-returns-in_err-decided-clause-settles g c = inr (search rules, ap (λ (x : Kept). over x c.args.arrivals.now) c.find.ensures.book, search rules)
+returns-in_err-decided-clause-settles g c = inr (search rules, ap (λ (x : Kept). book_with_spots x c.args.arrivals.now) c.find.ensures.book, search rules)

@@ -7,9 +7,9 @@ use Rattle.inst_journal.specs.Booked.{booked}
 use Rattle.inst_journal.specs.Reply.{entry_of}
 use Rattle.inst_transfers.specs.State.{row_of}
 use Rattle.inst_slot.specs.declared.arrivals.Spot.{Spot}
-use Rattle.inst_ledger.proofs.Opening.{one_more}
-use Rattle.inst_slot.proofs.Opening.{arrived_still, arrived_settled, arrived_live, live_of, forwards_none}
-use Rattle.inst_slot.proofs.Walked.{AreWalked, walked_by, walked_to, rows_none, row_here}
+use Rattle.inst_ledger.proofs.HistoryEventByEvent.{one_more}
+use Rattle.inst_slot.proofs.SlotOpensAgain.{arrived_still, arrived_settled, arrived_live, live_of, forwards_none}
+use Rattle.inst_slot.proofs.SpotsOfCarriedTransfers.{AreWalked, walked_by, walked_to, rows_none, row_here}
 use Rattle.inst_slot.proofs.arrivals.carried_arrivals.Goals as goal
 use Rattle.inst_slot.proofs.arrivals.carried_arrivals.Goals.{in-Taken, in-Forwarded, then-is_none+in_ok-push-in-Forwarded, else-is_none, in_default}
 

@@ -1,5 +1,5 @@
 use Rattle.std.proofs.Common.{take, ◌≤◌}
-use Rattle.inst_slot.proofs.Walked.{AreWalked}
+use Rattle.inst_slot.proofs.SpotsOfCarriedTransfers.{AreWalked}
 use Rattle.inst_slot.proofs.arrivals.carried_arrivals.Given as goal
 
 abbrev pub invariant-loop-event : goal.invariant-loop-event

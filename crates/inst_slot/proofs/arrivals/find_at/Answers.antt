@@ -3,7 +3,7 @@ use Rattle.std.proofs.lemmas.Option.{get_or_from_slice_get, slice_get_within}
 use Rattle.std.specs.Prelude.{get_or}
 use Rattle.inst_command.specs.declared.entry.Entry.{Entry}
 use Rattle.inst_terms.specs.declared.terms.Terms.{Terms}
-use Rattle.inst_board.specs.declared.place.Place.{Place}
+use Rattle.inst_command.specs.declared.place.Place.{Place}
 use Rattle.inst_journal.specs.declared.event.Event.{Event}
 use Rattle.inst_transfers.specs.Held.{AreApart, AreWithin, AreRising}
 use Rattle.inst_slot.specs.declared.arrival.Arrival.{Arrival}
@@ -11,7 +11,7 @@ use Rattle.inst_slot.specs.declared.arrivals.Spot.{Spot}
 use Rattle.inst_slot.specs.Opening.{awaits}
 use Rattle.inst_slot.specs.Spots.{rows_of, no_entry, arrival_of, arrivals_of}
 use Rattle.inst_slot.specs.inner.Spots.{FindsSpot, IsSpotAt}
-use Rattle.inst_slot.proofs.Found.{no_arrival, another_arrival, this_arrival}
+use Rattle.inst_slot.proofs.ArrivalGetsItsPlace.{no_arrival, another_arrival, this_arrival}
 use Rattle.inst_slot.proofs.Spots.{found_row, arrives_once, unknown_counted, counted_none, is_here, is_named, arrival_there, arrivals_set, positions_set}
 use Rattle.inst_slot.proofs.arrivals.find_at.Goals as goal
 

@@ -3,7 +3,7 @@ use Rattle.std.proofs.lemmas.Grind.{pieces}
 use Rattle.std.proofs.lemmas.Bool.{true≢false}
 use Rattle.inst_settings.specs.Settings.{HubSettings}
 use Rattle.inst_command.specs.declared.outcome.Outcome.{Outcome}
-use Rattle.inst_board.specs.declared.place.Place.{Place}
+use Rattle.inst_command.specs.declared.place.Place.{Place}
 use Rattle.inst_board.specs.declared.wish.Wish.{Wish}
 use Rattle.inst_board.specs.declared.look.Look.{Look}
 use Rattle.inst_board.specs.declared.about.Fact.{Fact}
@@ -11,7 +11,7 @@ use Rattle.inst_board.specs.Standing.{Standing, unused, pending, decided, look_o
 use Rattle.inst_board.specs.Wish.{wanted}
 use Rattle.inst_board.specs.Learning.{Looks, Answers, Decides}
 use Rattle.inst_slot.specs.Asking.{stays_pending, Finds, OnlyLooks}
-use Rattle.inst_slot.proofs.Refusing.{on_err}
+use Rattle.inst_slot.proofs.RefusalsChangeNothing.{on_err}
 use Rattle.inst_slot.proofs.finding.find.Goals as goal
 
 no_outcome : (o : Option Outcome) → is_none o ≡ true → o ≡ None
@@ -49,29 +49,29 @@ pending_found margin knows has_role stood stays b c k wish at look h still e = r
 pub returns-then-stays_pending-clause-found : goal.returns-then-stays_pending-clause-found
 returns-then-stays_pending-clause-found g c =
     let b = g.B.Board in
-    let l = c.glance-glance.ensures.look in
-    pending_found (b.settings c.args.board.now).margin b.knows b.has_role b.stood b.stays c.args.board.now c.glance-glance.new.self c.args.place c.args.wish c.args.at l.0 l.1 c.glance-glance.ensures.stays
+    let l = c.place_state-place_state.ensures.look in
+    pending_found (b.settings c.args.board.now).margin b.knows b.has_role b.stood b.stays c.args.board.now c.place_state-place_state.new.self c.args.place c.args.wish c.args.at l.0 l.1 c.place_state-place_state.ensures.stays
     (ap (λ m. stays_pending m c.args.wish c.args.at l.0) (sym c.requires.margin) ∙ sym (c.stays_pending.ensures l.0 l.2) ∙ c.if-stays_pending.true)
 
 pub returns-in_err-reserve-clause-err : goal.returns-in_err-reserve-clause-err
 returns-in_err-reserve-clause-err g c =
     let b = g.B.Board in
     let margin = (b.settings c.args.board.now).margin in
-    let l = c.glance-glance.ensures.look in
-    on_err c.from_residual.result (OnlyLooks margin b.knows b.has_role b.stood c.args.board.now c.args.place c.args.wish c.args.at c.glance-glance.new.self)
+    let l = c.place_state-place_state.ensures.look in
+    on_err c.from_residual.result (OnlyLooks margin b.knows b.has_role b.stood c.args.board.now c.args.place c.args.wish c.args.at c.place_state-place_state.new.self)
     (record { look = l.0; looks = l.1; books = ap (λ m. stays_pending m c.args.wish c.args.at l.0) (sym c.requires.margin) ∙ sym (c.stays_pending.ensures l.0 l.2) ∙ c.if-stays_pending.false })
 
 pub returns-clause-found : goal.returns-clause-found
 returns-clause-found g c =
     let b = g.B.Board in
-    let l = c.glance-glance.ensures.look in
-    let same = ap (λ (s : HubSettings). s.margin) (g.met.B.Board.stays_settings c.args.board.now c.glance-glance.new.self c.glance-glance.ensures.stays) in
+    let l = c.place_state-place_state.ensures.look in
+    let same = ap (λ (s : HubSettings). s.margin) (g.met.B.Board.stays_settings c.args.board.now c.place_state-place_state.new.self c.place_state-place_state.ensures.stays) in
     record {
       look = l.0;
-      between = c.glance-glance.new.self;
-      same_holder = c.glance-glance.ensures.stays;
+      between = c.place_state-place_state.new.self;
+      same_holder = c.place_state-place_state.ensures.stays;
       looks = l.1;
-      decides = subst (λ (m : ℕ). Decides m b.knows b.stood c.glance-glance.new.self c.args.place c.args.wish c.args.at c.decide.result c.decide.new.self) same c.decide.ensures.decides;
+      decides = subst (λ (m : ℕ). Decides m b.knows b.stood c.place_state-place_state.new.self c.args.place c.args.wish c.args.at c.decide.result c.decide.new.self) same c.decide.ensures.decides;
     }
 
 pub returns-clause-stays : goal.returns-clause-stays

@@ -1,4 +1,4 @@
-use Rattle.inst_slot.proofs.Telling.{told_known}
+use Rattle.inst_slot.proofs.ToldPlaceIsKnown.{told_known}
 use Rattle.inst_slot.proofs.laws.a_told_place_is_known.Goals as goal
 
 pub returns : goal.returns

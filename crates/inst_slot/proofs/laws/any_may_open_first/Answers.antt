@@ -1,4 +1,4 @@
-use Rattle.inst_slot.proofs.Opening.{may_open_first}
+use Rattle.inst_slot.proofs.SlotOpensAgain.{may_open_first}
 use Rattle.inst_slot.proofs.laws.any_may_open_first.Goals as goal
 
 pub returns : goal.returns

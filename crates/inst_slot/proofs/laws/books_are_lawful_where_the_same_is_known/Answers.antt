@@ -1,4 +1,4 @@
-use Rattle.inst_slot.proofs.Opening.{lawful_moved}
+use Rattle.inst_slot.proofs.SlotOpensAgain.{lawful_moved}
 use Rattle.inst_slot.proofs.laws.books_are_lawful_where_the_same_is_known.Goals as goal
 
 pub returns : goal.returns

@@ -1,4 +1,4 @@
-use Rattle.inst_slot.proofs.Adopting.{begins}
+use Rattle.inst_slot.proofs.ForwardedTransfersHavePlaces.{begins}
 use Rattle.inst_slot.proofs.laws.new_books_are_lawful.Goals as goal
 
 pub returns : goal.returns

@@ -1,4 +1,4 @@
-use Rattle.inst_slot.proofs.Opening.{others_may_open}
+use Rattle.inst_slot.proofs.SlotOpensAgain.{others_may_open}
 use Rattle.inst_slot.proofs.laws.others_may_open.Goals as goal
 
 pub returns : goal.returns

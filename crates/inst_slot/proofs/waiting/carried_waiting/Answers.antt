@@ -11,9 +11,9 @@ use Rattle.inst_journal.specs.Booked.{booked}
 use Rattle.inst_journal.specs.Opened.{takes_live}
 use Rattle.inst_journal.specs.Sound.{Fits}
 use Rattle.inst_slot.specs.Waiting.{deadline_in, own_deadlines, takes_waiting}
-use Rattle.inst_slot.proofs.Dues.{at_deadline, deadline_more, carried_waits}
-use Rattle.inst_ledger.proofs.Opening.{fits_at_place, one_more}
-use Rattle.inst_slot.proofs.Opening.{taken_of, taken_next, taken_still, takes_of, takes_none, next_within}
+use Rattle.inst_slot.proofs.OwnTransfersThatWait.{at_deadline, deadline_more, carried_waits}
+use Rattle.inst_ledger.proofs.HistoryEventByEvent.{fits_at_place, one_more}
+use Rattle.inst_slot.proofs.SlotOpensAgain.{taken_of, taken_next, taken_still, takes_of, takes_none, next_within}
 use Rattle.inst_slot.proofs.waiting.carried_waiting.Goals as goal
 use Rattle.inst_slot.proofs.waiting.carried_waiting.Goals.{in-Taken+then-is_none+in_ok-add, in-Taken+else-is_none, in_default}
 

@@ -2,8 +2,8 @@ use Rattle.std.proofs.Common.{◌≡◌, ℕ, take}
 use Rattle.std.specs.Prelude.{map, slice_get}
 use Rattle.inst_due.specs.Due.{has}
 use Rattle.inst_slot.specs.Waiting.{deadline_in}
-use Rattle.inst_slot.proofs.Dues.{at_deadline}
-use Rattle.inst_slot.proofs.Opening.{taken_of}
+use Rattle.inst_slot.proofs.OwnTransfersThatWait.{at_deadline}
+use Rattle.inst_slot.proofs.SlotOpensAgain.{taken_of}
 use Rattle.inst_slot.proofs.waiting.carried_waiting.Given as goal
 
 abbrev pub invariant-loop-event : goal.invariant-loop-event

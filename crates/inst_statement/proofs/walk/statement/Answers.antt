@@ -7,8 +7,8 @@ use Rattle.inst_journal.specs.declared.event.Event.TheVariants.{Funded, Defunded
 use Rattle.inst_journal.specs.Opened.{is_opening}
 use Rattle.inst_journal.specs.Statement.{statement}
 use Rattle.inst_statement.specs.KeptLine.{AreNamed}
-use Rattle.inst_statement.specs.KeptStatement.{lines_of}
-use Rattle.inst_statement.proofs.Walked.{Stands, Passes, passes_of, new_there, may_add, stands_added, stands_same, stands_begun}
+use Rattle.inst_statement.specs.KeptStatement.{lines_of_statement}
+use Rattle.inst_statement.proofs.WalkAtEachFront.{Stands, Passes, passes_of, new_there, may_add, stands_added, stands_same, stands_begun}
 use Rattle.inst_statement.proofs.Indices.{index_fits}
 use Rattle.inst_statement.proofs.walk.statement.Goals as goal
 use Rattle.inst_statement.proofs.walk.statement.Goals.{in-Some+in_ok-reserve, in_default+then-matches, in-Opened, in_default-matches, in_default+else-matches}
@@ -24,8 +24,8 @@ add-requires c =
 
 no_opening : (x : Event) → (x ≡ Opened → ⊥) → is_opening x ≡ false
 no_opening Opened other = absurd (other refl)
-no_opening (Funded reference cents) other = refl
-no_opening (Defunded reference cents) other = refl
+no_opening (Funded funding) other = refl
+no_opening (Defunded funding) other = refl
 no_opening (Taken id to cents stamp) other = refl
 no_opening (Forwarded from id cents deadline) other = refl
 no_opening (Booked from id outcome) other = refl
@@ -75,6 +75,6 @@ pub returns : goal.returns
 returns c =
     let J : List Event = c.args.journal.now.events in
     let all : take c.loop-index.index J ≡ J = take_all c.loop-index.index J (omega (arith, ap length c.events-event-items.ensures)) in
-    let lines : lines_of c.events.result.now c.loop-index.statement ≡ statement J =
-    ap (λ (K : List Event). lines_of K c.loop-index.statement) (c.events.ensures ∙ sym all) ∙ c.loop-index.invariant.lines.are_lines ∙ ap statement all in
+    let lines : lines_of_statement c.events.result.now c.loop-index.statement ≡ statement J =
+    ap (λ (K : List Event). lines_of_statement K c.loop-index.statement) (c.events.ensures ∙ sym all) ∙ c.loop-index.invariant.lines.are_lines ∙ ap statement all in
     record { ok = subst (λ (L : List Line). IfOk c.part.result (λ given. given.items ≡ take c.args.count (drop c.args.skip L))) lines c.part.ensures.ok }

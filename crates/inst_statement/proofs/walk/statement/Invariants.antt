@@ -1,5 +1,5 @@
 use Rattle.std.proofs.Common.{take}
-use Rattle.inst_statement.proofs.Walked.{Stands}
+use Rattle.inst_statement.proofs.WalkAtEachFront.{Stands}
 use Rattle.inst_statement.proofs.walk.statement.Given as goal
 
 abbrev pub invariant-loop-index : goal.invariant-loop-index

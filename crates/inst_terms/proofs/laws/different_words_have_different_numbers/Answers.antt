@@ -1,4 +1,4 @@
-use Rattle.inst_terms.proofs.Apart.{words_apart}
+use Rattle.inst_terms.proofs.WordsTellValuesApart.{words_apart}
 use Rattle.inst_terms.proofs.laws.different_words_have_different_numbers.Goals as goal
 
 pub returns : goal.returns

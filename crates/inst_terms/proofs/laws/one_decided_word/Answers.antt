@@ -1,4 +1,4 @@
-use Rattle.inst_terms.proofs.Following.{one_decided}
+use Rattle.inst_terms.proofs.OrderOfLawfulWords.{one_decided}
 use Rattle.inst_terms.proofs.laws.one_decided_word.Goals as goal
 
 pub returns : goal.returns

@@ -1,4 +1,4 @@
-use Rattle.inst_world.proofs.Journals.{can_open_from}
+use Rattle.inst_world.proofs.JournalsOpenWhereBooksCan.{can_open_from}
 use Rattle.inst_world.proofs.laws.journals_of_books_can_open.Goals as goal
 
 pub returns : goal.returns

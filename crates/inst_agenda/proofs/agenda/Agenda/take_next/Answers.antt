@@ -1,5 +1,5 @@
 use Rattle.std.proofs.Common.{subst}
-use Rattle.inst_board.specs.declared.place.Place.{Place}
+use Rattle.inst_command.specs.declared.place.Place.{Place}
 use Rattle.inst_agenda.specs.Agenda.{Agenda}
 use Rattle.inst_agenda.specs.inner.Agenda.{TakesNext}
 use Rattle.inst_agenda.proofs.Agendas.{takes_next}

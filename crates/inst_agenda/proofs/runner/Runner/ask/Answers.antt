@@ -1,11 +1,11 @@
 use Rattle.std.proofs.Common.{ℕ, ◌∷◌, ◌≤◌, length, sym, subst, ◌∙◌, ap}
 use Rattle.inst_command.specs.declared.step.Step.TheVariants.{Ask}
-use Rattle.inst_world.specs.HasRun.{World, settings_of, Runs}
+use Rattle.inst_world.specs.HasRun.{World, world_settings, Runs}
 use Rattle.inst_agenda.specs.inner.Naming.{named_by}
 use Rattle.inst_agenda.specs.Watching.{Watches}
 use Rattle.inst_agenda.specs.inner.Watching.{NotesNamed}
 use Rattle.inst_agenda.specs.declared.runner.Runner.{Runner}
-use Rattle.inst_agenda.proofs.AfterAsking.{watches_ask, watches_quiet}
+use Rattle.inst_agenda.proofs.AgendaAfterAsk.{watches_ask, watches_quiet}
 use Rattle.inst_agenda.proofs.runner.Runner.ask.Goals as goal
 use Rattle.inst_agenda.proofs.runner.Runner.ask.Goals.{then-events+in_ok-note_named, else-events}
 
@@ -17,7 +17,7 @@ returns-clause-ok c = elim c.if-events.branch [
       let same = w.in_ok-note_named.ensures.world in
       let known = watches_ask old.world noted.world old.agenda noted.agenda c.args.ask c.in_ok-answer.answer
       (subst (λ (h : World). Runs old.world (Ask c.args.ask) c.in_ok-answer.answer h) (sym same) c.in_ok-answer.ensures.ok)
-      (ap settings_of same ∙ c.step.ensures.settings)
+      (ap world_settings same ∙ c.step.ensures.settings)
       (subst (λ (h : World). NotesNamed h (named_by c.args.ask.who c.args.ask.command) old.agenda noted.agenda) (sym same) w.in_ok-note_named.ensures.notes) in
       λ O L watches. ((known O L watches).0, subst (λ (r : Runner). Watches O (Ask c.args.ask ∷ L) r.world r.agenda) (sym w.self-is) (known O L watches).1)
   | else-events w ↦

@@ -1,6 +1,6 @@
 use Rattle.std.proofs.Common.{◌∙◌, subst}
 use Rattle.inst_world.specs.HasRun.{World}
-use Rattle.inst_agenda.proofs.Noting.{NotedAll, noted_owner_more}
+use Rattle.inst_agenda.proofs.PlacesToGoOverNext.{NotedAll, noted_owner_more}
 use Rattle.inst_agenda.proofs.runner.Runner.new.Goals as goal
 
 pub loop-owner-preserved : goal.loop-owner-preserved

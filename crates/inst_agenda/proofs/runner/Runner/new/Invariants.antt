@@ -1,5 +1,5 @@
 use Rattle.std.proofs.Common.{◌≡◌}
-use Rattle.inst_agenda.proofs.Noting.{NotedOwners}
+use Rattle.inst_agenda.proofs.PlacesToGoOverNext.{NotedOwners}
 use Rattle.inst_agenda.proofs.runner.Runner.new.Given as goal
 
 abbrev pub invariant-loop-owner : goal.invariant-loop-owner

@@ -1,6 +1,6 @@
 use Rattle.std.proofs.Common.{◌≡◌}
 use Rattle.inst_agenda.specs.inner.Watching.{NotesSome}
-use Rattle.inst_agenda.proofs.Noting.{NotedBelow}
+use Rattle.inst_agenda.proofs.PlacesToGoOverNext.{NotedBelow}
 use Rattle.inst_agenda.proofs.runner.Runner.note_all.Given as goal
 
 abbrev pub invariant-loop-index : goal.invariant-loop-index

@@ -1,7 +1,7 @@
 use Rattle.std.proofs.Common.{sym, ◌∙◌}
 use Rattle.std.proofs.lemmas.Result.{on_ok_weaker}
 use Rattle.inst_agenda.specs.inner.Naming.{named_by}
-use Rattle.inst_agenda.proofs.AfterAsking.{named_some}
+use Rattle.inst_agenda.proofs.AgendaAfterAsk.{named_some}
 use Rattle.inst_agenda.proofs.runner.Runner.note_named.Goals as goal
 
 pub returns-in-Some-clause-notes : goal.returns-in-Some-clause-notes

@@ -1,5 +1,5 @@
 use Rattle.std.proofs.Common.{List, ℕ}
-use Rattle.inst_base.proofs.Kept.{IsKept-front}
+use Rattle.inst_base.proofs.TextBeforeZeros.{IsKept-front}
 use Rattle.inst_base.proofs.short_text.ShortText.new.Goals as goal
 
 pub invariant_of-result : goal.invariant_of-result

@@ -1,7 +1,7 @@
 use Rattle.std.proofs.Common.{ap, ◌∙◌}
 use Rattle.inst_journal.specs.Money.{available}
 use Rattle.inst_ledger.specs.Book.{Book}
-use Rattle.inst_books.proofs.Deciding.{decides_le}
+use Rattle.inst_books.proofs.ComparisonOfNumbers.{decides_le}
 use Rattle.inst_books.proofs.replay.Replay.covers.Goals as goal
 
 pub returns : goal.returns

@@ -27,7 +27,7 @@ use Rattle.std.proofs.BoxSteps.Form.{D, B, word, box_typed}
 use Rattle.std.proofs.BoxSteps.Steps.{box_out, box_in}
 use Rattle.std.specs.Prelude.{Option, is_some}
 use Rattle.inst_c.specs.declared.line_hub.LineHub.{LineHub}
-use Rattle.inst_c.proofs.AsBox.{E, FromHeld as From, some_of}
+use Rattle.inst_c.proofs.HeldHubAsBox.{E, FromHeld as From, some_of}
 use Rattle.inst_c.specs.contracts.held_hub.HeldHub.{the_row as HeldHub}
 use Rattle.inst_c.specs.contracts.held_hub.HeldHub.into_parts as F
 use Rattle.inst_c.specs.contracts.held_hub.HeldHub.into_parts.Key.{name as #self}

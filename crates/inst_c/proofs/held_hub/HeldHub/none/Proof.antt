@@ -33,7 +33,7 @@ use denote.Triple.Spec.{triple_of}
 use denote.Triple.Table.{entered}
 use denote.Triple.Walked.{says, Stays, stay_dropped, walk_of, ends_at, Goes-dropped, walk_Meets}
 use Rattle.std.specs.Prelude.{None}
-use Rattle.inst_c.proofs.AsBox.{E}
+use Rattle.inst_c.proofs.HeldHubAsBox.{E}
 use Rattle.inst_c.specs.contracts.held_hub.HeldHub.none as F
 use Rattle.inst_c.specs.contracts.held_hub.HeldHub.none.Key.{name as #self}
 use Rattle.inst_c.proofs.held_hub.HeldHub.none.Statement as stated

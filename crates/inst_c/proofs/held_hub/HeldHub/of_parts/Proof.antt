@@ -25,7 +25,7 @@ use denote.Triple.Walked.{says, Stays, stay_dropped, walk_of, ends_at, Goes-drop
 use Rattle.std.proofs.BoxSteps.Form.{D, B, word, box_typed}
 use Rattle.std.proofs.BoxSteps.Steps.{box_out, box_in}
 use Rattle.std.specs.Prelude.{Some}
-use Rattle.inst_c.proofs.AsBox.{E, FromParts as From}
+use Rattle.inst_c.proofs.HeldHubAsBox.{E, FromParts as From}
 use Rattle.inst_c.specs.contracts.held_hub.HeldHub.of_parts as F
 use Rattle.inst_c.specs.contracts.held_hub.HeldHub.of_parts.Key.{name as #self}
 use Rattle.inst_c.proofs.held_hub.HeldHub.of_parts.Statement as stated

@@ -1,4 +1,4 @@
-use Rattle.inst_cell.proofs.Opening.{Seated}
+use Rattle.inst_cell.proofs.BoardsAtOpening.{Seated}
 use Rattle.inst_cell.proofs.shared_board.SharedBoard.admit.Given as goal
 
 abbrev pub invariant-loop-next : goal.invariant-loop-next

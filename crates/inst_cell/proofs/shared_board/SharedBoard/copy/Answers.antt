@@ -1,6 +1,6 @@
 use Rattle.std.proofs.Common.{rules}
-use Rattle.inst_cell.proofs.Moving.{tells}
-use Rattle.inst_cell.proofs.Opening.{some_words}
+use Rattle.inst_cell.proofs.RuleAllowsEachStep.{tells}
+use Rattle.inst_cell.proofs.BoardsAtOpening.{some_words}
 use Rattle.inst_cell.proofs.shared_board.SharedBoard.copy.Goals as goal
 
 pub split_seat-seat-requires : goal.split_seat-seat-requires

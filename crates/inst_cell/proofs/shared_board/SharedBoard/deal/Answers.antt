@@ -1,6 +1,6 @@
 use Rattle.std.proofs.Common.{◌+◌, List, sym, subst, arith}
 use Rattle.inst_cell.specs.declared.shared_board.SharedBoard.{SharedBoard}
-use Rattle.inst_cell.proofs.Opening.{Dealt, dealt_more}
+use Rattle.inst_cell.proofs.BoardsAtOpening.{Dealt, dealt_more}
 use Rattle.inst_cell.proofs.shared_board.SharedBoard.deal.Goals as goal
 
 pub loop-next-preserved : goal.loop-next-preserved

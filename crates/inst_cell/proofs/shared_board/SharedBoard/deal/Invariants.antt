@@ -1,4 +1,4 @@
-use Rattle.inst_cell.proofs.Opening.{Dealt}
+use Rattle.inst_cell.proofs.BoardsAtOpening.{Dealt}
 use Rattle.inst_cell.proofs.shared_board.SharedBoard.deal.Given as goal
 
 abbrev pub invariant-loop-next : goal.invariant-loop-next

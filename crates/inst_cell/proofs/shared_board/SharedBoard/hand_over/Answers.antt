@@ -1,6 +1,6 @@
 use Rattle.std.proofs.Common.{rules}
-use Rattle.inst_cell.proofs.Moving.{hands_over}
-use Rattle.inst_cell.proofs.Opening.{some_words}
+use Rattle.inst_cell.proofs.RuleAllowsEachStep.{hands_over}
+use Rattle.inst_cell.proofs.BoardsAtOpening.{some_words}
 use Rattle.inst_cell.proofs.shared_board.SharedBoard.hand_over.Goals as goal
 
 pub split_seat-seat-requires : goal.split_seat-seat-requires

@@ -1,8 +1,8 @@
 use Rattle.std.proofs.Common.{rules, ap, refl, ◌∙◌}
 use Rattle.inst_cell.specs.Held.{settings_of, view_of}
-use Rattle.inst_cell.proofs.Meeting.{view_in, one_told, vouched_one, both_of, told_both, told_places, told_margin, vouches_for, truth_of}
-use Rattle.inst_cell.proofs.Opening.{some_words, five_words, first_below}
-use Rattle.inst_cell.proofs.Moving.{tells, unites, allows_vouches}
+use Rattle.inst_cell.proofs.TwoBoardsThatMeet.{view_in, one_told, vouched_one, both_of, told_both, told_places, told_margin, vouches_for, truth_of}
+use Rattle.inst_cell.proofs.BoardsAtOpening.{some_words, five_words, first_below}
+use Rattle.inst_cell.proofs.RuleAllowsEachStep.{tells, unites, allows_vouches}
 use Rattle.inst_cell.proofs.shared_board.SharedBoard.inform.Goals as goal
 
 pub split_seat-copy-requires : goal.split_seat-copy-requires

@@ -1,9 +1,9 @@
 use Rattle.std.proofs.Common.{rules, ap, sym, ◌∙◌}
 use Rattle.inst_cell.specs.declared.view.View.{View}
 use Rattle.inst_cell.specs.Held.{settings_of}
-use Rattle.inst_cell.proofs.Moving.{unites, allows_vouches}
-use Rattle.inst_cell.proofs.Opening.{some_words, five_words, first_below}
-use Rattle.inst_cell.proofs.Meeting.{view_in, vouched_one, none_held, truth_of, joined_both, joined_roles, joined_role}
+use Rattle.inst_cell.proofs.RuleAllowsEachStep.{unites, allows_vouches}
+use Rattle.inst_cell.proofs.BoardsAtOpening.{some_words, five_words, first_below}
+use Rattle.inst_cell.proofs.TwoBoardsThatMeet.{view_in, vouched_one, none_held, truth_of, joined_both, joined_roles, joined_role}
 use Rattle.inst_cell.proofs.shared_board.SharedBoard.join.Goals as goal
 
 pub join_seat-requires : goal.join_seat-requires

@@ -1,6 +1,6 @@
 use Rattle.std.proofs.Common.{◌∙◌}
 use Rattle.inst_cell.specs.Held.{roles_of}
-use Rattle.inst_cell.proofs.Meeting.{no_roles_more}
+use Rattle.inst_cell.proofs.TwoBoardsThatMeet.{no_roles_more}
 use Rattle.inst_cell.proofs.shared_board.SharedBoard.join_sight.Goals as goal
 
 pub returns-clause-stays : goal.returns-clause-stays

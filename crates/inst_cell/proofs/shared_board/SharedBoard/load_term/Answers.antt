@@ -1,7 +1,7 @@
 use Rattle.std.proofs.Common.{rules, ◌+◌, ℕ, ap}
-use Rattle.inst_board.specs.Plain.{number_of}
+use Rattle.inst_board.specs.Plain.{place_number}
 use Rattle.inst_cell.specs.Held.{settings_of}
-use Rattle.inst_cell.proofs.Moving.{allows_loads_term}
+use Rattle.inst_cell.proofs.RuleAllowsEachStep.{allows_loads_term}
 use Rattle.inst_cell.proofs.Numbers.{below}
 use Rattle.inst_cell.proofs.shared_board.SharedBoard.load_term.Goals as goal
 
@@ -13,5 +13,5 @@ load-requires c =
 
 pub returns-clause-term : goal.returns-clause-term
 returns-clause-term c = λ t h.
-    let k = number_of (settings_of c.args.self.now) c.args.place in
+    let k = place_number (settings_of c.args.self.now) c.args.place in
     c.load.ensures.2.0 k c.args.index t (ap (λ (x : ℕ). x + c.args.index) c.first_word.ensures.value) c.requires.index h.1

@@ -1,4 +1,4 @@
-use Rattle.inst_cell.proofs.Meeting.{both_still, both_met, vouches_met, truth_still}
+use Rattle.inst_cell.proofs.TwoBoardsThatMeet.{both_still, both_met, vouches_met, truth_still}
 use Rattle.inst_cell.proofs.shared_board.SharedBoard.meet.Goals as goal
 
 pub returns-clause-mine : goal.returns-clause-mine

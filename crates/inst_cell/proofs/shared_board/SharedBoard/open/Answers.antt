@@ -1,4 +1,4 @@
-use Rattle.inst_cell.proofs.Opening.{opened_dealt}
+use Rattle.inst_cell.proofs.BoardsAtOpening.{opened_dealt}
 use Rattle.inst_cell.proofs.shared_board.SharedBoard.open.Goals as goal
 
 pub returns-clause-ok : goal.returns-clause-ok

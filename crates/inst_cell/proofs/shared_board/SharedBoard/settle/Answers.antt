@@ -1,11 +1,11 @@
 use Rattle.std.proofs.Common.{rules, ◌+◌, ◌<◌, ℕ, ap, refl, sym, subst, ◌∙◌, ⊎_elim, inl, inr}
-use Rattle.inst_board.specs.Plain.{number_of}
+use Rattle.inst_board.specs.Plain.{place_number}
 use Rattle.inst_cell.specs.declared.view.View.{View}
 use Rattle.inst_cell.specs.View.{count}
 use Rattle.inst_cell.specs.Held.{settings_of, roles_of}
-use Rattle.inst_cell.proofs.Moving.{allows_decides}
+use Rattle.inst_cell.proofs.RuleAllowsEachStep.{allows_decides}
 use Rattle.inst_cell.proofs.Numbers.{below, owner_is}
-use Rattle.inst_cell.proofs.Learnt.{hit, missed}
+use Rattle.inst_cell.proofs.FactsLearntFromStep.{hit, missed}
 use Rattle.inst_cell.proofs.shared_board.SharedBoard.settle.Goals as goal
 
 pub compare_exchange-found-requires : goal.compare_exchange-found-requires
@@ -20,37 +20,37 @@ compare_exchange-found-requires c =
 
 pub invariant_of-self-clause-based : goal.invariant_of-self-clause-based
 invariant_of-self-clause-based c =
-    let k = number_of (settings_of c.args.self.now) c.args.place in
+    let k = place_number (settings_of c.args.self.now) c.args.place in
     ap (λ (v : View). v.places) (c.compare_exchange-found.ensures.2.0 k (ap (λ (x : ℕ). x + 5) c.first_word-word.ensures.value)).learns ∙ c.args.self.now.based
 
 pub invariant_of-self-clause-bounded : goal.invariant_of-self-clause-bounded
 invariant_of-self-clause-bounded c =
-    let k = number_of (settings_of c.args.self.now) c.args.place in
+    let k = place_number (settings_of c.args.self.now) c.args.place in
     ap (λ (v : View). v.margin) (c.compare_exchange-found.ensures.2.0 k (ap (λ (x : ℕ). x + 5) c.first_word-word.ensures.value)).learns ∙ c.args.self.now.bounded
 
 pub invariant_of-self-clause-one : goal.invariant_of-self-clause-one
 invariant_of-self-clause-one c =
-    let k = number_of (settings_of c.args.self.now) c.args.place in
+    let k = place_number (settings_of c.args.self.now) c.args.place in
     (c.compare_exchange-found.ensures.2.0 k (ap (λ (x : ℕ). x + 5) c.first_word-word.ensures.value)).one
 
 pub returns-then-found-pending-clause-stays : goal.returns-then-found-pending-clause-stays
 returns-then-found-pending-clause-stays c =
-    let k = number_of (settings_of c.args.self.now) c.args.place in
+    let k = place_number (settings_of c.args.self.now) c.args.place in
     record { settings = refl; table = c.compare_exchange-found.ensures.0; roles = ap (λ (v : View). v.roles) (c.compare_exchange-found.ensures.2.0 k (ap (λ (x : ℕ). x + 5) c.first_word-word.ensures.value)).learns }
 
 pub returns-then-found-pending-clause-shows : goal.returns-then-found-pending-clause-shows
 returns-then-found-pending-clause-shows c =
-    let k = number_of (settings_of c.args.self.now) c.args.place in
+    let k = place_number (settings_of c.args.self.now) c.args.place in
     let s = c.compare_exchange-found.ensures.2.0 k (ap (λ (x : ℕ). x + 5) c.first_word-word.ensures.value) in
     hit _ _ _ _ _ _ _ c.if-found-pending.true c.decided_word-decided.ensures.value s
 
 pub returns-else-found-pending-clause-stays : goal.returns-else-found-pending-clause-stays
 returns-else-found-pending-clause-stays c =
-    let k = number_of (settings_of c.args.self.now) c.args.place in
+    let k = place_number (settings_of c.args.self.now) c.args.place in
     record { settings = refl; table = c.compare_exchange-found.ensures.0; roles = ap (λ (v : View). v.roles) (c.compare_exchange-found.ensures.2.0 k (ap (λ (x : ℕ). x + 5) c.first_word-word.ensures.value)).learns }
 
 pub returns-else-found-pending-clause-shows : goal.returns-else-found-pending-clause-shows
 returns-else-found-pending-clause-shows c =
-    let k = number_of (settings_of c.args.self.now) c.args.place in
+    let k = place_number (settings_of c.args.self.now) c.args.place in
     let s = c.compare_exchange-found.ensures.2.0 k (ap (λ (x : ℕ). x + 5) c.first_word-word.ensures.value) in
     missed _ _ _ _ _ _ _ c.if-found-pending.false s

@@ -1,7 +1,7 @@
 use Rattle.std.proofs.Common.{rules, ◌<◌, ℕ, subst, sym}
 use Rattle.inst_cell.specs.View.{count}
 use Rattle.inst_cell.specs.Held.{settings_of, view_of}
-use Rattle.inst_cell.proofs.Moving.{allows_notes}
+use Rattle.inst_cell.proofs.RuleAllowsEachStep.{allows_notes}
 use Rattle.inst_cell.proofs.Numbers.{below, owner_is}
 use Rattle.inst_cell.proofs.shared_board.SharedBoard.store_term.Goals as goal
 

@@ -1,6 +1,6 @@
 use Rattle.inst_board.specs.declared.about.About.TheVariants.{Opened}
 use Rattle.inst_board.specs.Standing.{about}
-use Rattle.inst_cell.proofs.Learnt.{five_loads, knows_still, same_some, no_none}
+use Rattle.inst_cell.proofs.FactsLearntFromStep.{five_loads, knows_still, same_some, no_none}
 use Rattle.inst_cell.proofs.shared_board.SharedBoard.terms.Goals as goal
 
 pub load_term-first-requires-clause-opened : goal.load_term-first-requires-clause-opened

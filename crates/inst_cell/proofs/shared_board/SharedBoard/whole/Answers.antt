@@ -1,6 +1,6 @@
 use Rattle.std.proofs.Common.{◌∙◌, ap, ◌*◌, ℕ, List, get_or}
-use Rattle.inst_cell.proofs.Moving.{starts}
-use Rattle.inst_cell.proofs.Opening.{zeros, sized_as}
+use Rattle.inst_cell.proofs.RuleAllowsEachStep.{starts}
+use Rattle.inst_cell.proofs.BoardsAtOpening.{zeros, sized_as}
 use Rattle.inst_cell.proofs.shared_board.SharedBoard.whole.Goals as goal
 
 pub of_words-requires : goal.of_words-requires

@@ -1,6 +1,6 @@
 use Rattle.std.proofs.Common.{◌∙◌}
 use Rattle.inst_cell.specs.Held.{roles_of}
-use Rattle.inst_cell.proofs.Meeting.{no_roles_more}
+use Rattle.inst_cell.proofs.TwoBoardsThatMeet.{no_roles_more}
 use Rattle.inst_cell.proofs.sight.Sight.join.Goals as goal
 
 pub invariant_of-self : goal.invariant_of-self

@@ -1,10 +1,10 @@
 use Rattle.std.proofs.Common.{subst}
 use Rattle.inst_board.specs.declared.about.About.TheVariants.{Opened, Decided}
-use Rattle.inst_board.specs.declared.place.Place.{Place}
+use Rattle.inst_command.specs.declared.place.Place.{Place}
 use Rattle.inst_board.specs.Learning.{Looks}
 use Rattle.inst_cell.specs.Held.{settings_of, knows, has_role, stood}
 use Rattle.inst_cell.specs.Seen.{board_of}
-use Rattle.inst_cell.proofs.Seeing.{unused_says, pending_says, decided_says, pending_state, decided_state, decided_shown}
+use Rattle.inst_cell.proofs.StateShownByLook.{unused_says, pending_says, decided_says, pending_state, decided_state, decided_shown}
 use Rattle.inst_cell.proofs.sight.Sight.peek.Goals as goal
 
 pub returns-in-Unused-clause-opened : goal.returns-in-Unused-clause-opened

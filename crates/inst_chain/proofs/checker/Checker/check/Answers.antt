@@ -2,7 +2,7 @@ use Rattle.std.proofs.Common.{◌++◌, sym, ◌∙◌, refl}
 use Rattle.std.proofs.lemmas.Slice.Eq.{bytes_eq-Decides}
 use Rattle.inst_chain.specs.Chain.{front_of}
 use Rattle.inst_log.specs.Layout.{blocks}
-use Rattle.inst_chain.proofs.Checks.{plain_stands, mark_stands}
+use Rattle.inst_chain.proofs.ProgressOfChecker.{plain_stands, mark_stands}
 use Rattle.inst_chain.proofs.checker.Checker.check.Goals as goal
 
 pub returns-then-not-is_mark-clause-right : goal.returns-then-not-is_mark-clause-right

@@ -1,6 +1,6 @@
 use Rattle.std.proofs.Common.{◌-◌, take, drop, refl}
 use Rattle.std.proofs.lemmas.List.{take_rest}
-use Rattle.inst_chain.proofs.Checks.{takes_none, takes_one, takes_wrong}
+use Rattle.inst_chain.proofs.ProgressOfChecker.{takes_none, takes_one, takes_wrong}
 use Rattle.inst_chain.proofs.checker.Checker.check_lines.Goals as goal
 
 pub loop-len-init : goal.loop-len-init

@@ -1,5 +1,5 @@
 use Rattle.std.proofs.Common.{length}
-use Rattle.inst_chain.proofs.Checks.{Takes}
+use Rattle.inst_chain.proofs.ProgressOfChecker.{Takes}
 use Rattle.inst_chain.proofs.checker.Checker.check_lines.Given as goal
 
 abbrev pub invariant-loop-len : goal.invariant-loop-len

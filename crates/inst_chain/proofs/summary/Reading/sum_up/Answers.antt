@@ -1,4 +1,4 @@
-use Rattle.inst_chain.proofs.Summing.{summed}
+use Rattle.inst_chain.proofs.SummaryOfLines.{summed}
 use Rattle.inst_chain.proofs.summary.Reading.sum_up.Goals as goal
 
 pub returns-in-Some-clause-found : goal.returns-in-Some-clause-found

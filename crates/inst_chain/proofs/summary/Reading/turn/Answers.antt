@@ -1,9 +1,9 @@
 use Rattle.std.proofs.Common.{◌≡◌, ◌<◌, ◌++◌, List, ℕ, inl, length, take, sym, ◌∙◌, ap, subst, arith}
 use Rattle.std.proofs.lemmas.List.{length-take-le, with_items_is}
 use Rattle.std.specs.Io.KnownBytes.{Consumes}
-use Rattle.inst_log.specs.Layout.{recovered}
+use Rattle.inst_log.specs.Layout.{recovered_lines}
 use Rattle.inst_chain.specs.inner.Summing.{Tallies}
-use Rattle.inst_chain.proofs.Summing.{nothing_left, went_on}
+use Rattle.inst_chain.proofs.SummaryOfLines.{nothing_left, went_on}
 use Rattle.inst_chain.proofs.summary.Reading.turn.Goals as goal
 
 pub returns-then-count-eq0-clause-more : goal.returns-then-count-eq0-clause-more
@@ -29,10 +29,10 @@ returns-clause-more g c = λ file h.
     ap (take n) (c.deref.ensures.value ∙ with_items_is c.in_ok-piece.piece buf (c.read_bytes.auto.buf ∙ c.deref_mut.ensures.len)) in
     let size : length piece ≡ n = ap length same ∙ length-take-le n buf (omega (arith, c.in_ok-count.ensures.bound)) in
     let room : length buf ≡ 65536 = omega (arith, c.read_bytes.auto.buf, c.deref_mut.ensures.len, c.in_ok-piece.ensures.len) in
-    went_on file c.args.self.now (record { cutter = c.take.new.self; tally = c.add.new.self }) _ _ piece (recovered c.in_ok-lines.lines.items) h
+    went_on file c.args.self.now (record { cutter = c.take.new.self; tally = c.add.new.self }) _ _ piece (recovered_lines c.in_ok-lines.lines.items) h
     (subst (Consumes (g.R.Read.remaining c.args.reader.now) (g.R.Read.remaining c.read_bytes.new.reader)) (sym same) c.in_ok-count.ensures.bytes.0)
     (omega (arith, size, room, c.in_ok-count.ensures.bound, c.at.ensures, c.if-at.false))
     c.in_ok-lines.ensures.at
     c.in_ok-lines.ensures.cut
-    (λ done t. subst (λ (l : List ℕ). Tallies c.add.new.self (done ++ recovered l)) c.deref-2.ensures.value (c.in_ok-add.ensures done t))
+    (λ done t. subst (λ (l : List ℕ). Tallies c.add.new.self (done ++ recovered_lines l)) c.deref-2.ensures.value (c.in_ok-add.ensures done t))
     c.stops.result (sym c.stops.ensures)

@@ -1,6 +1,6 @@
 use Rattle.std.proofs.Common.{◌-◌, take, drop}
 use Rattle.std.proofs.lemmas.List.{take_rest}
-use Rattle.inst_chain.proofs.Summing.{went_none, went_one}
+use Rattle.inst_chain.proofs.SummaryOfLines.{went_none, went_one}
 use Rattle.inst_chain.proofs.summary.Seen.add.Goals as goal
 
 pub loop-len-init : goal.loop-len-init

@@ -1,5 +1,5 @@
 use Rattle.std.proofs.Common.{length}
-use Rattle.inst_chain.proofs.Summing.{Went}
+use Rattle.inst_chain.proofs.SummaryOfLines.{Went}
 use Rattle.inst_chain.proofs.summary.Seen.add.Given as goal
 
 abbrev pub invariant-loop-len : goal.invariant-loop-len

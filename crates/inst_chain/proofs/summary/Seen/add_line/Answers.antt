@@ -1,5 +1,5 @@
 use Rattle.std.proofs.Common.{sym, ◌∙◌, arith}
-use Rattle.inst_chain.proofs.Summing.{sees_mark, sees_line}
+use Rattle.inst_chain.proofs.SummaryOfLines.{sees_mark, sees_line}
 use Rattle.inst_chain.proofs.summary.Seen.add_line.Goals as goal
 
 pub returns-then-is_mark : goal.returns-then-is_mark

@@ -1,12 +1,12 @@
 use Rattle.std.proofs.Common.{sym, ◌∙◌}
-use Rattle.inst_chain.proofs.Summing.{longer_wrong, none_wrong, wrong_now}
-use Rattle.inst_log.specs.Layout.{recovered}
+use Rattle.inst_chain.proofs.SummaryOfLines.{longer_wrong, none_wrong, wrong_now}
+use Rattle.inst_log.specs.Layout.{recovered_lines}
 use Rattle.inst_chain.proofs.summary.Tally.add.Goals as goal
 
 pub returns-then-is_some : goal.returns-then-is_some
 returns-then-is_some c = λ done t. record {
   sees = c.in_ok-add.ensures done t.sees;
-  checked = longer_wrong c.args.self.now.wrong c.args.self.now.checker c.args.self.now.checker done (recovered c.args.bytes.now) (sym c.is_some.ensures ∙ c.if-is_some.true) t.checked;
+  checked = longer_wrong c.args.self.now.wrong c.args.self.now.checker c.args.self.now.checker done (recovered_lines c.args.bytes.now) (sym c.is_some.ensures ∙ c.if-is_some.true) t.checked;
 }
 
 pub returns-in-Err : goal.returns-in-Err

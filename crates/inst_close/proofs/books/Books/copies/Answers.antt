@@ -1,7 +1,7 @@
 use Rattle.std.proofs.Common.{◌≡◌, ◌<◌, ℕ, arith, length, get_or, ap, ◌∙◌, List}
 use Rattle.inst_slot.specs.Book.{Book}
 use Rattle.inst_close.specs.ClosedHub.{ClosedHub}
-use Rattle.inst_close.proofs.Copying.{one_copied, all_copied}
+use Rattle.inst_close.proofs.CopiesOfBooks.{one_copied, all_copied}
 use Rattle.inst_close.proofs.books.Books.copies.Goals as goal
 
 pub loop-slot-preserved : goal.loop-slot-preserved

@@ -1,4 +1,4 @@
-use Rattle.inst_close.proofs.Copying.{CopiedBelow}
+use Rattle.inst_close.proofs.CopiesOfBooks.{CopiedBelow}
 use Rattle.inst_close.proofs.books.Books.copies.Given as goal
 
 abbrev pub invariant-loop-slot : goal.invariant-loop-slot

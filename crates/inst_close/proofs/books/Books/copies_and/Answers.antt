@@ -1,6 +1,6 @@
 use Rattle.std.proofs.Common.{◌≡◌, ◌+◌, ℕ, arith, length, ◌∙◌, subst}
 use Rattle.inst_close.specs.inner.NextOpening.{AreCopiesAnd}
-use Rattle.inst_close.proofs.Copying.{one_more_empty}
+use Rattle.inst_close.proofs.CopiesOfBooks.{one_more_empty}
 use Rattle.inst_close.proofs.books.Books.copies_and.Goals as goal
 
 pub loop-init : goal.loop-init

@@ -1,5 +1,5 @@
 use Rattle.inst_model.specs.Opening.Opening.{First}
-use Rattle.inst_close.proofs.Explained.{of_copies, if_found}
+use Rattle.inst_close.proofs.StepsExplainCopiedBooks.{of_copies, if_found}
 use Rattle.inst_close.proofs.books.Books.interleaving.Goals as goal
 
 pub returns : goal.returns

@@ -2,7 +2,7 @@ use Rattle.std.proofs.Common.{sym, subst}
 use Rattle.inst_model.specs.Opening.{Opening}
 use Rattle.inst_participant.specs.Together.{histories}
 use Rattle.inst_order.specs.Order.{Explains}
-use Rattle.inst_close.proofs.Explained.{of_copies, opening_of_copies, if_found}
+use Rattle.inst_close.proofs.StepsExplainCopiedBooks.{of_copies, opening_of_copies, if_found}
 use Rattle.inst_close.proofs.books.Books.interleaving_from.Goals as goal
 
 pub returns : goal.returns

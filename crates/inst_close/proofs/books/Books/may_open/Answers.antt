@@ -3,7 +3,7 @@ use Rattle.inst_journal.specs.declared.event.Event.{Event}
 use Rattle.inst_journal.specs.Opened.{HasOpeningsLeft}
 use Rattle.inst_slot.specs.Book.{Book}
 use Rattle.inst_close.specs.ClosedHub.{ClosedHub}
-use Rattle.inst_close.proofs.Copying.{one_more_few, all_few}
+use Rattle.inst_close.proofs.CopiesOfBooks.{one_more_few, all_few}
 use Rattle.inst_close.proofs.books.Books.may_open.Goals as goal
 
 pub loop-slot-preserved : goal.loop-slot-preserved

@@ -9,7 +9,7 @@ use Rattle.inst_slot.specs.Book.{Book}
 use Rattle.inst_model.specs.Untold.{signed_sum_below}
 use Rattle.inst_participant.specs.Together.{histories}
 use Rattle.inst_close.specs.ClosedHub.{ClosedHub, IsClosed}
-use Rattle.inst_close.proofs.Summing.{IsSmall, one_netted, netted_small, small_again, whole_net}
+use Rattle.inst_close.proofs.PositionSumsAreSmall.{IsSmall, one_netted, netted_small, small_again, whole_net}
 use Rattle.inst_close.proofs.books.Books.net.Goals as goal
 use Rattle.inst_close.proofs.books.Books.net.Goals.{After-net-total}
 

@@ -6,11 +6,11 @@ use Rattle.inst_cell.specs.Opening.{MayOpen}
 use Rattle.inst_journal.specs.History.{History}
 use Rattle.inst_world.specs.NextOpening.{CanOpenFrom, books_of}
 use Rattle.inst_participant.specs.Together.{histories}
-use Rattle.inst_participant.proofs.Parted.{if_ok}
+use Rattle.inst_participant.proofs.OneBookSettlesOthersStay.{if_ok}
 use Rattle.inst_participant.specs.Wider.{widened}
 use Rattle.inst_close.specs.Closing.{IsNextOf, AreNextTellers}
 use Rattle.inst_close.specs.NextOpening.{MayOpenWider}
-use Rattle.inst_close.proofs.Reopened.{if_both, both, widened_as, can_open_as, next_is, next_tellers, seats_if_ok}
+use Rattle.inst_close.proofs.NextHubFromCopies.{if_both, both, widened_as, can_open_as, next_is, next_tellers, seats_if_ok}
 use Rattle.inst_close.proofs.books.Books.open_wider.Goals as goal
 use Rattle.inst_close.proofs.books.Books.open_wider.Goals.{After-deref-2}
 

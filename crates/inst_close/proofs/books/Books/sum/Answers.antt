@@ -5,7 +5,7 @@ use Rattle.inst_model.specs.Untold.{sum_below, total}
 use Rattle.inst_participant.specs.Together.{histories}
 use Rattle.inst_settings.specs.Settings.{participants}
 use Rattle.inst_close.specs.ClosedHub.{ClosedHub, IsClosed}
-use Rattle.inst_close.proofs.Summing.{one_summed, summed_small, net_is_positions}
+use Rattle.inst_close.proofs.PositionSumsAreSmall.{one_summed, summed_small, net_is_positions}
 use Rattle.inst_close.proofs.books.Books.sum.Goals as goal
 use Rattle.inst_close.proofs.books.Books.sum.Goals.{After-position-total, After-loop-slot}
 

@@ -2,11 +2,11 @@ use Rattle.std.proofs.Common.{◌≡◌, ◌<◌, ◌≤◌, ◌∙◌, ℕ, Som
 use Rattle.std.specs.Prelude.{slice_get}
 use Rattle.std.proofs.lemmas.Bool.{ltb-true, ltb-false}
 use Rattle.std.proofs.lemmas.Option.{slice_get_read, slice_get_past}
-use Rattle.inst_board.specs.declared.place.Place.{Place}
+use Rattle.inst_command.specs.declared.place.Place.{Place}
 use Rattle.inst_slot.specs.Book.{Book}
 use Rattle.inst_slot.specs.OwnState.{own_state}
 use Rattle.inst_close.specs.ClosedHub.{ClosedHub, IsClosed}
-use Rattle.inst_close.proofs.AtPlace.{told_at, untold_at}
+use Rattle.inst_close.proofs.OriginatorTellsOfPlace.{told_at, untold_at}
 use Rattle.inst_close.proofs.books.Books.told.Goals as goal
 use Rattle.inst_close.proofs.books.Books.told.Goals.{After-get}
 

@@ -1,11 +1,11 @@
 use Rattle.std.proofs.Common.{List, subst}
 use Rattle.inst_hub.specs.declared.teller.Teller.{Teller}
 use Rattle.inst_hub.specs.declared.hub.Hub.{Hub}
-use Rattle.inst_participant.proofs.Parted.{if_ok}
+use Rattle.inst_participant.proofs.OneBookSettlesOthersStay.{if_ok}
 use Rattle.inst_close.specs.declared.closing.Rest.{Rest}
 use Rattle.inst_close.specs.Closing.{IsLeftOf, IsClosedFrom, rest_of}
 use Rattle.inst_close.specs.inner.Closing.{IsPartly}
-use Rattle.inst_close.proofs.Left.{if_err, books_of_parts, books_of_whole, left_partly}
+use Rattle.inst_close.proofs.RemainsOfClosingHub.{if_err, books_of_parts, books_of_whole, left_partly}
 use Rattle.inst_close.proofs.closing.Rest.close.Goals as goal
 
 pub returns-in-Whole-clause-books : goal.returns-in-Whole-clause-books

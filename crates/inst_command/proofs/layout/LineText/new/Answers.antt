@@ -2,9 +2,9 @@ use Rattle.std.proofs.Common.{rules, ◌≤◌, ◌<◌, ◌^◌, arith, length,
 use Rattle.std.proofs.lemmas.Bool.{and_parts}
 use Rattle.std.proofs.lemmas.Bool.Decides.{nat_tests}
 use Rattle.inst_command.specs.LineText.{last_number, other_code, other_fits}
-use Rattle.inst_command.proofs.Telling.{columns_from, columns_length}
-use Rattle.inst_command.proofs.Latin.{line_text-latin, latin-code}
-use Rattle.inst_command.proofs.Widths.{identifier_form}
+use Rattle.inst_command.proofs.LineTextTellsLine.{columns_from, columns_length}
+use Rattle.inst_command.proofs.LineTextIsLatin.{line_text-latin, latin-code}
+use Rattle.inst_command.proofs.ColumnWidths.{identifier_form}
 use Rattle.inst_command.proofs.layout.LineText.new.Goals as goal
 
 pub returns-clause-len : goal.returns-clause-len

@@ -1,9 +1,9 @@
 use Rattle.std.proofs.Common.{◌≡◌, subst, arith, decimal}
 use Rattle.std.specs.Fmt.{HasWritten, styled_text, styled_decimal}
 use Rattle.inst_base.specs.Text.{is_latin, is_code_character}
-use Rattle.inst_base.proofs.Ascii.{is_latin-below, is_code_character-below}
+use Rattle.inst_base.proofs.TextsAreAscii.{is_latin-below, is_code_character-below}
 use Rattle.inst_command.specs.LineText.{line_text, left_in, right_in, kind_name, other_code}
-use Rattle.inst_command.proofs.Widths.{left_column, right_column, columns_are, identifier_form}
+use Rattle.inst_command.proofs.ColumnWidths.{left_column, right_column, columns_are, identifier_form}
 use Rattle.inst_command.proofs.layout.LineTextDisplay.fmt.Goals as goal
 
 pub returns-clause-writes : goal.returns-clause-writes

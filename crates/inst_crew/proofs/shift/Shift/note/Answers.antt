@@ -1,8 +1,8 @@
 use Rattle.std.proofs.Common.{sym, subst, List}
-use Rattle.inst_board.specs.declared.place.Place.{Place}
+use Rattle.inst_command.specs.declared.place.Place.{Place}
 use Rattle.inst_command.specs.declared.outcome.State.{State}
 use Rattle.inst_crew.specs.inner.Seen.{AreSeen}
-use Rattle.inst_crew.proofs.Seeing.{all_seen_more, one_more_seen}
+use Rattle.inst_crew.proofs.StatesSeenByWorker.{all_seen_more, one_more_seen}
 use Rattle.inst_crew.proofs.shift.Shift.note.Goals as goal
 
 pub returns-clause-seen : goal.returns-clause-seen

@@ -1,7 +1,7 @@
-use Rattle.inst_hub.proofs.Calling.{knows_twice}
-use Rattle.inst_crew.proofs.Seeing.{all_seen_more, call_opened}
+use Rattle.inst_hub.proofs.CallUnderLock.{knows_twice}
+use Rattle.inst_crew.proofs.StatesSeenByWorker.{all_seen_more, call_opened}
 use Rattle.inst_crew.specs.inner.Workers.{ServesOne}
-use Rattle.inst_crew.proofs.Serving.{on_ok, served_noted, served_unnoted}
+use Rattle.inst_crew.proofs.OneMoreServedJob.{on_ok, served_noted, served_unnoted}
 use Rattle.inst_crew.proofs.shift.Shift.serve.Goals as goal
 
 pub note-requires-clause-opened : goal.note-requires-clause-opened

@@ -1,6 +1,6 @@
 use Rattle.std.proofs.Common.{rules, ◌≡◌, true, false, refl}
 use Rattle.inst_command.specs.Ask.{ask_fits}
-use Rattle.inst_crew.proofs.Working.{works_serves, works_passes}
+use Rattle.inst_crew.proofs.OneMoreTakenJob.{works_serves, works_passes}
 use Rattle.inst_crew.proofs.shift.Shift.turn.Goals as goal
 
 pub returns-in_ok-serve-clause-works : goal.returns-in_ok-serve-clause-works

@@ -1,6 +1,6 @@
 use Rattle.std.proofs.Common.{rules, arith, length, ap, ◌≡◌, ◌+◌, ◌∙◌}
 use Rattle.std.proofs.lemmas.List.{length-append}
-use Rattle.inst_desk.proofs.Steps.{deals}
+use Rattle.inst_desk.proofs.StepsKeepDeskRule.{deals}
 use Rattle.inst_desk.proofs.Hands.{dealt_first, dealt_more, dealt_all}
 use Rattle.inst_desk.proofs.desk.Desk.hands.Goals as goal
 

@@ -1,4 +1,4 @@
-use Rattle.inst_desk.proofs.Steps.{puts, may_lie}
+use Rattle.inst_desk.proofs.StepsKeepDeskRule.{puts, may_lie}
 use Rattle.inst_desk.proofs.desk.Desk.put.Goals as goal
 
 pub push_as-requires-clause-rule : goal.push_as-requires-clause-rule

@@ -1,4 +1,4 @@
-use Rattle.inst_desk.proofs.Steps.{takes, may_lie}
+use Rattle.inst_desk.proofs.StepsKeepDeskRule.{takes, may_lie}
 use Rattle.inst_desk.proofs.desk.Desk.take.Goals as goal
 
 pub pop_as-requires-clause-rule : goal.pop_as-requires-clause-rule

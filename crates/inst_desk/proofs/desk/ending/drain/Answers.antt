@@ -1,7 +1,7 @@
 use Rattle.std.proofs.Common.{rules, arith}
 use Rattle.std.proofs.lemmas.Grind.{common_steps}
-use Rattle.inst_desk.proofs.Steps.{takes, may_lie}
-use Rattle.inst_desk.proofs.Whole.{some_part, begun, has_room, short}
+use Rattle.inst_desk.proofs.StepsKeepDeskRule.{takes, may_lie}
+use Rattle.inst_desk.proofs.HandWithAllParts.{some_part, begun, has_room, short}
 use Rattle.inst_desk.proofs.desk.ending.drain.Goals as goal
 
 pub len_as-requires-clause-rule : goal.len_as-requires-clause-rule

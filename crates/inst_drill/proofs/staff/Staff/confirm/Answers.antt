@@ -2,7 +2,7 @@ use Rattle.std.proofs.Common.{sym, subst, ap, ◌∙◌, arith, length, ◌≡�
 use Rattle.inst_hub.specs.declared.teller.Teller.{Teller}
 use Rattle.inst_hub.specs.Opening.{parts_of}
 use Rattle.inst_crew.specs.Seen.{AreSeenByOne}
-use Rattle.inst_drill.proofs.Staffed.{tellers_apart}
+use Rattle.inst_drill.proofs.StaffOfOpening.{tellers_apart}
 use Rattle.inst_drill.proofs.staff.Staff.confirm.Goals as goal
 
 pub returns-clause-staff : goal.returns-clause-staff

@@ -1,7 +1,7 @@
 use Rattle.std.proofs.Common.{sym, subst, List}
 use Rattle.inst_desk.specs.declared.hand.Hand.{Hand}
 use Rattle.inst_desk.specs.Desk.{AreAllHandsOf}
-use Rattle.inst_drill.proofs.Staffed.{all_hands}
+use Rattle.inst_drill.proofs.StaffOfOpening.{all_hands}
 use Rattle.inst_drill.proofs.staff.Staff.dismiss.Goals as goal
 
 pub returns-clause-hands : goal.returns-clause-hands

@@ -1,6 +1,6 @@
 use Rattle.std.proofs.Common.{sym, ap, ◌∙◌}
 use Rattle.inst_hub.specs.Opening.{parts_of}
-use Rattle.inst_drill.proofs.Staffed.{hands_apart, tellers_apart}
+use Rattle.inst_drill.proofs.StaffOfOpening.{hands_apart, tellers_apart}
 use Rattle.inst_drill.proofs.staff.Staff.of.Goals as goal
 
 pub returns : goal.returns

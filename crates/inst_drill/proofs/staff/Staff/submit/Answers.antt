@@ -1,6 +1,6 @@
 use Rattle.std.proofs.Common.{◌∷◌, [], arith}
 use Rattle.std.proofs.lemmas.Grind.{common_steps}
-use Rattle.inst_crew.proofs.Pairing.{seen_with}
+use Rattle.inst_crew.proofs.PairsOfWorkersAndShifts.{seen_with}
 use Rattle.inst_drill.proofs.staff.Staff.submit.Goals as goal
 
 pub returns-clause-states : goal.returns-clause-states

@@ -1,6 +1,6 @@
 use Rattle.std.proofs.Common.{arith}
 use Rattle.std.proofs.lemmas.Grind.{common_steps}
-use Rattle.inst_drill.proofs.Staffed.{sweeper_later, more_and_more}
+use Rattle.inst_drill.proofs.StaffOfOpening.{sweeper_later, more_and_more}
 use Rattle.inst_drill.proofs.staff.Staff.sweep.Goals as goal
 
 pub returns-clause-later : goal.returns-clause-later

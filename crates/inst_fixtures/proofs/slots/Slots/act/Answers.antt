@@ -3,7 +3,7 @@ use Rattle.std.specs.Prelude.{slice_get}
 use Rattle.std.proofs.lemmas.Option.{slice_get-get_or}
 use Rattle.inst_board.specs.Plain.{Contents, plain_knows}
 use Rattle.inst_slot.specs.Book.{Book}
-use Rattle.inst_fixtures.proofs.Together.{one_acted}
+use Rattle.inst_fixtures.proofs.SlotsOverOneBoard.{one_acted}
 use Rattle.inst_fixtures.proofs.slots.Slots.act.Goals as goal
 
 pub act_of-requires-clause-own : goal.act_of-requires-clause-own

@@ -1,13 +1,13 @@
 use Rattle.std.proofs.Common.{◌≡◌, ℕ, List, [], ◌∷◌, ◌++◌, sym, ap, subst, ◌∙◌}
 use Rattle.inst_settings.specs.Settings.{HubSettings}
-use Rattle.inst_board.specs.declared.place.Place.{Place}
+use Rattle.inst_command.specs.declared.place.Place.{Place}
 use Rattle.inst_board.specs.declared.plain.Kept.{Kept}
 use Rattle.inst_board.specs.declared.plain.Kept.TheVariants.{Unused}
 use Rattle.inst_board.specs.Plain.{Contents, plain_knows, kept_at, standing_of}
 use Rattle.inst_board.specs.Standing.{Says}
 use Rattle.inst_slot.specs.Book.{Book}
-use Rattle.inst_slot.proofs.Adopting.{begins}
-use Rattle.inst_fixtures.proofs.Together.{Stands, AreBooks, three}
+use Rattle.inst_slot.proofs.ForwardedTransfersHavePlaces.{begins}
+use Rattle.inst_fixtures.proofs.SlotsOverOneBoard.{Stands, AreBooks, three}
 use Rattle.inst_fixtures.proofs.slots.Slots.open.Goals as goal
 
 opened : (b : Contents) (s : HubSettings) (who : ℕ) (book : Book) → b.settings ≡ s → ((k : Place) → kept_at b k ≡ Unused) → book.settings ≡ s → book.who ≡ who → book.events ≡ [] → book.arrivals ≡ []

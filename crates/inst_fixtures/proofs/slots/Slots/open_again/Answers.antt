@@ -6,7 +6,7 @@ use Rattle.inst_board.specs.Plain.{Contents, plain_knows}
 use Rattle.inst_journal.specs.declared.event.Event.{Event}
 use Rattle.inst_journal.specs.Sound.{IsSound}
 use Rattle.inst_slot.specs.Book.{Book}
-use Rattle.inst_fixtures.proofs.Together.{AreBooks}
+use Rattle.inst_fixtures.proofs.SlotsOverOneBoard.{AreBooks}
 use Rattle.inst_fixtures.proofs.slots.Slots.open_again.Goals.{then-is_first_new, else-is_first_new}
 use Rattle.inst_fixtures.proofs.slots.Slots.open_again.Goals as goal
 

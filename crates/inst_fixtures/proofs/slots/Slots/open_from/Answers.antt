@@ -1,7 +1,7 @@
 use Rattle.std.proofs.Common.{◌≡◌, ◌≢◌, ℕ, List, [], ◌∷◌, ◌++◌, refl, sym, ap, subst, ◌∙◌}
 use Rattle.std.proofs.lemmas.Bool.{true≢false}
 use Rattle.inst_settings.specs.Settings.{HubSettings}
-use Rattle.inst_board.specs.declared.place.Place.{Place}
+use Rattle.inst_command.specs.declared.place.Place.{Place}
 use Rattle.inst_board.specs.declared.plain.Kept.{Kept}
 use Rattle.inst_board.specs.declared.plain.Kept.TheVariants.{Unused}
 use Rattle.inst_board.specs.Learning.{KnowsTruly}
@@ -12,8 +12,8 @@ use Rattle.inst_journal.specs.Opened.{live_taken}
 use Rattle.inst_slot.specs.Book.{Book}
 use Rattle.inst_slot.specs.LawfulBoard.{IsLawfulBoard}
 use Rattle.inst_slot.specs.Opening.{opened_again, MayOpenAgain, OpensPlaces}
-use Rattle.inst_slot.proofs.Opening.{may_open_first, others_may_open}
-use Rattle.inst_fixtures.proofs.Together.{Stands, AreBooks, stayed, three}
+use Rattle.inst_slot.proofs.SlotOpensAgain.{may_open_first, others_may_open}
+use Rattle.inst_fixtures.proofs.SlotsOverOneBoard.{Stands, AreBooks, stayed, three}
 use Rattle.inst_fixtures.proofs.slots.Slots.open_from.Goals as goal
 use Rattle.inst_fixtures.proofs.slots.Slots.open_from.Goals.{then-has_openings_left-2, else-has_openings_left-2}
 

@@ -4,17 +4,17 @@ use Rattle.std.specs.Prelude.{Result, Ok, Err, Option, OnErr, IfOk, IfSome, allo
 use Rattle.std.specs.declared.alloc.AllocError.{AllocError}
 use Rattle.inst_settings.specs.Settings.{is_participant}
 use Rattle.inst_command.specs.declared.reply.Reply.{Reply}
-use Rattle.inst_board.specs.declared.place.Place.{Place}
+use Rattle.inst_command.specs.declared.place.Place.{Place}
 use Rattle.inst_cell.specs.Seen.{sees}
 use Rattle.inst_participant.specs.Answers.{Answered, IsTicket}
 use Rattle.inst_participant.specs.Following.{follow_up_after}
-use Rattle.inst_hub.specs.Calls.{IsLeft}
+use Rattle.inst_hub.specs.Calls.{IsLeftUnanswered}
 use Rattle.inst_participant.specs.Serving.{Serves}
 use Rattle.inst_participant.specs.declared.participant.Participant.{Participant}
 use Rattle.inst_hub.specs.declared.teller.Teller.{Teller}
-use Rattle.inst_hub.proofs.Calling.{out_of_box, still_knows, seen_both, asks_at, lock_of, left_at, on_err}
-use Rattle.inst_participant.proofs.Later.{behind_later}
-use Rattle.inst_hub.proofs.Founding.{since_later, serve_carries}
+use Rattle.inst_hub.proofs.CallUnderLock.{out_of_box, still_knows, seen_both, asks_at, lock_of, left_at, on_err}
+use Rattle.inst_participant.proofs.LaterParticipant.{behind_later}
+use Rattle.inst_hub.proofs.CarriedHistoryStays.{since_later, serve_carries}
 use Rattle.inst_hub.proofs.hub.Hub.ask.Goals as goal
 
 pub give-requires-clause-has : goal.give-requires-clause-has
@@ -46,7 +46,7 @@ returns-in_err-answer-clause-left g c =
     let same = subst (λ (r : Result (Reply × Option Place) AllocError). OnErr r (y.slot ≡ x.slot)) c.in_err-answer.was c.serve-answer.ensures.err in
     let serves = subst (λ (r : Result (Reply × Option Place) AllocError). OnErr r (Serves x c.args.ask.now (Err alloc_error) y)) c.in_err-answer.was c.serve-answer.ensures.left in
     let u : Teller = record { sight = c.serve-answer.new.teller; seat = c.give.new.seat } in
-    on_err c.from_residual.result (IsLeft c.args.self.now c.args.teller.now c.args.ask.now u)
+    on_err c.from_residual.result (IsLeftUnanswered c.args.self.now c.args.teller.now c.args.ask.now u)
     (left_at c.args.self.now c.args.teller.now u c.args.ask.now x y c.from-lock.result c.from-lock.ensures found.law found.goes_on
     (seen_both c.args.teller.now.seat c.take-participant.new.seat c.give.new.seat c.from-lock.result x.slot.events y.slot.events found.sees c.give.ensures.sees)
     serves same)

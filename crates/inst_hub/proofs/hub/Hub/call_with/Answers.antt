@@ -1,4 +1,4 @@
-use Rattle.inst_hub.proofs.Calling.{knows_twice, call_more}
+use Rattle.inst_hub.proofs.CallUnderLock.{knows_twice, call_more}
 use Rattle.inst_hub.proofs.hub.Hub.call_with.Goals as goal
 
 pub returns : goal.returns

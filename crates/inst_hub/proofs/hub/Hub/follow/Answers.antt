@@ -5,10 +5,10 @@ use Rattle.inst_participant.specs.declared.follow_up.FollowUp.{FollowUp}
 use Rattle.inst_hub.specs.declared.teller.Teller.{Teller}
 use Rattle.inst_hub.specs.Founding.{IsSince}
 use Rattle.inst_hub.specs.inner.Calls.{Follows}
-use Rattle.inst_hub.proofs.Calling.{out_of_box, seen_still, follows_one}
-use Rattle.inst_participant.proofs.Later.{behind_later}
-use Rattle.inst_participant.proofs.Serving.{told_grows}
-use Rattle.inst_hub.proofs.Founding.{since_later, told_carries}
+use Rattle.inst_hub.proofs.CallUnderLock.{out_of_box, seen_still, follows_one}
+use Rattle.inst_participant.proofs.LaterParticipant.{behind_later}
+use Rattle.inst_participant.proofs.HistoryAfterServedAsk.{told_grows}
+use Rattle.inst_hub.proofs.CarriedHistoryStays.{since_later, told_carries}
 use Rattle.inst_hub.proofs.hub.Hub.follow.Goals as goal
 
 pub give-requires-clause-has : goal.give-requires-clause-has

@@ -7,14 +7,14 @@ use Rattle.inst_row.specs.declared.view.Front.{Front}
 use Rattle.inst_row.specs.Row.{row_id, key_of}
 use Rattle.inst_row.specs.Seated.{IsOn}
 use Rattle.inst_cell.specs.Opening.{MayOpen}
-use Rattle.inst_hub.specs.declared.outset.Outset.{Outset}
+use Rattle.inst_hub.specs.declared.initial_state.InitialState.{InitialState}
 use Rattle.inst_settings.specs.Settings.{participants}
 use Rattle.inst_hub.specs.Founding.{outset_of}
 use Rattle.inst_hub.specs.Opening.{AreNew}
 use Rattle.inst_hub.specs.inner.Opening.{unboxed}
-use Rattle.inst_hub.proofs.Starting.{unboxed_length, blank_opened, opened_behind, behind_fronts, new_are_of}
-use Rattle.inst_hub.proofs.Reopening.{may_open}
-use Rattle.inst_hub.proofs.Founding.{first_since, first_carried}
+use Rattle.inst_hub.proofs.BoardsAndTellersOfNewHub.{unboxed_length, blank_opened, opened_behind, behind_fronts, new_are_of}
+use Rattle.inst_hub.proofs.BoardOfReopenedHub.{may_open}
+use Rattle.inst_hub.proofs.CarriedHistoryStays.{first_since, first_carried}
 use Rattle.inst_hub.proofs.hub.Hub.open.Goals as goal
 
 pub participants-requires : goal.participants-requires
@@ -29,7 +29,7 @@ open-requires-2 c =
     record { values = first_since (record { words = c.of-words.result; all = c.of.result }) _ _ _ c.in_ok-all.all.items are refl (ap (λ v. v.items) c.of.ensures) }
 
 pub admit-requires-clause-on : goal.admit-requires-clause-on
-admit-requires-clause-on c = subst (λ (k : Outset). IsOn (row_id c.in_ok-row.row) k c.in_ok-row.seat) (sym c.in_ok-row.ensures.row.1) c.in_ok-row.ensures.seat.0
+admit-requires-clause-on c = subst (λ (k : InitialState). IsOn (row_id c.in_ok-row.row) k c.in_ok-row.seat) (sym c.in_ok-row.ensures.row.1) c.in_ok-row.ensures.seat.0
 
 pub admit-requires-clause-all : goal.admit-requires-clause-all
 admit-requires-clause-all c = c.in_ok-row.ensures.seat.1

@@ -6,15 +6,15 @@ use Rattle.inst_cell.specs.Opening.{MayOpen}
 use Rattle.inst_row.specs.declared.view.Front.{Front}
 use Rattle.inst_row.specs.Row.{row_id, key_of}
 use Rattle.inst_row.specs.Seated.{IsOn}
-use Rattle.inst_hub.specs.declared.outset.Outset.{Outset}
+use Rattle.inst_hub.specs.declared.initial_state.InitialState.{InitialState}
 use Rattle.inst_world.specs.NextOpening.{books_of}
-use Rattle.inst_journal.proofs.Carrying.{carried_opened}
+use Rattle.inst_journal.proofs.EventsCarriedOverOpening.{carried_opened}
 use Rattle.inst_hub.specs.Founding.{outset_of}
 use Rattle.inst_hub.specs.Opening.{AreNew}
 use Rattle.inst_hub.specs.NextOpening.{histories_from}
-use Rattle.inst_hub.proofs.Starting.{unboxed_length, behind_fronts, new_are_of}
-use Rattle.inst_hub.proofs.Reopening.{may_open, blank_admitted}
-use Rattle.inst_hub.proofs.Founding.{first_since, first_carried}
+use Rattle.inst_hub.proofs.BoardsAndTellersOfNewHub.{unboxed_length, behind_fronts, new_are_of}
+use Rattle.inst_hub.proofs.BoardOfReopenedHub.{may_open, blank_admitted}
+use Rattle.inst_hub.proofs.CarriedHistoryStays.{first_since, first_carried}
 use Rattle.inst_hub.proofs.hub.Hub.open_from.Goals as goal
 
 pub open-requires : goal.open-requires
@@ -23,7 +23,7 @@ open-requires c = record {
 }
 
 pub admit-requires-clause-on : goal.admit-requires-clause-on
-admit-requires-clause-on c = subst (λ (k : Outset). IsOn (row_id c.in_ok-row.row) k c.in_ok-row.seat) (sym c.in_ok-row.ensures.row.1) c.in_ok-row.ensures.seat.0
+admit-requires-clause-on c = subst (λ (k : InitialState). IsOn (row_id c.in_ok-row.row) k c.in_ok-row.seat) (sym c.in_ok-row.ensures.row.1) c.in_ok-row.ensures.seat.0
 
 pub admit-requires-clause-all : goal.admit-requires-clause-all
 admit-requires-clause-all c = c.in_ok-row.ensures.seat.1

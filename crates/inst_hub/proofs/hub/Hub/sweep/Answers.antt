@@ -1,10 +1,10 @@
 use Rattle.inst_row.specs.Row.{key_of}
 use Rattle.inst_hub.specs.declared.teller.Teller.{Teller}
-use Rattle.inst_hub.proofs.Calling.{out_of_box, still_knows, seen_both}
-use Rattle.inst_participant.proofs.Later.{behind_later}
-use Rattle.inst_participant.proofs.Sweeping.{all_grows}
-use Rattle.inst_hub.proofs.Sweeping.{sweep_at}
-use Rattle.inst_hub.proofs.Founding.{since_later, all_carries}
+use Rattle.inst_hub.proofs.CallUnderLock.{out_of_box, still_knows, seen_both}
+use Rattle.inst_participant.proofs.LaterParticipant.{behind_later}
+use Rattle.inst_participant.proofs.SweepStepByStep.{all_grows}
+use Rattle.inst_hub.proofs.SweepUnderLock.{sweep_at}
+use Rattle.inst_hub.proofs.CarriedHistoryStays.{since_later, all_carries}
 use Rattle.inst_hub.proofs.hub.Hub.sweep.Goals as goal
 
 pub give-requires-clause-has : goal.give-requires-clause-has

@@ -7,8 +7,8 @@ use Rattle.inst_cell.specs.declared.sight.Sight.{Sight}
 use Rattle.std.specs.Prelude.{slice_get}
 use Rattle.inst_participant.specs.Together.{histories}
 use Rattle.inst_hub.specs.Closing.{OneHasSeen}
-use Rattle.inst_hub.proofs.TakingApart.{at_one, sights_of_words, separate, goes_on, map_got}
-use Rattle.inst_hub.proofs.Gathering.{sight_of}
+use Rattle.inst_hub.proofs.HubPartsFromLocks.{at_one, sights_of_words, separate, goes_on, map_got}
+use Rattle.inst_hub.proofs.JoinedSeatsOfTellers.{sight_of}
 use Rattle.inst_hub.proofs.hub.Hub.take_apart.Goals as goal
 
 pub unite-requires : goal.unite-requires

@@ -11,7 +11,7 @@ use Rattle.inst_row.specs.Seated.{HasSeen, GoesOn}
 use Rattle.inst_hub.specs.Founding.{IsSince}
 use Rattle.inst_hub.specs.inner.Closing.{IsTakenOut}
 use Rattle.inst_participant.specs.declared.participant.Participant.{Participant}
-use Rattle.inst_hub.proofs.Gathering.{one_out}
+use Rattle.inst_hub.proofs.JoinedSeatsOfTellers.{one_out}
 use Rattle.inst_hub.proofs.hub.closing.empty.Goals as goal
 
 same_value : {T : Type 0} (p : ℕ) (x y : T) (e : Ended T) → Lies p x e → Lies p y e → x ≡ y

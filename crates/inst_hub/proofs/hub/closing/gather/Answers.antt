@@ -5,7 +5,7 @@ use Rattle.std.specs.declared.vec.IntoIter.{IntoIter}
 use Rattle.std.proofs.lemmas.List.{nil_from_length}
 use Rattle.inst_row.specs.Row.{row_id, key_of}
 use Rattle.inst_hub.specs.declared.teller.Teller.{Teller}
-use Rattle.inst_hub.proofs.Gathering.{first_gathered, more_gathered, its_seat, all_gathered, all_seen, all_sights}
+use Rattle.inst_hub.proofs.JoinedSeatsOfTellers.{first_gathered, more_gathered, its_seat, all_gathered, all_seen, all_sights}
 use Rattle.inst_hub.proofs.hub.closing.gather.Goals as goal
 
 pub loop-teller-init : goal.loop-teller-init

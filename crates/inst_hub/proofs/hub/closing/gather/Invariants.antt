@@ -3,7 +3,7 @@ use Rattle.std.specs.Prelude.{vec_capacity}
 use Rattle.std.specs.Vec.Iter.{into_iter_items}
 use Rattle.inst_row.specs.Row.{row_id, key_of}
 use Rattle.inst_hub.specs.declared.teller.Teller.{Teller}
-use Rattle.inst_hub.proofs.Gathering.{Gathered}
+use Rattle.inst_hub.proofs.JoinedSeatsOfTellers.{Gathered}
 use Rattle.inst_hub.proofs.hub.closing.gather.Given as goal
 
 abbrev pub invariant-loop-teller : goal.invariant-loop-teller

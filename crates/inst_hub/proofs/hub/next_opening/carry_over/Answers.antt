@@ -5,14 +5,14 @@ use Rattle.inst_board.specs.declared.about.Fact.{Fact}
 use Rattle.inst_slot.specs.Book.{Book}
 use Rattle.inst_cell.specs.Held.{knows}
 use Rattle.inst_cell.specs.Opening.{IsWhole}
-use Rattle.inst_cell.proofs.Opening.{whole_still}
+use Rattle.inst_cell.proofs.BoardsAtOpening.{whole_still}
 use Rattle.inst_world.specs.NextOpening.{books_of}
 use Rattle.inst_world.specs.inner.NextOpening.{IsOpenedBelow}
 use Rattle.inst_participant.specs.declared.participant.Participant.{Participant}
 use Rattle.inst_hub.specs.inner.Opening.{AreBehind}
 use Rattle.inst_hub.specs.NextOpening.{histories_from}
 use Rattle.inst_hub.specs.inner.NextOpening.{AreCarried, pairs, seated}
-use Rattle.inst_hub.proofs.Reopening.{slots_carried, behind_again, if_ok_then}
+use Rattle.inst_hub.proofs.BoardOfReopenedHub.{slots_carried, behind_again, if_ok_then}
 use Rattle.inst_hub.proofs.hub.next_opening.carry_over.Goals as goal
 
 pub open_places-requires-clause-whole : goal.open_places-requires-clause-whole

@@ -2,7 +2,7 @@ use Rattle.std.proofs.Common.{◌≡◌, ℕ, ◌<◌, length, subst, ◌∙◌,
 use Rattle.std.specs.Prelude.{◌↔◌}
 use Rattle.inst_world.specs.inner.NextOpening.{IsOpenedBelow}
 use Rattle.inst_cell.specs.Held.{settings_of, knows}
-use Rattle.inst_hub.proofs.Reopening.{none_opened, more_opened, carried_at, few_carried, carried_participant, carried_ends, carried_may}
+use Rattle.inst_hub.proofs.BoardOfReopenedHub.{none_opened, more_opened, carried_at, few_carried, carried_participant, carried_ends, carried_may}
 use Rattle.inst_hub.proofs.hub.next_opening.open_places.Goals as goal
 
 pub loop-slot-init : goal.loop-slot-init

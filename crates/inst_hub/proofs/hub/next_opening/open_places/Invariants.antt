@@ -2,7 +2,7 @@ use Rattle.std.proofs.Common.{ℕ, List}
 use Rattle.inst_journal.specs.declared.event.Event.{Event}
 use Rattle.inst_cell.specs.Held.{settings_of}
 use Rattle.inst_hub.specs.inner.NextOpening.{AreCarried}
-use Rattle.inst_hub.proofs.Reopening.{OpenedSoFar}
+use Rattle.inst_hub.proofs.BoardOfReopenedHub.{OpenedSoFar}
 use Rattle.inst_hub.proofs.hub.next_opening.open_places.Given as goal
 
 abbrev pub invariant-loop-slot : goal.invariant-loop-slot

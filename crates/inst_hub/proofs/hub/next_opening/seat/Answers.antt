@@ -1,6 +1,6 @@
 use Rattle.std.proofs.Common.{rules}
 use Rattle.std.specs.Vec.Iter.{into_iter_items}
-use Rattle.inst_hub.proofs.Reopening.{one_pair, one_less}
+use Rattle.inst_hub.proofs.BoardOfReopenedHub.{one_pair, one_less}
 use Rattle.inst_hub.specs.inner.NextOpening.{pairs, seated}
 use Rattle.inst_hub.proofs.hub.next_opening.seat.Goals as goal
 

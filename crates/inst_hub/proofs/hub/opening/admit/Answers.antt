@@ -5,7 +5,7 @@ use Rattle.inst_row.specs.Row.{row_id, key_of}
 use Rattle.inst_row.specs.Seated.{view_of}
 use Rattle.inst_hub.specs.declared.teller.Teller.{Teller}
 use Rattle.inst_hub.specs.Opening.{IsNew, AreNew, parts_of}
-use Rattle.inst_hub.proofs.Starting.{nothing_left, next_sight, blank_next, blank_last, few_before, one_teller, parts_more}
+use Rattle.inst_hub.proofs.BoardsAndTellersOfNewHub.{nothing_left, next_sight, blank_next, blank_last, few_before, one_teller, parts_more}
 use Rattle.inst_hub.proofs.hub.opening.admit.Goals as goal
 
 pub loop-sight-preserved : goal.loop-sight-preserved

@@ -1,7 +1,7 @@
 use Rattle.std.proofs.Common.{sym, subst}
 use Rattle.inst_participant.specs.declared.participant.Participant.{Participant}
-use Rattle.inst_participant.specs.Behind.{IsBehind}
-use Rattle.inst_hub.proofs.Starting.{begins_behind}
+use Rattle.inst_participant.specs.LockLaw.{IsBehind}
+use Rattle.inst_hub.proofs.BoardsAndTellersOfNewHub.{begins_behind}
 use Rattle.inst_hub.proofs.hub.opening.participant.Goals as goal
 
 pub returns-clause-ok : goal.returns-clause-ok

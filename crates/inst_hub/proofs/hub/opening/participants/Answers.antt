@@ -4,7 +4,7 @@ use Rattle.std.specs.Prelude.{Option}
 use Rattle.std.specs.Vec.Iter.{into_iter_items}
 use Rattle.inst_participant.specs.declared.participant.Participant.{Participant}
 use Rattle.inst_hub.specs.inner.Opening.{unboxed, AreParticipants}
-use Rattle.inst_hub.proofs.Starting.{next_board, byte_of, next_left, one_more, unboxed_push}
+use Rattle.inst_hub.proofs.BoardsAndTellersOfNewHub.{next_board, byte_of, next_left, one_more, unboxed_push}
 use Rattle.inst_hub.proofs.hub.opening.participants.Goals as goal
 
 pub overflow_cast-who : goal.overflow_cast-who

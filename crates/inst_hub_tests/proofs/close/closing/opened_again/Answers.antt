@@ -1,5 +1,5 @@
 use Rattle.inst_model.specs.Opening.{Opening, FromBooks}
-use Rattle.inst_participant.proofs.Parted.{if_ok}
+use Rattle.inst_participant.proofs.OneBookSettlesOthersStay.{if_ok}
 use Rattle.inst_close.specs.Closing.{IsOpenedSo, IsNextOf}
 use Rattle.inst_hub_tests.proofs.close.closing.opened_again.Goals as goal
 

@@ -2,7 +2,7 @@ use Rattle.std.proofs.Common.{refl, sym, subst, ℕ}
 use Rattle.inst_board.specs.declared.about.About.TheVariants.{Opened, HasTerms, Due}
 use Rattle.inst_board.specs.Standing.{Standing, Shows}
 use Rattle.inst_cell.specs.Held.{has_role, roles_same}
-use Rattle.inst_hub_tests.proofs.Trying.{pending_look, party_to}
+use Rattle.inst_hub_tests.proofs.TwoParticipantBoards.{pending_look, party_to}
 use Rattle.inst_hub_tests.proofs.shared.boards.answer.Goals as goal
 
 pub decide-requires : goal.decide-requires

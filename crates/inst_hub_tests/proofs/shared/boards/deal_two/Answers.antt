@@ -3,8 +3,8 @@ use Rattle.inst_settings.specs.Settings.{HubSettings, participants, is_participa
 use Rattle.inst_board.specs.declared.about.About.TheVariants.{Opened}
 use Rattle.inst_board.specs.Standing.{about}
 use Rattle.inst_cell.specs.Held.{settings_of, has_role}
-use Rattle.inst_cell.proofs.Opening.{whole_role}
-use Rattle.inst_hub_tests.proofs.Trying.{place_is, second_is}
+use Rattle.inst_cell.proofs.BoardsAtOpening.{whole_role}
+use Rattle.inst_hub_tests.proofs.TwoParticipantBoards.{place_is, second_is}
 use Rattle.inst_hub_tests.proofs.shared.boards.deal_two.Goals as goal
 
 pub submit-requires-clause-can : goal.submit-requires-clause-can

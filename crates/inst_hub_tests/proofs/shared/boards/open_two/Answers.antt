@@ -1,5 +1,5 @@
 use Rattle.std.proofs.Common.{◌∙◌, sym, refl}
-use Rattle.inst_hub_tests.proofs.Trying.{one_only}
+use Rattle.inst_hub_tests.proofs.TwoParticipantBoards.{one_only}
 use Rattle.inst_hub_tests.proofs.shared.boards.open_two.Goals as goal
 
 pub returns-clause-settings : goal.returns-clause-settings

@@ -3,7 +3,7 @@ use Rattle.inst_settings.specs.Settings.{is_participant}
 use Rattle.inst_board.specs.declared.about.About.TheVariants.{Opened}
 use Rattle.inst_board.specs.Standing.{about}
 use Rattle.inst_cell.specs.Held.{settings_of}
-use Rattle.inst_hub_tests.proofs.Trying.{place_is, second_is}
+use Rattle.inst_hub_tests.proofs.TwoParticipantBoards.{place_is, second_is}
 use Rattle.inst_hub_tests.proofs.shared.boards.seen_over.Goals as goal
 
 pub submit-requires-clause-can : goal.submit-requires-clause-can

@@ -3,7 +3,7 @@ use Rattle.serde_json.specs.Errors.{IsMemory}
 use Rattle.std.proofs.lemmas.Bool.{false≢true}
 use Rattle.inst_base.specs.declared.fault.Fault.TheVariants.{NotJson}
 use Rattle.inst_json.specs.Lines.{json_of}
-use Rattle.inst_json.proofs.Json.{json_of-value, json_of-none, json_of-no_document}
+use Rattle.inst_json.proofs.LineAsJson.{json_of-value, json_of-none, json_of-no_document}
 use Rattle.inst_json.proofs.read.LineReader.json_of.Goals as goal
 
 pub returns-in-Ok-from_slice : goal.returns-in-Ok-from_slice

@@ -1,7 +1,7 @@
 use Rattle.std.proofs.Common.{arith}
 use Rattle.std.proofs.lemmas.Bool.{ltb-true}
 use Rattle.std.proofs.lemmas.List.{get_or_past}
-use Rattle.inst_json.proofs.Starts.{breaks_off}
+use Rattle.inst_json.proofs.TokensByFirstByte.{breaks_off}
 use Rattle.inst_json.proofs.scanning.broken.breaks_off.Goals as goal
 
 pub returns-then-end-text : goal.returns-then-end-text

@@ -2,8 +2,8 @@ use Rattle.std.proofs.Common.{◌≡◌, get_or, sym, ap, ◌∙◌}
 use Rattle.std.proofs.lemmas.Bool.{not-true, true≢false, eq-eqb, eqb-true}
 use Rattle.json.specs.Lex.{begins_colon, punctuate}
 use Rattle.json.specs.Json.{read_key}
-use Rattle.inst_json.proofs.Lexing.{lex_close}
-use Rattle.inst_json.proofs.Starts.{lex_broken, lex_end, no_key_left, end_no_key, bad_no_key, no_key_at, no_colon_at, no_key_behind}
+use Rattle.inst_json.proofs.TokensAtLinePlaces.{lex_close}
+use Rattle.inst_json.proofs.TokensByFirstByte.{lex_broken, lex_end, no_key_left, end_no_key, bad_no_key, no_key_at, no_colon_at, no_key_behind}
 use Rattle.inst_json.proofs.scanning.broken.lacks_key.Goals as goal
 
 pub returns-then-start-text : goal.returns-then-start-text

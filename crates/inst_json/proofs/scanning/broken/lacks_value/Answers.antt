@@ -2,7 +2,7 @@ use Rattle.std.proofs.Common.{sym, ap, ◌∙◌}
 use Rattle.std.proofs.lemmas.Bool.{not-true}
 use Rattle.json.specs.Lex.{fresh, punctuate}
 use Rattle.json.specs.Json.{value}
-use Rattle.inst_json.proofs.Starts.{lex_broken, lex_end, no_value_left, bad_no_value, no_value_at}
+use Rattle.inst_json.proofs.TokensByFirstByte.{lex_broken, lex_end, no_value_left, bad_no_value, no_value_at}
 use Rattle.inst_json.proofs.scanning.broken.lacks_value.Goals as goal
 
 pub returns-then-start-text : goal.returns-then-start-text

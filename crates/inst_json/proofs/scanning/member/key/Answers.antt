@@ -1,8 +1,8 @@
 use Rattle.std.proofs.Common.{sym, ap, ◌∙◌, ◌∷◌, arith}
 use Rattle.json.specs.Token.{string}
 use Rattle.json.specs.Lex.{token}
-use Rattle.inst_json.proofs.Ascii.{ascii_byte}
-use Rattle.inst_json.proofs.Lexing.{lex_quote, lex_colon}
+use Rattle.inst_json.proofs.AsciiFromPlace.{ascii_byte}
+use Rattle.inst_json.proofs.TokensAtLinePlaces.{lex_quote, lex_colon}
 use Rattle.inst_json.proofs.scanning.member.key.Goals as goal
 
 pub returns-clause-lexed : goal.returns-clause-lexed

@@ -3,8 +3,8 @@ use Rattle.json.specs.Token as token_spec
 use Rattle.json.specs.Lex.{token}
 use Rattle.serde_json.specs.Data as value_spec
 use Rattle.serde_json.proofs.Numbers.{number_of-decimal}
-use Rattle.inst_json.proofs.Ascii.{ascii_byte}
-use Rattle.inst_json.proofs.Lexing.{lex_quote}
+use Rattle.inst_json.proofs.AsciiFromPlace.{ascii_byte}
+use Rattle.inst_json.proofs.TokensAtLinePlaces.{lex_quote}
 use Rattle.inst_json.proofs.OrderedMembers.{IsScalar-string, IsScalar-number}
 use Rattle.inst_json.proofs.scanning.member.scalar.Goals as goal
 

@@ -1,5 +1,5 @@
 use Rattle.std.proofs.Common.{◌≡◌, ◌+◌, ◌<◌, get_or, arith, ◌∙◌, refl}
-use Rattle.inst_json.proofs.Lexing.{first_digit, next_digit}
+use Rattle.inst_json.proofs.TokensAtLinePlaces.{first_digit, next_digit}
 use Rattle.inst_json.proofs.scanning.parts.digits.Goals as goal
 
 pub returns-then-value-eq0-clause-value : goal.returns-then-value-eq0-clause-value

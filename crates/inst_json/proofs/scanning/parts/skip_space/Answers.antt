@@ -1,6 +1,6 @@
 use Rattle.std.proofs.Common.{sym, ◌∙◌, arith}
-use Rattle.inst_json.proofs.Ascii.{ascii_space}
-use Rattle.inst_json.proofs.Lexing.{lex_space}
+use Rattle.inst_json.proofs.AsciiFromPlace.{ascii_space}
+use Rattle.inst_json.proofs.TokensAtLinePlaces.{lex_space}
 use Rattle.inst_json.proofs.scanning.parts.skip_space.Goals as goal
 
 pub loop-at-preserved : goal.loop-at-preserved

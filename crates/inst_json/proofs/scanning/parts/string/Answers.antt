@@ -4,8 +4,8 @@ use Rattle.std.proofs.lemmas.Str.{IsAscii-append, IsUtf8-from_ascii}
 use Rattle.std.specs.List.{prefix_len}
 use Rattle.inst_json.specs.inner.Scalar.{is_text}
 use Rattle.json.specs.Lex.{lex, between}
-use Rattle.inst_json.proofs.Ascii.{ascii_byte}
-use Rattle.inst_json.proofs.Lexing.{string_at, ascii_at}
+use Rattle.inst_json.proofs.AsciiFromPlace.{ascii_byte}
+use Rattle.inst_json.proofs.TokensAtLinePlaces.{string_at, ascii_at}
 use Rattle.inst_json.proofs.scanning.parts.string.Goals as goal
 
 -- where the run of plain bytes ends

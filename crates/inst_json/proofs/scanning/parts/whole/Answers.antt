@@ -1,7 +1,7 @@
 use Rattle.std.proofs.Common.{IsAscii, drop, decimal, sym, subst}
 use Rattle.std.proofs.lemmas.Str.{IsAscii-append}
 use Rattle.std.proofs.lemmas.Fmt.{IsAscii-decimal}
-use Rattle.inst_json.proofs.Lexing.{lex_whole}
+use Rattle.inst_json.proofs.TokensAtLinePlaces.{lex_whole}
 use Rattle.inst_json.proofs.scanning.parts.whole.Goals as goal
 
 pub returns-then-ends_number-clause-lexed : goal.returns-then-ends_number-clause-lexed

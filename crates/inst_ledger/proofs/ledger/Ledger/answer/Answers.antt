@@ -1,5 +1,5 @@
 use Rattle.std.proofs.Common.{inr}
-use Rattle.inst_journal.proofs.Keeping.{handled_as}
+use Rattle.inst_journal.proofs.KeptEventsFit.{handled_as}
 use Rattle.inst_ledger.proofs.ledger.Ledger.answer.Goals as goal
 
 pub returns-in-Fund-clause-reply : goal.returns-in-Fund-clause-reply

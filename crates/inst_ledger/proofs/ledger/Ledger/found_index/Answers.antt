@@ -2,7 +2,7 @@ use Rattle.std.proofs.Common.{ℕ, List, sym, ap, ◌∙◌, arith}
 use Rattle.std.specs.Prelude.{slice_get}
 use Rattle.inst_ledger.specs.Book.{BookAndRoom}
 use Rattle.inst_ledger.specs.Right.{own_ids}
-use Rattle.inst_ledger.proofs.Beside.{few_live}
+use Rattle.inst_ledger.proofs.LedgerStaysRight.{few_live}
 use Rattle.inst_ledger.proofs.ledger.Ledger.found_index.Goals as goal
 
 pub overflow_cast-result : goal.overflow_cast-result

@@ -1,6 +1,6 @@
-use Rattle.inst_journal.proofs.Keeping.{handled_kept}
+use Rattle.inst_journal.proofs.KeptEventsFit.{handled_kept}
 use Rattle.inst_ledger.specs.Book.{answer_to}
-use Rattle.inst_ledger.proofs.Opening.{may_keep}
+use Rattle.inst_ledger.proofs.HistoryEventByEvent.{may_keep}
 use Rattle.inst_ledger.proofs.ledger.Ledger.handle.Goals as goal
 
 pub returns-clause-kept : goal.returns-clause-kept

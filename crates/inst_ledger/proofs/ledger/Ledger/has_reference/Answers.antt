@@ -1,5 +1,5 @@
 use Rattle.std.proofs.Common.{is_some, sym, ap, ◌∙◌}
-use Rattle.inst_ledger.proofs.Funded.{reference_found}
+use Rattle.inst_ledger.proofs.FundingsByReference.{reference_found}
 use Rattle.inst_ledger.proofs.ledger.Ledger.has_reference.Goals as goal
 
 pub returns : goal.returns

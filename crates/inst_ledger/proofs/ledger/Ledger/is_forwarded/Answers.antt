@@ -1,5 +1,5 @@
 use Rattle.std.proofs.Common.{is_some, sym, ap, ◌∙◌}
-use Rattle.inst_ledger.proofs.Forwards.{forwarded_found}
+use Rattle.inst_ledger.proofs.ForwardedTransfers.{forwarded_found}
 use Rattle.inst_ledger.proofs.ledger.Ledger.is_forwarded.Goals as goal
 
 pub returns : goal.returns

@@ -3,7 +3,7 @@ use Rattle.inst_journal.specs.Booked.{is_forwarded}
 use Rattle.inst_transfers.specs.Held.{found_at}
 use Rattle.inst_ledger.specs.Right.{forwarding_in}
 use Rattle.inst_ledger.specs.Book.{BookAndRoom}
-use Rattle.inst_ledger.proofs.Forwards.{forwarded_found}
+use Rattle.inst_ledger.proofs.ForwardedTransfers.{forwarded_found}
 use Rattle.inst_ledger.proofs.ledger.Ledger.is_known_forwarded.Goals as goal
 
 pub returns : goal.returns

@@ -2,7 +2,7 @@ use Rattle.std.proofs.Common.{sym, subst, arith}
 use Rattle.std.proofs.lemmas.Grind.{common_steps}
 use Rattle.inst_journal.specs.Sound.{Fits}
 use Rattle.inst_ledger.specs.Book.{Book}
-use Rattle.inst_ledger.proofs.Opening.{fits_at_place}
+use Rattle.inst_ledger.proofs.HistoryEventByEvent.{fits_at_place}
 use Rattle.inst_ledger.proofs.ledger.Ledger.keep_all.Goals as goal
 
 pub keep-requires : goal.keep-requires

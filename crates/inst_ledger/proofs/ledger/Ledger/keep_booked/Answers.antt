@@ -1,4 +1,4 @@
-use Rattle.inst_ledger.proofs.Beside.{booking_finds, fits_found}
+use Rattle.inst_ledger.proofs.LedgerStaysRight.{booking_finds, fits_found}
 use Rattle.inst_ledger.proofs.ledger.Ledger.keep_booked.Goals as goal
 
 pub unwrap-found-requires : goal.unwrap-found-requires

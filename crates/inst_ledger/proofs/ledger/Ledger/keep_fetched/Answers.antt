@@ -1,9 +1,9 @@
 use Rattle.std.proofs.Common.{refl, arith}
 use Rattle.std.proofs.lemmas.Grind.{common_steps}
 use Rattle.inst_journal.specs.declared.event.Event.{Event}
-use Rattle.inst_ledger.proofs.Beside.{fetched_beside, beside_at, fits_at}
-use Rattle.inst_ledger.proofs.Stating.{stated_at}
-use Rattle.inst_statement.proofs.Stated.{line_less}
+use Rattle.inst_ledger.proofs.LedgerStaysRight.{fetched_beside, beside_at, fits_at}
+use Rattle.inst_ledger.proofs.StatementLineOfEvent.{stated_at}
+use Rattle.inst_statement.proofs.KeptStatementStaysRight.{line_less}
 use Rattle.inst_ledger.proofs.ledger.Ledger.keep_fetched.Goals as goal
 
 pub invariant_of-self-2 : goal.invariant_of-self-2

@@ -1,9 +1,9 @@
 use Rattle.std.proofs.Common.{refl, sym, ap, arith, length, ◌∙◌, ◌++◌, ◌∷◌, []}
 use Rattle.inst_journal.specs.declared.event.Event.{Event}
 use Rattle.inst_transfers.specs.Held.{Held, found_at}
-use Rattle.inst_ledger.proofs.Beside.{forwarded_absent, forwarded_beside, beside_same, pushed, fits_at}
-use Rattle.inst_ledger.proofs.Stating.{stated_at, ledger_same}
-use Rattle.inst_statement.proofs.Stated.{line_less}
+use Rattle.inst_ledger.proofs.LedgerStaysRight.{forwarded_absent, forwarded_beside, beside_same, pushed, fits_at}
+use Rattle.inst_ledger.proofs.StatementLineOfEvent.{stated_at, ledger_same}
+use Rattle.inst_statement.proofs.KeptStatementStaysRight.{line_less}
 use Rattle.inst_ledger.proofs.ledger.Ledger.keep_forwarded.Goals as goal
 
 pub invariant_of-self-in_err-reserve-2 : goal.invariant_of-self-in_err-reserve-2

@@ -2,10 +2,10 @@ use Rattle.std.proofs.Common.{length, refl, ap, sym, ◌∙◌, arith, subst}
 use Rattle.inst_journal.specs.declared.event.Event.{Event}
 use Rattle.inst_transfers.specs.Held.{IsFound}
 use Rattle.inst_ledger.specs.Book.{BookAndRoom}
-use Rattle.inst_ledger.proofs.Beside.{covers, booked_beside, beside_at, fits_at}
-use Rattle.inst_ledger.proofs.Stating.{stated_at, ledger_same, booking_moves, may_add_if, added_if}
+use Rattle.inst_ledger.proofs.LedgerStaysRight.{covers, booked_beside, beside_at, fits_at}
+use Rattle.inst_ledger.proofs.StatementLineOfEvent.{stated_at, ledger_same, booking_moves, may_add_if, added_if}
 use Rattle.inst_statement.proofs.Indices.{index_fits}
-use Rattle.inst_statement.proofs.Stated.{stated_same}
+use Rattle.inst_statement.proofs.KeptStatementStaysRight.{stated_same}
 use Rattle.inst_ledger.proofs.ledger.Ledger.keep_found.Goals as goal
 
 pub invariant_of-self-in_err-push : goal.invariant_of-self-in_err-push

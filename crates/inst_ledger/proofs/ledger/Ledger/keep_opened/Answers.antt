@@ -1,7 +1,7 @@
 use Rattle.inst_journal.specs.declared.event.Event.{Event}
-use Rattle.inst_ledger.proofs.Beside.{opened_beside, beside_at, fits_at}
-use Rattle.inst_ledger.proofs.Stating.{stated_at}
-use Rattle.inst_statement.proofs.Stated.{line_anew}
+use Rattle.inst_ledger.proofs.LedgerStaysRight.{opened_beside, beside_at, fits_at}
+use Rattle.inst_ledger.proofs.StatementLineOfEvent.{stated_at}
+use Rattle.inst_statement.proofs.KeptStatementStaysRight.{line_anew}
 use Rattle.inst_ledger.proofs.ledger.Ledger.keep_opened.Goals as goal
 
 pub invariant_of-self-2 : goal.invariant_of-self-2

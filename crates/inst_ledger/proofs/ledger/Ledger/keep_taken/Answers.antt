@@ -2,9 +2,9 @@ use Rattle.std.proofs.Common.{◌≡◌, ◌++◌, ◌∷◌, [], length, refl, 
 use Rattle.std.proofs.lemmas.Grind.{common_steps}
 use Rattle.std.specs.Prelude.{OnOk}
 use Rattle.inst_journal.specs.declared.event.Event.{Event}
-use Rattle.inst_ledger.proofs.Beside.{within, taken_absent, taken_beside, beside_at, fits_at}
-use Rattle.inst_ledger.proofs.Stating.{stated_at}
-use Rattle.inst_statement.proofs.Stated.{line_less}
+use Rattle.inst_ledger.proofs.LedgerStaysRight.{within, taken_absent, taken_beside, beside_at, fits_at}
+use Rattle.inst_ledger.proofs.StatementLineOfEvent.{stated_at}
+use Rattle.inst_statement.proofs.KeptStatementStaysRight.{line_less}
 use Rattle.inst_ledger.proofs.ledger.Ledger.keep_taken.Goals as goal
 
 pub take-requires-clause-new : goal.take-requires-clause-new
@@ -31,6 +31,3 @@ invariant_of-self c =
       beside = beside_at events (taken_beside i.settings.value i.who i.journal.events i.totals i.table _ i.fundings i.inbox.items i.read c.self.invariant.beside c.args.id t.to t.cents t.stamp c.take.new.self fits c.take.ensures.who c.take.ensures.state);
       lines = stated_at events (line_less i.settings.value i.who i.journal.events event c.self.invariant.beside.sound fits i.statement i.statement refl refl refl refl c.self.invariant.lines);
     }
-
-pub take-requires-clause-count : goal.take-requires-clause-count
-take-requires-clause-count c = grind (arith, common_steps)

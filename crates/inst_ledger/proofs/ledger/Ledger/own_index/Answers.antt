@@ -5,7 +5,7 @@ use Rattle.inst_journal.specs.Opened.{carried}
 use Rattle.inst_transfers.specs.declared.transfer.Transfer.{Transfer}
 use Rattle.inst_ledger.specs.Book.{BookAndRoom}
 use Rattle.inst_ledger.specs.Right.{own_ids, sending_in}
-use Rattle.inst_ledger.proofs.Beside.{few_live}
+use Rattle.inst_ledger.proofs.LedgerStaysRight.{few_live}
 use Rattle.inst_ledger.proofs.OwnIds.{own_taken_only}
 use Rattle.inst_ledger.proofs.Tables.{taken_found}
 use Rattle.inst_ledger.proofs.ledger.Ledger.own_index.Goals as goal

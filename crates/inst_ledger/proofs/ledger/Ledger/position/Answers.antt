@@ -1,7 +1,7 @@
 use Rattle.std.proofs.Common.{◌≡◌, ◌+◌, ◌-◌, ap, ◌∙◌, arith}
 use Rattle.inst_journal.specs.Money.{position}
 use Rattle.inst_ledger.specs.Book.{BookAndRoom}
-use Rattle.inst_ledger.proofs.Beside.{position_small, within}
+use Rattle.inst_ledger.proofs.LedgerStaysRight.{position_small, within}
 use Rattle.inst_ledger.proofs.ledger.Ledger.position.Goals as goal
 
 pub overflow_sub-result : goal.overflow_sub-result

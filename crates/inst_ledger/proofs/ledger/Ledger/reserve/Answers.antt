@@ -1,5 +1,5 @@
 use Rattle.std.proofs.Common.{refl, rules}
-use Rattle.inst_ledger.proofs.Stating.{ledger_same}
+use Rattle.inst_ledger.proofs.StatementLineOfEvent.{ledger_same}
 use Rattle.inst_ledger.proofs.ledger.Ledger.reserve.Goals as goal
 
 pub invariant_of-self-2 : goal.invariant_of-self-2

@@ -1,8 +1,8 @@
 use Rattle.std.proofs.Common.{arith, ◌∙◌, ap}
 use Rattle.inst_journal.specs.Money.{reserved}
-use Rattle.inst_journal.proofs.Covering.{covered}
+use Rattle.inst_journal.proofs.PaidAndReservedIsCovered.{covered}
 use Rattle.inst_ledger.specs.Book.{BookAndRoom}
-use Rattle.inst_ledger.proofs.Beside.{position_small}
+use Rattle.inst_ledger.proofs.LedgerStaysRight.{position_small}
 use Rattle.inst_ledger.proofs.ledger.Ledger.reserved.Goals as goal
 
 pub returns-clause-value : goal.returns-clause-value

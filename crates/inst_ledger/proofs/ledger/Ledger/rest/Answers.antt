@@ -1,7 +1,7 @@
 use Rattle.std.proofs.Common.{ℕ, length, drop, get_or, sym, ap, ◌∙◌, arith, subst}
 use Rattle.std.proofs.lemmas.List.{length-map}
 use Rattle.inst_journal.specs.Reply.{inbox, unread}
-use Rattle.inst_journal.proofs.Reading.{handed_within}
+use Rattle.inst_journal.proofs.HandedOutWithinInbox.{handed_within}
 use Rattle.inst_transfers.specs.Held.{AreWithin}
 use Rattle.inst_transfers.specs.State.{rows_of}
 use Rattle.inst_ledger.specs.Book.{BookAndRoom}

@@ -1,9 +1,9 @@
 use Rattle.std.proofs.Common.{subst, sym}
 use Rattle.inst_settings.specs.Settings.{HubSettings}
 use Rattle.inst_settings.specs.Lawful.{IsSettings}
-use Rattle.inst_ledger.proofs.Begun.{begun}
-use Rattle.inst_ledger.proofs.Stating.{stated_at}
-use Rattle.inst_statement.proofs.Stated.{nothing_stated}
+use Rattle.inst_ledger.proofs.LedgerOfNoEvents.{begun}
+use Rattle.inst_ledger.proofs.StatementLineOfEvent.{stated_at}
+use Rattle.inst_statement.proofs.KeptStatementStaysRight.{nothing_stated}
 use Rattle.inst_ledger.proofs.ledger.Ledger.with_room.Goals as goal
 
 pub invariant_of-result : goal.invariant_of-result

@@ -1,7 +1,7 @@
 use Rattle.std.proofs.Common.{◌≡◌, ◌≤◌, ◌+◌, ◌-◌, ℕ, List, ◌++◌, length, take, slice_range, refl, ap, ◌∙◌, arith}
 use Rattle.std.proofs.lemmas.List.{with_items_is, length-take-le, length-drop}
 use borrow.Rule.Slice.PartMut.{put_mid}
-use Rattle.inst_lines.proofs.BufferLemmas.{held-read, length-put_mid}
+use Rattle.inst_lines.proofs.BufferAfterRead.{held-read, length-put_mid}
 use Rattle.inst_lines.proofs.line_buffer.LineBuffer.fill.Goals as goal
 use Rattle.inst_lines.specs.Limits.{buffer_bytes}
 

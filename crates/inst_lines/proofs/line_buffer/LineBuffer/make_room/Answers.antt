@@ -1,6 +1,6 @@
 use Rattle.std.proofs.Common.{◌≤◌, ◌-◌, ℕ, List, ◌||◌, nat_lt, ap, sym, ◌∙◌, arith, length, slice_range}
 use Rattle.std.proofs.lemmas.Bool.{or_parts}
-use Rattle.inst_lines.proofs.BufferLemmas.{room-dropped, room-kept, held-moved}
+use Rattle.inst_lines.proofs.BufferAfterRead.{room-dropped, room-kept, held-moved}
 use Rattle.inst_lines.proofs.line_buffer.LineBuffer.make_room.Goals as goal
 use Rattle.inst_lines.specs.Limits.{most_line_bytes}
 

@@ -1,7 +1,7 @@
 use Rattle.std.proofs.Common.{arith, [], ◌∷◌, ◌++◌}
 use Rattle.std.proofs.lemmas.List.{nil_from_length}
 use Rattle.std.specs.Vec.Iter.{into_iter_items}
-use Rattle.inst_loads.proofs.Done.{done_more, gathered, jobs_more}
+use Rattle.inst_loads.proofs.DoneJobs.{done_more, gathered, jobs_more}
 use Rattle.inst_loads.proofs.hub.done.gather.Goals as goal
 
 pub loop-result-preserved : goal.loop-result-preserved

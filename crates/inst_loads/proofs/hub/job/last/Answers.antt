@@ -1,7 +1,7 @@
 use Rattle.std.proofs.Common.{◌≡◌, sym, subst, List, length, Some}
 use Rattle.std.specs.Prelude.{slice_get}
 use Rattle.inst_base.proofs.Lists.{last_at}
-use Rattle.inst_slot.proofs.Growing.{slice_get_left}
+use Rattle.inst_slot.proofs.LiveTransfersAfterEvent.{slice_get_left}
 use Rattle.inst_hub.specs.declared.teller.Teller.{Teller}
 use Rattle.inst_loads.proofs.Jobs.{last_parts}
 use Rattle.inst_loads.proofs.hub.job.last.Goals as goal

@@ -1,7 +1,7 @@
 use Rattle.std.proofs.Common.{◌≡◌, ◌∙◌, sym, subst, true}
 use Rattle.inst_settings.specs.Settings.{HubSettings}
 use Rattle.inst_json.specs.Replies.{answer_can_be_written}
-use Rattle.inst_lines.proofs.Writing.{model_written}
+use Rattle.inst_lines.proofs.AnswersCanBeWritten.{model_written}
 use Rattle.inst_loads.proofs.scarce.step_rows.take_step.Goals as goal
 
 pub write_answer-requires : goal.write_answer-requires

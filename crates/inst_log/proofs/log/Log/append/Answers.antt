@@ -1,9 +1,9 @@
 use Rattle.std.proofs.Common.{length, take, inl, ◌∙◌, ap, subst, arith, IsTrue, ◌+◌, ◌<◌, ◌^◌}
 use Rattle.std.proofs.lemmas.List.{length-drop}
 use Rattle.inst_log.proofs.Lines.{all_lines, AllLines-append}
-use Rattle.inst_log.proofs.Crash.{stage_crash, stage_at, gate_at, staged_is, gate_crash, opened_is, new_end, closed_at, tail_is, head_is, long_batch}
-use Rattle.inst_log.proofs.Beginning.{batch_length}
-use Rattle.inst_log.proofs.Shutting.{as_closed, stage_shut, gate_shut, shut_at}
+use Rattle.inst_log.proofs.CrashDuringAppend.{stage_crash, stage_at, gate_at, staged_is, gate_crash, opened_is, new_end, closed_at, tail_is, head_is, long_batch}
+use Rattle.inst_log.proofs.FilesOpenWithSettings.{batch_length}
+use Rattle.inst_log.proofs.ClosedByteSurvivesCrash.{as_closed, stage_shut, gate_shut, shut_at}
 use Rattle.inst_log.proofs.log.Log.append.Goals as goal
 
 -- neither part of a batch is empty

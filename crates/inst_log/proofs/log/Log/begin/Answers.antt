@@ -1,6 +1,6 @@
 use Rattle.std.proofs.Common.{inr, subst, IsTrue}
-use Rattle.inst_log.proofs.Beginning.{blank_crash, begin_crash, blank_closed}
-use Rattle.inst_log.proofs.Shutting.{blanking_well, blanked_shut, none_or_begun}
+use Rattle.inst_log.proofs.FilesOpenWithSettings.{blank_crash, begin_crash, blank_closed}
+use Rattle.inst_log.proofs.ClosedByteSurvivesCrash.{blanking_well, blanked_shut, none_or_begun}
 use Rattle.inst_log.proofs.log.Log.begin.Goals as goal
 
 pub returns-in_err-blank-clause-any_moment : goal.returns-in_err-blank-clause-any_moment

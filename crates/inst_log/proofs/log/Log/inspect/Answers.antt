@@ -2,7 +2,7 @@ use Rattle.std.proofs.Common.{◌≡◌, ◌+◌, ℕ, min, length, ◌∙◌, a
 use Rattle.std.proofs.lemmas.Result.{IfOk-weaker, IfErr-weaker}
 use Rattle.sqlite_disk.specs.Disk.{MoreFaults}
 use Rattle.inst_log.specs.Pieces.{IsFrontFor}
-use Rattle.inst_log.proofs.Causes.{unopened_at}
+use Rattle.inst_log.proofs.CausesOfErrors.{unopened_at}
 use Rattle.inst_log.proofs.Pieces.{take_min}
 use Rattle.inst_log.proofs.log.Log.inspect.Goals as goal
 

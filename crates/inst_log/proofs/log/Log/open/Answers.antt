@@ -4,7 +4,7 @@ use Rattle.sqlite_disk.specs.Disk.{MoreFaults}
 use Rattle.inst_log.specs.Layout.{EndsWell}
 use Rattle.inst_log.specs.Opening.{Opens, Unopened}
 use Rattle.inst_log.specs.Pieces.{IsExtent, IsFrontFor, Starts}
-use Rattle.inst_log.proofs.Causes.{err_passed, unopened_as}
+use Rattle.inst_log.proofs.CausesOfErrors.{err_passed, unopened_as}
 use Rattle.inst_log.proofs.Pieces.{take_min, starts_opens, text_length}
 use Rattle.inst_log.proofs.log.Log.open.Goals as goal
 

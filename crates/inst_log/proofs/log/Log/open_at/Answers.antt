@@ -1,6 +1,6 @@
 use Rattle.std.proofs.Common.{◌∙◌, subst, IsTrue}
 use Rattle.std.proofs.lemmas.Result.{on_ok_weaker}
-use Rattle.inst_log.proofs.Beginning.{new_lines, new_alike}
+use Rattle.inst_log.proofs.FilesOpenWithSettings.{new_lines, new_alike}
 use Rattle.inst_log.proofs.Pieces.{none_or_begun}
 use Rattle.inst_log.proofs.log.Log.open_at.Goals as goal
 

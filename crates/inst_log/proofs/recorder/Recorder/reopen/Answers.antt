@@ -5,7 +5,7 @@ use Rattle.std.specs.Io.KnownBytes.{Appends}
 use Rattle.inst_log.specs.Opening.{kept}
 use Rattle.inst_base.specs.Handing.{WritesPart}
 use Rattle.inst_log.specs.Serving.{Owing}
-use Rattle.inst_log.proofs.Serve.{text_behind, all_told, part_told, owed_now}
+use Rattle.inst_log.proofs.ToldRepliesAreKept.{text_behind, all_told, part_told, owed_now}
 use Rattle.inst_log.proofs.recorder.Recorder.reopen.Goals as goal
 
 pub slice_bounds-answer-count : goal.slice_bounds-answer-count
@@ -24,7 +24,7 @@ returns-then-told-len-clause-cause g c clean replies said =
 pub returns-clause-replied : goal.returns-clause-replied
 returns-clause-replied g c =
     on_ok_weaker c.deliver.result (λ wrote clean.
-    let says = g.A.Answers.says c.args.self.now.answers in
+    let says = g.A.Responder.says c.args.self.now.answers in
     let settings = c.args.settings.now in
     let first = kept settings (g.D.Disk.seen c.args.self.now.log.disk) in
     let lines = text_behind settings c.in_ok-text.text.items (g.D.Disk.seen c.args.self.now.log.disk) c.requires.settings (c.in_ok-text.ensures.text clean) in
@@ -48,7 +48,7 @@ returns-clause-told g c =
 
 pub returns-clause-part : goal.returns-clause-part
 returns-clause-part g c clean =
-    let says = g.A.Answers.says c.args.self.now.answers in
+    let says = g.A.Responder.says c.args.self.now.answers in
     let settings = c.args.settings.now in
     let first = kept settings (g.D.Disk.seen c.args.self.now.log.disk) in
     let lines = text_behind settings c.in_ok-text.text.items (g.D.Disk.seen c.args.self.now.log.disk) c.requires.settings (c.in_ok-text.ensures.text clean) in

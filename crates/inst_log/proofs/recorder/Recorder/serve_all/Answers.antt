@@ -3,13 +3,13 @@ use Rattle.std.proofs.lemmas.Grind.{common_steps}
 use Rattle.std.specs.Bool.{⊤}
 use Rattle.std.proofs.lemmas.Result.{err_from_is_err_and}
 use Rattle.std.proofs.lemmas.List.{append-nil, drop_more, drop_all}
-use Rattle.inst_log.specs.Layout.{recovered, blocks}
+use Rattle.inst_log.specs.Layout.{recovered_lines, blocks}
 use Rattle.sqlite_disk.specs.Disk.{MoreFaults}
 use Rattle.inst_log.specs.Log.{IsSettled, HasCause}
-use Rattle.inst_log.specs.Serving.{Unanswered, lines_of}
+use Rattle.inst_log.specs.Serving.{Unanswered, batch_lines}
 use Rattle.inst_log.proofs.Lines.{blocks-append}
-use Rattle.inst_log.proofs.Causes.{err_passed, unanswered_so}
-use Rattle.inst_log.proofs.Serve.{served_len, served_none, served_more, kept_on, kept_all}
+use Rattle.inst_log.proofs.CausesOfErrors.{err_passed, unanswered_so}
+use Rattle.inst_log.proofs.ToldRepliesAreKept.{served_len, served_none, served_more, kept_on, kept_all}
 use Rattle.inst_log.proofs.recorder.Recorder.serve_all.Goals as goal
 
 pub returns-in_err-serve-clause-any_moment : goal.returns-in_err-serve-clause-any_moment
@@ -32,8 +32,8 @@ returns-in_err-serve-clause-cause g c =
     let clean = IsTrue (g.D.Disk.is_clean new.disk) in
     let settled = IsSettled g.D.Disk.seen g.D.Disk.may_leave new in
     let fails = HasCause (MoreFaults (g.D.Disk.faults old.disk) (g.D.Disk.faults new.disk)) ⊤ ⊥ in
-    let stand = recovered (g.D.Disk.seen new.disk) ≡ recovered (g.D.Disk.seen mid.disk) ++ recovered c.as_slice.result.now in
-    let full = 2 ^ 62 ≤ old.end + length (blocks (lines_of c.args.batches.now)) in
+    let stand = recovered_lines (g.D.Disk.seen new.disk) ≡ recovered_lines (g.D.Disk.seen mid.disk) ++ recovered_lines c.as_slice.result.now in
+    let full = 2 ^ 62 ≤ old.end + length (blocks (batch_lines c.args.batches.now)) in
     let error = c.in_err-serve.field-0.0 in
     let cause = subst (λ (n : ℕ). Unanswered (HasCause (MoreFaults n (g.D.Disk.faults new.disk)) ⊤ ⊥) (2 ^ 62 ≤ mid.end) ⊥ (clean → settled × stand) error) c.loop-batch.invariant.calm c.in_err-serve.ensures.cause in
     err_passed (Unanswered fails full ⊥ (clean → settled)) c.from_residual.result _ (err_from_is_err_and c.from_residual.result c.from_residual.ensures.1)
@@ -42,9 +42,9 @@ returns-in_err-serve-clause-cause g c =
 
 pub loop-batch-init : goal.loop-batch-init
 loop-batch-init g c =
-    let first = recovered (g.D.Disk.seen c.args.self.now.log.disk) in
+    let first = recovered_lines (g.D.Disk.seen c.args.self.now.log.disk) in
     record {
-      served = served_none _ _ _ _ (g.met.A.Answers.none c.args.self.now.answers) c.requires.batches (omega arith, λ clean. (c.requires.settled clean, sym (append-nil first)));
+      served = served_none _ _ _ _ (g.met.A.Responder.none c.args.self.now.answers) c.requires.batches (omega arith, λ clean. (c.requires.settled clean, sym (append-nil first)));
       usable = c.requires.usable;
       calm = refl;
       clean = refl;
@@ -57,10 +57,10 @@ loop-batch-preserved g c =
     let item = c.batch-item.result in
     let s = c.loop-batch.invariant.served in
     let next : drop i bs ≡ item ∷ drop (i + 1) bs = search (rules, drop_more) in
-    let first = recovered (g.D.Disk.seen c.args.self.now.log.disk) in
+    let first = recovered_lines (g.D.Disk.seen c.args.self.now.log.disk) in
     let same : c.as_slice.result.now ≡ item.items = c.as_slice.ensures.value in
     let acknowledged = rw same at c.in_ok-serve.ensures.acknowledged in
-    let lines = recovered item.items in
+    let lines = recovered_lines item.items in
     let end = rw same at c.in_ok-serve.ensures.end in
     record {
       served = served_more _ _ _ _ _ _ _ _ _ _ _ item next s (rw same at c.in_ok-serve.ensures.replied) (rw same at c.in_ok-serve.ensures.on) (λ done keeps. (
@@ -79,7 +79,7 @@ pub returns-clause-any_moment : goal.returns-clause-any_moment
 returns-clause-any_moment g c clean =
     let s = c.loop-batch.invariant.served in
     let none : drop c.loop-batch.batch-index c.args.batches.now ≡ [] = drop_all c.loop-batch.batch-index c.args.batches.now (search rules) in
-    kept_all _ _ _ _ _ _ _ _ _ none s (λ left may. ap recovered ((s.kept.1 clean).0.durable left may) ∙ (s.kept.1 clean).1)
+    kept_all _ _ _ _ _ _ _ _ _ none s (λ left may. ap recovered_lines ((s.kept.1 clean).0.durable left may) ∙ (s.kept.1 clean).1)
 
 pub serve-requires-clause-batch : goal.serve-requires-clause-batch
 serve-requires-clause-batch g c = grind (arith, common_steps)

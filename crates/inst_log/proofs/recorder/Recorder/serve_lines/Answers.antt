@@ -1,13 +1,13 @@
 use Rattle.std.proofs.Common.{inl, ap, arith}
 use Rattle.std.proofs.lemmas.Grind.{common_steps}
-use Rattle.inst_log.specs.Layout.{recovered}
-use Rattle.inst_log.proofs.Serve.{kept_before}
+use Rattle.inst_log.specs.Layout.{recovered_lines}
+use Rattle.inst_log.proofs.ToldRepliesAreKept.{kept_before}
 use Rattle.inst_log.proofs.recorder.Recorder.serve_lines.Goals as goal
 
 pub returns-in_err-close_batch-clause-any_moment : goal.returns-in_err-close_batch-clause-any_moment
 returns-in_err-close_batch-clause-any_moment g c clean =
-    kept_before (g.A.Answers.says c.args.self.now.answers) _ _ _ _ (g.met.A.Answers.none c.args.self.now.answers)
-    (λ left may. inl (ap recovered ((c.requires.settled clean).durable left may)))
+    kept_before (g.A.Responder.says c.args.self.now.answers) _ _ _ _ (g.met.A.Responder.none c.args.self.now.answers)
+    (λ left may. inl (ap recovered_lines ((c.requires.settled clean).durable left may)))
 
 pub close_batch-requires-clause-some : goal.close_batch-requires-clause-some
 close_batch-requires-clause-some g c = grind (arith, common_steps)

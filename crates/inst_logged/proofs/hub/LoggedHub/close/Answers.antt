@@ -1,7 +1,7 @@
 use Rattle.std.proofs.Common.{◌∙◌}
 use Rattle.inst_log.specs.Opening.{kept}
 use Rattle.inst_logged.specs.Answering.{past_after}
-use Rattle.inst_logged.proofs.Opened.{some_weaker, are_carried, has_run, none_left}
+use Rattle.inst_logged.proofs.HubOpenedFromJournals.{some_weaker, are_carried, has_run, none_left}
 use Rattle.inst_logged.proofs.hub.LoggedHub.close.Goals as goal
 
 pub returns-clause-ok : goal.returns-clause-ok

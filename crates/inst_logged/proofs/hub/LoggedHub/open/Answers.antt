@@ -1,6 +1,6 @@
 use Rattle.std.proofs.lemmas.Result.{on_ok_weaker, IfErr-weaker}
-use Rattle.inst_logged.proofs.Intact.{by_intact}
-use Rattle.inst_logged.proofs.Running.{ends_still}
+use Rattle.inst_logged.proofs.MarksStayRight.{by_intact}
+use Rattle.inst_logged.proofs.WholeRunOfLoggedHub.{ends_still}
 use Rattle.inst_logged.proofs.hub.LoggedHub.open.Goals as goal
 
 pub returns-clause-ok : goal.returns-clause-ok

@@ -2,11 +2,11 @@ use Rattle.std.proofs.Common.{inl, inr, refl, ◌∙◌, sym, subst}
 use Rattle.std.proofs.lemmas.Result.{err_from_is_err_and}
 use Rattle.inst_log.specs.Layout.{EndsWell}
 use Rattle.inst_logged.specs.declared.error.LoggedError.TheVariants.{Log}
-use Rattle.inst_logged.specs.Running.{IsLeft}
-use Rattle.inst_logged.proofs.Causes.{cause_of_none}
-use Rattle.inst_logged.proofs.Examined.{passed, starts_as, unopened_cause, told_cause}
-use Rattle.inst_logged.proofs.Failing.{failed_so, more_faults, unopened_fails}
-use Rattle.inst_logged.proofs.Intact.{verified_intact, opening_intact, opened_found, opened_none}
+use Rattle.inst_logged.specs.Running.{HasSameFile}
+use Rattle.inst_logged.proofs.CausesOfRefusal.{cause_of_none}
+use Rattle.inst_logged.proofs.CausesOfRefusalByCall.{passed, starts_as, unopened_cause, told_cause}
+use Rattle.inst_logged.proofs.FailuresOfLoggedHub.{failed_so, more_faults, unopened_fails}
+use Rattle.inst_logged.proofs.MarksStayRight.{verified_intact, opening_intact, opened_found, opened_none}
 use Rattle.inst_logged.proofs.hub.LoggedHub.reopen.Goals as goal
 
 -- it ended before it was opened
@@ -27,7 +27,7 @@ pub returns-in_err-start-clause-err : goal.returns-in_err-start-clause-err
 returns-in_err-start-clause-err g c =
     let self = c.args.self.now in
     let file = g.D.Disk.seen self.recorder.log.disk in
-    let left : IsLeft g.D.Disk self.recorder.log.disk c.inspect.new.self.disk = record { same = c.inspect.ensures.same.0 ∙ c.examine.ensures.read.left.same; crash = λ f may. c.examine.ensures.read.left.crash f (c.inspect.ensures.crash f may) } in
+    let left : HasSameFile g.D.Disk self.recorder.log.disk c.inspect.new.self.disk = record { same = c.inspect.ensures.same.0 ∙ c.examine.ensures.read.left.same; crash = λ f may. c.examine.ensures.read.left.crash f (c.inspect.ensures.crash f may) } in
     passed _ c.from_residual-in_err-start.result _ (err_from_is_err_and c.from_residual-in_err-start.result c.from_residual-in_err-start.ensures.1)
     (record {
       refused = λ _. (refl, left);
@@ -45,7 +45,7 @@ returns-in_err-start_again-clause-err g c =
     let self = c.args.self.now in
     let header = self.header.items in
     let file = g.D.Disk.seen self.recorder.log.disk in
-    let left : IsLeft g.D.Disk self.recorder.log.disk c.start_again.new.recorder.log.disk = record {
+    let left : HasSameFile g.D.Disk self.recorder.log.disk c.start_again.new.recorder.log.disk = record {
       same = c.start_again.ensures.same.read.left.same ∙ c.inspect.ensures.same.0 ∙ c.examine.ensures.read.left.same;
       crash = λ f may. c.examine.ensures.read.left.crash f (c.inspect.ensures.crash f (c.start_again.ensures.same.read.left.crash f may));
     } in

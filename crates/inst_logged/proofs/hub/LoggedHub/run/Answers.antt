@@ -1,20 +1,20 @@
 use Rattle.std.proofs.Common.{[], inl, inr, refl, sym, subst}
 use Rattle.std.proofs.lemmas.Result.{err_from_is_err_and, on_ok_weaker, IfErr-weaker}
 use Rattle.inst_log.specs.Opening.{kept}
-use Rattle.inst_log.proofs.Serve.{run_opens}
+use Rattle.inst_log.proofs.ToldRepliesAreKept.{run_opens}
 use Rattle.inst_log.specs.Serving.{SaysOn}
 use Rattle.inst_chain.specs.Chain.{kept_said}
 use Rattle.inst_lines.specs.declared.mode.Mode.{Mode}
-use Rattle.inst_logged.specs.Answering.{SaysLines, told_of}
-use Rattle.inst_logged.specs.Logged.{Are, owed}
+use Rattle.inst_logged.specs.Answering.{SaysLines, told_count}
+use Rattle.inst_logged.specs.Logged.{AreReplies, unsent_replies_at}
 use Rattle.inst_logged.specs.Marking.{IsIntact, IsIntactBy}
 use Rattle.inst_logged.specs.declared.version.Version.{Version}
-use Rattle.inst_logged.proofs.Causes.{cause_of_none}
-use Rattle.inst_logged.proofs.Examined.{passed}
-use Rattle.inst_logged.proofs.Failing.{failed_so, more_faults, err_of_fails}
-use Rattle.inst_logged.proofs.Intact.{by_intact, on_ok_both, if_err_both}
-use Rattle.inst_logged.proofs.Opened.{lines_behind_keep}
-use Rattle.inst_logged.proofs.Running.{begins_behind, begins_still, ends_still, survives_none, survives_more, logs_all}
+use Rattle.inst_logged.proofs.CausesOfRefusal.{cause_of_none}
+use Rattle.inst_logged.proofs.CausesOfRefusalByCall.{passed}
+use Rattle.inst_logged.proofs.FailuresOfLoggedHub.{failed_so, more_faults, err_of_fails}
+use Rattle.inst_logged.proofs.MarksStayRight.{by_intact, on_ok_both, if_err_both}
+use Rattle.inst_logged.proofs.HubOpenedFromJournals.{lines_behind_keep}
+use Rattle.inst_logged.proofs.WholeRunOfLoggedHub.{begins_behind, begins_still, ends_still, survives_none, survives_more, logs_all}
 use Rattle.inst_logged.proofs.hub.LoggedHub.run.Goals as goal
 
 pub returns-in_err-reopen-clause-any_moment : goal.returns-in_err-reopen-clause-any_moment
@@ -55,7 +55,7 @@ returns-clause-ok g c =
       logged = λ past keeps.
           logs_all mode past header c.args.told file g.D.Disk.seen g.D.Disk.may_leave _
           c.reopen.new.self.recorder after.recorder _ _ _ _ _
-          (subst (λ (m : Mode). SaysOn (Are (owed mode past (kept_said header file) (told_of c.args.told (kept_said header file)))) [] (SaysLines m runner)) (sym c.reopen.ensures.same.2) (r.replayed.on past keeps))
+          (subst (λ (m : Mode). SaysOn (AreReplies (unsent_replies_at mode past (kept_said header file) (told_count c.args.told (kept_said header file)))) [] (SaysLines m runner)) (sym c.reopen.ensures.same.2) (r.replayed.on past keeps))
           (r.replayed.tells past keeps) r.lines both.0 clean (λ lines. lines_behind_keep mode past self.recorder.answers.runner lines keeps);
       settled = (both.0.settled clean).0;
       intact = by_intact self.version (g.D.Disk.seen after.recorder.log.disk) after.marker
@@ -75,10 +75,10 @@ returns-clause-any_moment g c clean =
     record {
       survives = λ past keeps.
           survives_more mode past header c.args.told file _ _ _ _ _ _ _ _
-          (subst (λ (m : Mode). SaysOn (Are (owed mode past (kept_said header file) (told_of c.args.told (kept_said header file)))) [] (SaysLines m runner)) (sym c.reopen.ensures.same.2) (r.replayed.on past keeps))
+          (subst (λ (m : Mode). SaysOn (AreReplies (unsent_replies_at mode past (kept_said header file) (told_count c.args.told (kept_said header file)))) [] (SaysLines m runner)) (sym c.reopen.ensures.same.2) (r.replayed.on past keeps))
           (r.replayed.tells past keeps) r.lines k;
       begins = λ begins left may. begins_behind _ header (kept header file) _ _ _ left r.lines (k.kept.kept left may);
-      opens = λ opens left may. run_opens (Are (λ lines. [])) (kept header file) header _ _ _ _ _ k.lines r.lines k.kept left may;
+      opens = λ opens left may. run_opens (AreReplies (λ lines. [])) (kept header file) header _ _ _ _ _ k.lines r.lines k.kept left may;
       intact = λ mixes before left may. subst (λ (v : Version). IsIntact v left) c.reopen.ensures.same.1 (c.serve_all.ensures.intact mixes clean left may);
     }
 

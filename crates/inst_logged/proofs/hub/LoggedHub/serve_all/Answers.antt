@@ -3,11 +3,11 @@ use Rattle.std.proofs.lemmas.Result.{err_from_is_err_and}
 use Rattle.std.proofs.lemmas.Bool.{MatchBool-at_true, MatchBool-at_false}
 use Rattle.inst_base.specs.Newline.{NoNewline}
 use Rattle.inst_logged.specs.inner.Input.{rest_from}
-use Rattle.inst_logged.proofs.Coming.{come_none, come_more, come_longer, come_end, come_kept, come_so_far, served_as}
+use Rattle.inst_logged.proofs.ProgressOfLoggedHub.{come_none, come_more, come_longer, come_end, come_kept, come_so_far, served_as}
 use Rattle.inst_logged.specs.Marking.{IsIntact, IsIntactBy}
 use Rattle.inst_logged.specs.declared.version.Version.{Version}
-use Rattle.inst_logged.proofs.Failing.{fails_passed, fails_so, more_faults}
-use Rattle.inst_logged.proofs.Intact.{same_intact}
+use Rattle.inst_logged.proofs.FailuresOfLoggedHub.{fails_passed, fails_so, more_faults}
+use Rattle.inst_logged.proofs.MarksStayRight.{same_intact}
 use Rattle.inst_logged.proofs.hub.LoggedHub.serve_all.Goals as goal
 
 pub loop-init : goal.loop-init

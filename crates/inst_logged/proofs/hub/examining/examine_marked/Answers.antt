@@ -1,8 +1,8 @@
 use Rattle.std.proofs.Common.{refl}
 use Rattle.std.proofs.lemmas.Result.{err_from_is_err_and}
 use Rattle.inst_logged.specs.declared.version.Version.TheVariants.{Two}
-use Rattle.inst_logged.proofs.Examined.{chain_cause, no_ok, passed}
-use Rattle.inst_logged.proofs.Failing.{fails_passed, chain_fails}
+use Rattle.inst_logged.proofs.CausesOfRefusalByCall.{chain_cause, no_ok, passed}
+use Rattle.inst_logged.proofs.FailuresOfLoggedHub.{fails_passed, chain_fails}
 use Rattle.inst_logged.proofs.hub.examining.examine_marked.Goals as goal
 
 pub returns-in_err-verified : goal.returns-in_err-verified

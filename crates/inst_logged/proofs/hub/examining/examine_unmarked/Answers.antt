@@ -1,8 +1,8 @@
 use Rattle.std.proofs.Common.{sym, ◌∙◌}
 use Rattle.std.proofs.lemmas.Result.{err_from_is_err_and}
 use Rattle.inst_logged.specs.declared.version.Version.TheVariants.{One}
-use Rattle.inst_logged.proofs.Examined.{log_cause, no_ok, none_wanted, passed}
-use Rattle.inst_logged.proofs.Failing.{fails_passed, log_fails}
+use Rattle.inst_logged.proofs.CausesOfRefusalByCall.{log_cause, no_ok, none_wanted, passed}
+use Rattle.inst_logged.proofs.FailuresOfLoggedHub.{fails_passed, log_fails}
 use Rattle.inst_logged.proofs.hub.examining.examine_unmarked.Goals as goal
 
 pub returns-in_err-extent : goal.returns-in_err-extent

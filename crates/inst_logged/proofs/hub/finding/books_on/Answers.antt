@@ -1,7 +1,7 @@
 use Rattle.std.proofs.Common.{◌≡◌, ◌∙◌, ◌≤◌, ◌+◌, Some, None, ℕ, Option, List, ◌++◌, length, refl, ap, sym, arith}
 use Rattle.inst_log.specs.Opening.{kept}
 use Rattle.inst_logged.specs.Header.{header_line, header_from, lines_of_books}
-use Rattle.inst_logged.proofs.Behind.{has_books, lines_from_books}
+use Rattle.inst_logged.proofs.BooksBehindFirstLine.{has_books, lines_from_books}
 use Rattle.inst_logged.proofs.hub.finding.books_on.Goals as goal
 
 pub returns-in_default-clause-found : goal.returns-in_default-clause-found

@@ -2,7 +2,7 @@ use Rattle.std.proofs.Common.{◌≡◌, ◌∙◌, ◌-◌, [], List, ℕ, leng
 use Rattle.std.specs.Prelude.{bytes_eq}
 use Rattle.std.proofs.lemmas.List.{take_rest}
 use Rattle.inst_chain.specs.Chain.{mark_of}
-use Rattle.inst_logged.proofs.Behind.{mark_there}
+use Rattle.inst_logged.proofs.BooksBehindFirstLine.{mark_there}
 use Rattle.inst_logged.proofs.hub.finding.has_mark_at.Goals as goal
 
 pub returns : goal.returns

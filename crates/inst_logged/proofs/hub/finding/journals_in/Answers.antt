@@ -3,7 +3,7 @@ use Rattle.std.proofs.lemmas.Result.{err_from_is_err_and}
 use Rattle.inst_base.specs.Newline.{newline}
 use Rattle.inst_log.specs.Layout.{blocks}
 use Rattle.inst_logged.specs.declared.version.Version.TheVariants.{Two}
-use Rattle.inst_logged.proofs.Behind.{books_found, all_found, mark_behind, books_whole, unrefused_err, unrefused_is, unrefused_ok}
+use Rattle.inst_logged.proofs.BooksBehindFirstLine.{books_found, all_found, mark_behind, books_whole, unrefused_err, unrefused_is, unrefused_ok}
 use Rattle.inst_logged.proofs.hub.finding.journals_in.Goals as goal
 
 pub returns-then-count_lines-count-clause-found : goal.returns-then-count_lines-count-clause-found

@@ -1,7 +1,7 @@
 use Rattle.std.proofs.Common.{◌∙◌, ap, sym, true≢false}
 use Rattle.std.proofs.lemmas.Result.{err_from_is_err_and}
 use Rattle.inst_books.specs.Books.{all_events}
-use Rattle.inst_logged.proofs.Behind.{read_same, read_fails, unrefused_err, fault_unrefused, mapped_ok, can_open_same}
+use Rattle.inst_logged.proofs.BooksBehindFirstLine.{read_same, read_fails, unrefused_err, fault_unrefused, mapped_ok, can_open_same}
 use Rattle.inst_logged.proofs.hub.finding.journals_of.Goals as goal
 
 pub returns-in_err-journals-clause-found : goal.returns-in_err-journals-clause-found

@@ -1,5 +1,5 @@
 use Rattle.std.proofs.lemmas.Result.{err_from_is_err_and}
-use Rattle.inst_logged.proofs.Failing.{fails_passed}
+use Rattle.inst_logged.proofs.FailuresOfLoggedHub.{fails_passed}
 use Rattle.inst_logged.proofs.hub.measuring.measure.Goals as goal
 
 pub returns-in_err-size-clause-failure : goal.returns-in_err-size-clause-failure

@@ -1,8 +1,8 @@
 use Rattle.std.proofs.Common.{sym, subst}
 use Rattle.std.proofs.lemmas.Result.{err_from_is_err_and}
 use Rattle.inst_log.specs.Layout.{IsShut}
-use Rattle.inst_logged.proofs.Failing.{fails_passed, fails_after, log_fails}
-use Rattle.inst_logged.proofs.Measuring.{on_ok_any}
+use Rattle.inst_logged.proofs.FailuresOfLoggedHub.{fails_passed, fails_after, log_fails}
+use Rattle.inst_logged.proofs.DiskThatWasOnlyRead.{on_ok_any}
 use Rattle.inst_logged.proofs.hub.measuring.open_measured.Goals as goal
 
 pub returns-clause-shut_now : goal.returns-clause-shut_now

@@ -1,14 +1,14 @@
 use Rattle.std.proofs.Common.{rules, ◌++◌, [], List, ℕ, refl, sym, ◌∙◌, ap, subst, append-nil}
 use Rattle.std.proofs.lemmas.Result.{err_from_is_err_and, on_ok_weaker, IfErr-weaker}
 use Rattle.inst_base.specs.Handing.{WritesPart}
-use Rattle.inst_log.specs.Layout.{recovered}
+use Rattle.inst_log.specs.Layout.{recovered_lines}
 use Rattle.inst_log.specs.Pieces.{IsReading}
 use Rattle.inst_chain.specs.Chain.{said}
 use Rattle.inst_logged.specs.inner.Answering.{AnswersAgain, debt}
 use Rattle.inst_logged.specs.inner.Replaying.{IsReplayed}
 use Rattle.inst_logged.proofs.Debt.{again_none, again_more, replayed, part_so_far, part_more, too_few, kept_so_far, kept_at_end, reading_none, reading_more, still_told, not_zero}
-use Rattle.inst_logged.proofs.Enough.{begun_so_far, begun_more, on_err_all}
-use Rattle.inst_logged.proofs.Failing.{fails_passed, fails_so, fails_told, log_fails, more_faults}
+use Rattle.inst_logged.proofs.EnoughLinesForToldReplies.{begun_so_far, begun_more, on_err_all}
+use Rattle.inst_logged.proofs.FailuresOfLoggedHub.{fails_passed, fails_so, fails_told, log_fails, more_faults}
 use Rattle.inst_logged.proofs.hub.replaying.replay.Goals as goal
 
 pub loop-lines-init : goal.loop-lines-init
@@ -55,7 +55,7 @@ returns-in_err-piece-clause-replays g c = record {
       begun_so_far c.args.told c.loop-lines.left _ i.done _ _ i.again.left_is (kept_so_far c.args.header.now file c.loop-lines.lines i.done (i.reading (c.next.ensures.clean clean))) i.untouched);
   failure =
       let i = c.loop-lines.invariant in
-      let done = recovered c.args.header.now ++ i.done in
+      let done = recovered_lines c.args.header.now ++ i.done in
       fails_passed _ _ c.from_residual-in_err-piece.result _ (err_from_is_err_and c.from_residual-in_err-piece.result c.from_residual-in_err-piece.ensures.1)
       (λ clean. log_fails _ _ _ _ _ c.in_err-piece.field-0.0
       (λ failed. more_faults _ _ _ i.calm (failed clean done (subst (λ (f : List ℕ). IsReading f c.loop-lines.lines done) (sym i.seen) (i.reading (c.next.ensures.clean clean))))) c.in_err-piece.ensures.cause);
@@ -67,16 +67,16 @@ returns-in_err-left-clause-replays g c = record {
   part = λ clean past keeps.
       let i = c.loop-lines.invariant in
       let file = g.D.Disk.seen c.args.recorder.now.log.disk in
-      let piece = recovered c.in_ok-piece.piece.items in
+      let piece = recovered_lines c.in_ok-piece.piece.items in
       let reading = reading_more c.args.header.now file (g.D.Disk.seen c.loop-lines.recorder.log.disk) c.loop-lines.lines c.next.new.self i.done piece i.seen (i.reading (c.next.ensures.clean clean)) (c.in_ok-piece.ensures.reading clean) in
       let kept_now = kept_so_far c.args.header.now file c.next.new.self (i.done ++ piece) reading in
       part_more c.args.recorder.now.answers.mode past c.args.told c.loop-lines.left c.args.recorder.now.answers.runner c.loop-lines.recorder.answers.runner _ i.done piece _ _ _ _ c.loop-lines.recorder.answers.mode i.mode (ap said kept_now) keeps i.again
-      (λ later of. subst (λ (l : List ℕ). WritesPart (g.W.Write.contents c.loop-lines.writer) (g.W.Write.contents c.answer_again.new.writer) (debt c.loop-lines.recorder.answers.mode later c.loop-lines.left (recovered l))) c.deref.ensures.value (c.answer_again.ensures.part later of));
+      (λ later of. subst (λ (l : List ℕ). WritesPart (g.W.Write.contents c.loop-lines.writer) (g.W.Write.contents c.answer_again.new.writer) (debt c.loop-lines.recorder.answers.mode later c.loop-lines.left (recovered_lines l))) c.deref.ensures.value (c.answer_again.ensures.part later of));
   refused = search rules;
   begun =
       let i = c.loop-lines.invariant in
       let file = g.D.Disk.seen c.args.recorder.now.log.disk in
-      let piece = recovered c.in_ok-piece.piece.items in
+      let piece = recovered_lines c.in_ok-piece.piece.items in
       on_err_all c.from_residual-in_err-left.result _ (λ clean.
       let reading = reading_more c.args.header.now file (g.D.Disk.seen c.loop-lines.recorder.log.disk) c.loop-lines.lines c.next.new.self i.done piece i.seen (i.reading (c.next.ensures.clean clean)) (c.in_ok-piece.ensures.reading clean) in
       begun_more c.args.told c.loop-lines.left _ i.done piece _ _ _ _ i.again.left_is (kept_so_far c.args.header.now file c.next.new.self (i.done ++ piece) reading) i.untouched
@@ -90,9 +90,9 @@ pub loop-lines-preserved : goal.loop-lines-preserved
 loop-lines-preserved g c =
     let i = c.loop-lines.invariant in
     let file = g.D.Disk.seen c.args.recorder.now.log.disk in
-    let piece = recovered c.in_ok-piece.piece.items in
+    let piece = recovered_lines c.in_ok-piece.piece.items in
     let again : AnswersAgain c.loop-lines.recorder.answers.mode c.loop-lines.left c.in_ok-left.left c.loop-lines.recorder.answers.runner c.answer_again.new.answers.runner piece (g.W.Write.contents c.loop-lines.writer) (g.W.Write.contents c.answer_again.new.writer) =
-    subst (λ (l : List ℕ). AnswersAgain c.loop-lines.recorder.answers.mode c.loop-lines.left c.in_ok-left.left c.loop-lines.recorder.answers.runner c.answer_again.new.answers.runner (recovered l) (g.W.Write.contents c.loop-lines.writer) (g.W.Write.contents c.answer_again.new.writer))
+    subst (λ (l : List ℕ). AnswersAgain c.loop-lines.recorder.answers.mode c.loop-lines.left c.in_ok-left.left c.loop-lines.recorder.answers.runner c.answer_again.new.answers.runner (recovered_lines l) (g.W.Write.contents c.loop-lines.writer) (g.W.Write.contents c.answer_again.new.writer))
     c.deref.ensures.value c.in_ok-left.ensures.ok in
     record {
       done = i.done ++ piece;

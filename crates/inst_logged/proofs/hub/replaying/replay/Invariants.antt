@@ -1,5 +1,5 @@
 use Rattle.std.proofs.Common.{◌≡◌, ◌-◌, ◌++◌, List, ℕ, Some, IsTrue}
-use Rattle.inst_log.specs.Layout.{recovered}
+use Rattle.inst_log.specs.Layout.{recovered_lines}
 use Rattle.inst_log.specs.Pieces.{IsReading}
 use Rattle.inst_logged.specs.inner.Answering.{AnswersAgain}
 use Rattle.inst_logged.proofs.hub.replaying.replay.Given as goal
@@ -11,7 +11,7 @@ invariant-loop-lines g l =
       again : AnswersAgain l.fn.recorder.answers.mode l.fn.told l.left l.fn.recorder.answers.runner l.recorder.answers.runner done
           (g.W.Write.contents l.fn.writer) (g.W.Write.contents l.writer);
       untouched : (l.left ≡ Some 0 → ⊥) → l.writer ≡ l.fn.writer;
-      reading : IsTrue (g.D.Disk.is_clean l.recorder.log.disk) → IsReading (g.D.Disk.seen l.fn.recorder.log.disk) l.lines (recovered l.header ++ done);
+      reading : IsTrue (g.D.Disk.is_clean l.recorder.log.disk) → IsReading (g.D.Disk.seen l.fn.recorder.log.disk) l.lines (recovered_lines l.header ++ done);
       mode : l.recorder.answers.mode ≡ l.fn.recorder.answers.mode;
       end : l.recorder.log.end ≡ l.fn.recorder.log.end;
       seen : g.D.Disk.seen l.recorder.log.disk ≡ g.D.Disk.seen l.fn.recorder.log.disk;

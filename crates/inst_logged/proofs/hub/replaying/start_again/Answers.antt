@@ -3,7 +3,7 @@ use Rattle.std.proofs.lemmas.Result.{on_ok_weaker, IfErr-weaker}
 use Rattle.inst_chain.specs.Chain.{said}
 use Rattle.inst_logged.specs.inner.Replaying.{IsReplayed}
 use Rattle.inst_logged.proofs.Debt.{again_none, replayed, part_so_far, too_few, left_start, kept_none}
-use Rattle.inst_logged.proofs.Failing.{fails_told}
+use Rattle.inst_logged.proofs.FailuresOfLoggedHub.{fails_told}
 use Rattle.inst_logged.proofs.hub.replaying.start_again.Goals as goal
 
 pub replay-requires-clause-begins : goal.replay-requires-clause-begins

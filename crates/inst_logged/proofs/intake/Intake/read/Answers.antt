@@ -3,16 +3,16 @@ use Rattle.std.proofs.lemmas.Grind.{common_steps}
 use Rattle.std.proofs.lemmas.List.{with_items_is, length-take-le, length-drop}
 use Rattle.std.proofs.lemmas.Result.{err_from_is_err_and}
 use borrow.Rule.Slice.PartMut.{put_mid}
-use Rattle.inst_lines.proofs.BufferLemmas.{length-put_mid}
-use Rattle.inst_log.specs.Layout.{recovered}
-use Rattle.inst_logged.specs.Input.{cut, logged}
+use Rattle.inst_lines.proofs.BufferAfterRead.{length-put_mid}
+use Rattle.inst_log.specs.Layout.{recovered_lines}
+use Rattle.inst_logged.specs.Input.{shortened_line, logged_line}
 use Rattle.inst_logged.specs.inner.Input.{lines_from, rest_from}
 use Rattle.inst_logged.specs.Intake.{held}
 use Rattle.inst_logged.specs.inner.Failing.{Fails}
-use Rattle.inst_logged.proofs.Cutting.{quiet_held}
-use Rattle.inst_logged.proofs.Examined.{passed}
-use Rattle.inst_logged.proofs.Intaking.{read_behind, lines_taken, rest_taken}
-use Rattle.inst_logged.proofs.Turning.{plain_more, plain_raw, plain_logged}
+use Rattle.inst_logged.proofs.LinesFromPieces.{quiet_held}
+use Rattle.inst_logged.proofs.CausesOfRefusalByCall.{passed}
+use Rattle.inst_logged.proofs.BatchAfterRead.{read_behind, lines_taken, rest_taken}
+use Rattle.inst_logged.proofs.ReadBehindPartOfLine.{plain_more, plain_raw, plain_logged}
 use Rattle.inst_logged.proofs.intake.Intake.read.Goals as goal
 
 pub returns-clause-lines : goal.returns-clause-lines
@@ -22,7 +22,7 @@ returns-clause-lines g c =
     let new = c.read_bytes.new.buf in
     let n = c.in_ok-count.count in
     let k = length xs - old.len in
-    let before = recovered c.args.batch.now.items in
+    let before = recovered_lines c.args.batch.now.items in
     let size : length xs ≡ 65536 = c.deref_mut.ensures.len ∙ old.size in
     let within : old.len ≤ length xs = omega (arith, old.within) in
     let room : length new ≡ k = c.read_bytes.auto.buf ∙ length-take-le _ _ (omega (arith, length-drop old.len xs)) in
@@ -34,10 +34,10 @@ returns-clause-lines g c =
       some = omega (arith, length-take-le n new few);
       consumes = c.in_ok-count.ensures.bytes.0;
       lines_are = λ part same.
-          c.in_ok-take_lines.ensures.lines ∙ ap (λ (l : List ℕ). before ++ map logged (lines_from [] l)) bytes_are
+          c.in_ok-take_lines.ensures.lines ∙ ap (λ (l : List ℕ). before ++ map logged_line (lines_from [] l)) bytes_are
           ∙ ap (λ (ls : List (List ℕ)). before ++ ls) (lines_taken part (held old) (take n new) same c.requires.part);
       held_is = λ part same.
-          c.in_ok-take_lines.ensures.held ∙ ap (λ (l : List ℕ). cut (rest_from [] l)) bytes_are
+          c.in_ok-take_lines.ensures.held ∙ ap (λ (l : List ℕ). shortened_line (rest_from [] l)) bytes_are
           ∙ rest_taken part (held old) (take n new) same c.requires.part;
     }
 
@@ -54,7 +54,7 @@ returns-clause-part g c =
     let few : n ≤ length new = omega (arith, c.in_ok-count.ensures.bound) in
     let bytes_are = ap (take (old.len + n)) (with_items_is old.bytes (put_mid old.len k xs new) (length-put_mid xs new old.len k (omega arith) room ∙ c.deref_mut.ensures.len))
     ∙ read_behind xs new old.len k n within few ∙ ap (λ (l : List ℕ). take old.len l ++ take n new) c.deref_mut.ensures.value in
-    quiet_held (held old ++ take n new) _ (c.in_ok-take_lines.ensures.held ∙ ap (λ (l : List ℕ). cut (rest_from [] l)) bytes_are)
+    quiet_held (held old ++ take n new) _ (c.in_ok-take_lines.ensures.held ∙ ap (λ (l : List ℕ). shortened_line (rest_from [] l)) bytes_are)
 
 pub take_last-requires-clause-part : goal.take_last-requires-clause-part
 take_last-requires-clause-part g c = grind (arith, common_steps)

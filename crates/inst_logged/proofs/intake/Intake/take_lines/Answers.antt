@@ -1,8 +1,8 @@
 use Rattle.std.proofs.Common.{◌+◌, ◌-◌, ◌≤◌, ℕ, [], List, length, drop, take, sym, ◌∙◌, ap, arith}
 use Rattle.std.proofs.lemmas.List.{length-drop, length-take-le}
-use Rattle.inst_logged.specs.Input.{cut}
+use Rattle.inst_logged.specs.Input.{shortened_line}
 use Rattle.inst_logged.specs.inner.Input.{rest_from}
-use Rattle.inst_logged.proofs.Intaking.{copied, cut_range}
+use Rattle.inst_logged.proofs.BatchAfterRead.{copied, cut_range}
 use Rattle.inst_logged.proofs.intake.Intake.take_lines.Goals as goal
 
 pub returns-clause-held : goal.returns-clause-held
@@ -20,6 +20,6 @@ returns-clause-held c =
     ∙ copied xs start m ((start + m) - start) (omega arith) few
     ∙ ap (λ (n : ℕ). take n (drop start xs)) c.min-len.ensures
     ∙ cut_range xs start end
-    ∙ ap (λ (l : List ℕ). cut (drop start (take end l))) (sym c.deref.ensures.value)
-    ∙ ap cut b.rest_is
-    ∙ ap (λ (l : List ℕ). cut (rest_from [] (take end l))) c.deref.ensures.value
+    ∙ ap (λ (l : List ℕ). shortened_line (drop start (take end l))) (sym c.deref.ensures.value)
+    ∙ ap shortened_line b.rest_is
+    ∙ ap (λ (l : List ℕ). shortened_line (rest_from [] (take end l))) c.deref.ensures.value

@@ -1,6 +1,6 @@
 use Rattle.std.proofs.Common.{◌∙◌}
 use Rattle.std.proofs.lemmas.List.{take_rest}
-use Rattle.inst_logged.proofs.Answering.{front_more}
+use Rattle.inst_logged.proofs.AnswersToLogLines.{front_more}
 use Rattle.inst_logged.proofs.line_answers.LineAnswers.answer_all.Goals as goal
 
 pub loop-len-preserved : goal.loop-len-preserved

@@ -1,9 +1,9 @@
 use Rattle.std.proofs.Common.{◌≡◌, ◌-◌, ◌+◌, ℕ, List, [], ◌∷◌, ◌++◌, length, take, drop, refl, ap, sym, ◌∙◌, arith}
 use Rattle.std.proofs.lemmas.List.{take_rest, length-drop}
-use Rattle.inst_log.specs.Layout.{recovered}
+use Rattle.inst_log.specs.Layout.{recovered_lines}
 use Rattle.inst_chain.specs.Chain.{said}
-use Rattle.inst_logged.proofs.Answering.{answers_none, front_next}
-use Rattle.inst_logged.proofs.Intaking.{suffix_more}
+use Rattle.inst_logged.proofs.AnswersToLogLines.{answers_none, front_next}
+use Rattle.inst_logged.proofs.BatchAfterRead.{suffix_more}
 use Rattle.inst_logged.proofs.line_answers.LineAnswers.answer_first.Goals as goal
 
 pub loop-len-init : goal.loop-len-init
@@ -39,7 +39,7 @@ returns-then-left-eq0-clause-ok c =
     record {
       done = i.front.0.done;
       within = omega arith;
-      split = sym i.front.0.split ∙ ap (λ (l : List ℕ). i.front.0.done ++ recovered l) (sym i.suffix);
+      split = sym i.front.0.split ∙ ap (λ (l : List ℕ). i.front.0.done ++ recovered_lines l) (sym i.suffix);
       few = omega (arith, i.front.1);
       left_is = omega (arith, i.front.1, c.if-left-eq0.true);
       full = λ some. absurd (omega (arith, some));
@@ -52,9 +52,9 @@ returns-clause-ok c =
     record {
       done = i.front.0.done;
       within = omega arith;
-      split = sym i.front.0.split ∙ ap (λ (l : List ℕ). i.front.0.done ++ recovered l) (sym i.suffix);
+      split = sym i.front.0.split ∙ ap (λ (l : List ℕ). i.front.0.done ++ recovered_lines l) (sym i.suffix);
       few = omega (arith, i.front.1);
       left_is = omega (arith, i.front.1);
-      full = λ _. ap recovered i.suffix ∙ c.in_default.ensures;
+      full = λ _. ap recovered_lines i.suffix ∙ c.in_default.ensures;
       answered = i.front.0.answered;
     }

@@ -1,5 +1,5 @@
 use Rattle.std.proofs.Common.{◌∙◌, sym, ap, length}
-use Rattle.inst_logged.proofs.Answering.{answers_one, answers_mark, said_one, said_none}
+use Rattle.inst_logged.proofs.AnswersToLogLines.{answers_one, answers_mark, said_one, said_none}
 use Rattle.inst_logged.proofs.line_answers.LineAnswers.answer_raw.Goals as goal
 
 pub returns-then-is_mark-clause-ok : goal.returns-then-is_mark-clause-ok

@@ -1,5 +1,5 @@
 use Rattle.std.proofs.Common.{refl}
-use Rattle.inst_logged.proofs.Opened.{keeps_again}
+use Rattle.inst_logged.proofs.HubOpenedFromJournals.{keeps_again}
 use Rattle.inst_logged.proofs.line_answers.LineAnswers.open_from.Goals as goal
 
 pub returns : goal.returns

@@ -4,11 +4,11 @@ use Rattle.inst_cell.specs.Held.{settings_of, knows, has_role, stood, Stays, rol
 use Rattle.inst_board.specs.Learning.{IsAnswer, KnowTheSame}
 use Rattle.inst_journal.specs.declared.event.Event.{Event}
 use Rattle.inst_journal.specs.Sound.{IsSound}
-use Rattle.inst_slot.proofs.Adopting.{asks_adopted}
+use Rattle.inst_slot.proofs.ForwardedTransfersHavePlaces.{asks_adopted}
 use Rattle.inst_participant.specs.Answers.{Answered}
-use Rattle.inst_participant.proofs.Answering.{KnowsOwn, answered}
-use Rattle.inst_participant.proofs.Serving.{grows}
-use Rattle.inst_participant.proofs.Refusing.{told_answered, told_left}
+use Rattle.inst_participant.proofs.AnswerByHistoryAlone.{KnowsOwn, answered}
+use Rattle.inst_participant.proofs.HistoryAfterServedAsk.{grows}
+use Rattle.inst_participant.proofs.AnswerWithRefusalsTold.{told_answered, told_left}
 use Rattle.inst_participant.proofs.participant.Participant.answer.Goals as goal
 
 -- on shared words only a time-out may have stood that the beneficiary doesn't know

@@ -5,7 +5,7 @@ use Rattle.std.specs.declared.alloc.AllocError.{AllocError}
 use Rattle.inst_settings.specs.Settings.{HubSettings, participants}
 use Rattle.inst_participant.specs.declared.participant.Participant.{Participant}
 use Rattle.inst_participant.specs.Sweeping.{DeliversFrom, DeliversAll}
-use Rattle.inst_participant.proofs.Sweeping.{On, LeftOfOwners, told_twice, on_then, own_now, other_now, owner_refused, all_delivered}
+use Rattle.inst_participant.proofs.SweepStepByStep.{On, LeftOfOwners, told_twice, on_then, own_now, other_now, owner_refused, all_delivered}
 use Rattle.inst_participant.proofs.participant.Participant.deliver_all.Goals as goal
 use Rattle.inst_participant.proofs.participant.Participant.deliver_all.Goals.{then-owner-own+in_ok-deliver_from, else-owner-own}
 

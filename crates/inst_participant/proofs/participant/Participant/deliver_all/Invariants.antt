@@ -1,4 +1,4 @@
-use Rattle.inst_participant.proofs.Sweeping.{On, LeftOfOwners}
+use Rattle.inst_participant.proofs.SweepStepByStep.{On, LeftOfOwners}
 use Rattle.inst_participant.proofs.participant.Participant.deliver_all.Given as goal
 
 abbrev pub invariant-loop-owner : goal.invariant-loop-owner

@@ -5,7 +5,7 @@ use Rattle.std.specs.declared.alloc.AllocError.{AllocError}
 use Rattle.inst_settings.specs.Settings.{HubSettings}
 use Rattle.inst_slot.specs.Book.{place_at}
 use Rattle.inst_participant.specs.Sweeping.{LooksAt, DeliversFrom}
-use Rattle.inst_participant.proofs.Sweeping.{told_twice, on_then, unused_now, used_now, refused_now, all_looked_at}
+use Rattle.inst_participant.proofs.SweepStepByStep.{told_twice, on_then, unused_now, used_now, refused_now, all_looked_at}
 use Rattle.inst_participant.proofs.participant.Participant.deliver_from.Goals as goal
 
 pub returns-in_err-look_at-clause-told : goal.returns-in_err-look_at-clause-told

@@ -1,4 +1,4 @@
-use Rattle.inst_participant.proofs.Sweeping.{On, LeftOfPlaces}
+use Rattle.inst_participant.proofs.SweepStepByStep.{On, LeftOfPlaces}
 use Rattle.inst_participant.proofs.participant.Participant.deliver_from.Given as goal
 
 abbrev pub invariant-loop-index : goal.invariant-loop-index

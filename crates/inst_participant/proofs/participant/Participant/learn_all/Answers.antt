@@ -3,11 +3,11 @@ use Rattle.std.proofs.Common.{true, false, is_ok, Bool, sym, subst, arith}
 use Rattle.std.proofs.lemmas.Grind.{elements}
 use Rattle.std.specs.Prelude.{Result}
 use Rattle.std.specs.declared.alloc.AllocError.{AllocError}
-use Rattle.inst_participant.specs.declared.follow_up.Errand.TheVariants.{Learn}
+use Rattle.inst_participant.specs.declared.follow_up.FollowUpKind.TheVariants.{Learn}
 use Rattle.inst_participant.specs.Following.{Does}
 use Rattle.inst_participant.specs.Sweeping.{LearnsAll}
 use Rattle.inst_participant.specs.Sweeping.LearnsAll.{none_left, refused}
-use Rattle.inst_participant.proofs.Sweeping.{on_then, told_some, learnt_now}
+use Rattle.inst_participant.proofs.SweepStepByStep.{on_then, told_some, learnt_now}
 use Rattle.inst_participant.proofs.participant.Participant.learn_all.Goals as goal
 
 pub loop-position-preserved : goal.loop-position-preserved

@@ -1,5 +1,5 @@
 use Rattle.std.proofs.Common.{◌-◌, length}
-use Rattle.inst_participant.proofs.Sweeping.{On, LeftToLearn}
+use Rattle.inst_participant.proofs.SweepStepByStep.{On, LeftToLearn}
 use Rattle.inst_participant.proofs.participant.Participant.learn_all.Given as goal
 
 abbrev pub invariant-loop-position : goal.invariant-loop-position

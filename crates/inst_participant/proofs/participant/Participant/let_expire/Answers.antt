@@ -4,7 +4,7 @@ use Rattle.std.specs.Prelude.{Result}
 use Rattle.std.specs.declared.alloc.AllocError.{AllocError}
 use Rattle.inst_participant.specs.Sweeping.{LetsExpire}
 use Rattle.inst_participant.specs.Sweeping.LetsExpire.{none_left}
-use Rattle.inst_participant.proofs.Sweeping.{on_then, told_some, expired_now, expiry_refused_now}
+use Rattle.inst_participant.proofs.SweepStepByStep.{on_then, told_some, expired_now, expiry_refused_now}
 use Rattle.inst_participant.proofs.participant.Participant.let_expire.Goals as goal
 
 pub loop-deadline-preserved : goal.loop-deadline-preserved

@@ -1,4 +1,4 @@
-use Rattle.inst_participant.proofs.Sweeping.{On, InRange, pairs_left, LeftToExpire}
+use Rattle.inst_participant.proofs.SweepStepByStep.{On, InRange, pairs_left, LeftToExpire}
 use Rattle.inst_participant.proofs.participant.Participant.let_expire.Given as goal
 
 abbrev pub invariant-loop-deadline : goal.invariant-loop-deadline

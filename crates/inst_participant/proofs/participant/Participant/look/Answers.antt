@@ -1,6 +1,6 @@
 use Rattle.std.proofs.Common.{refl}
 use Rattle.inst_cell.specs.Held.{settings_of, knows, has_role, stood, roles_same}
-use Rattle.inst_slot.proofs.Looking.{looked_on}
+use Rattle.inst_slot.proofs.EffectOfLookAndDecision.{looked_on}
 use Rattle.inst_participant.proofs.participant.Participant.look.Goals as goal
 
 pub returns-clause-ready : goal.returns-clause-ready

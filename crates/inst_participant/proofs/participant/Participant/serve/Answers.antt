@@ -4,7 +4,7 @@ use Rattle.inst_cell.specs.Seen.{sees}
 use Rattle.inst_slot.specs.Asking.{Applies}
 use Rattle.inst_slot.specs.Book.{Book}
 use Rattle.inst_participant.specs.Answers.{IsTicket}
-use Rattle.inst_participant.proofs.Serving.{its_ticket}
+use Rattle.inst_participant.proofs.HistoryAfterServedAsk.{its_ticket}
 use Rattle.inst_participant.proofs.participant.Participant.serve.Goals as goal
 
 pub returns-clause-ticket : goal.returns-clause-ticket

@@ -5,10 +5,10 @@ use Rattle.std.specs.Prelude.{Result, None}
 use Rattle.std.specs.declared.alloc.AllocError.{AllocError}
 use Rattle.inst_settings.specs.Settings.{HubSettings, participants}
 use Rattle.inst_participant.specs.Sweeping.{LetsExpire, LearnsAll, DeliversAll, Sweeps}
-use Rattle.inst_participant.specs.Sweeping.Sweeps.{swept, lesson_refused, expiry_refused}
-use Rattle.inst_participant.proofs.Later.{later_twice}
-use Rattle.inst_participant.proofs.Due.{due_after}
-use Rattle.inst_participant.proofs.Sweeping.{told_twice}
+use Rattle.inst_participant.specs.Sweeping.Sweeps.{swept, resolution_refused, expiry_refused}
+use Rattle.inst_participant.proofs.LaterParticipant.{later_twice}
+use Rattle.inst_participant.proofs.NothingDueAfterSweep.{due_after}
+use Rattle.inst_participant.proofs.SweepStepByStep.{told_twice}
 use Rattle.inst_participant.proofs.participant.Participant.sweep.Goals as goal
 
 pub returns-in_err-learn_all-clause-told : goal.returns-in_err-learn_all-clause-told
@@ -29,7 +29,7 @@ returns-in_err-let_expire-clause-sweeps c =
 pub returns-in_err-learn_all-clause-sweeps : goal.returns-in_err-learn_all-clause-sweeps
 returns-in_err-learn_all-clause-sweeps c =
     subst (λ (r : Result ℕ AllocError). Sweeps c.args.at (is_ok r) c.args.self.now c.learn_all.new.self) (sym (err_from_is_err_and c.from_residual-in_err-learn_all.result c.from_residual-in_err-learn_all.ensures.1).1)
-    (lesson_refused c.args.self.now c.let_expire.new.self c.learn_all.new.self c.in_ok-let_expire.ensures.expires
+    (resolution_refused c.args.self.now c.let_expire.new.self c.learn_all.new.self c.in_ok-let_expire.ensures.expires
     (subst (λ (r : Result (Unit {0}) AllocError). LearnsAll 0 (is_ok r) c.let_expire.new.self c.learn_all.new.self) c.in_err-learn_all.was c.learn_all.ensures.learns))
 
 pub returns-in_err-deliver_all-clause-sweeps : goal.returns-in_err-deliver_all-clause-sweeps

@@ -1,7 +1,7 @@
 use Rattle.std.proofs.Common.{sym, ◌∙◌}
 use Rattle.inst_cell.specs.Held.{settings_of, knows, has_role, roles_same}
-use Rattle.inst_slot.proofs.Telling.{told_known}
-use Rattle.inst_participant.proofs.Sameness.{still_lawful}
+use Rattle.inst_slot.proofs.ToldPlaceIsKnown.{told_known}
+use Rattle.inst_participant.proofs.SameKnowledgeKeepsLaw.{still_lawful}
 use Rattle.inst_participant.proofs.participant.Participant.tell.Goals as goal
 
 pub tell-requires-clause-opened : goal.tell-requires-clause-opened

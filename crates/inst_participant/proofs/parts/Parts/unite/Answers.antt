@@ -3,7 +3,7 @@ use Rattle.inst_slot.specs.Book.{Book}
 use Rattle.inst_cell.specs.Held.{settings_of, knows, has_role}
 use Rattle.inst_participant.specs.Parts.{AreParts}
 use Rattle.inst_participant.specs.Uniting.{AreSeparate, AreAtOne}
-use Rattle.inst_participant.proofs.Joining.{parts_made}
+use Rattle.inst_participant.proofs.BooksLawfulOverJoinedBoard.{parts_made}
 use Rattle.inst_participant.proofs.parts.Parts.unite.Goals as goal
 
 pub join_all-requires : goal.join_all-requires

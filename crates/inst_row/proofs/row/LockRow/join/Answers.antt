@@ -3,7 +3,7 @@ use Rattle.std.specs.Prelude.{Option}
 use Rattle.atomic_table.specs.Table.{Me}
 use Rattle.inst_row.specs.declared.view.View.{View}
 use Rattle.inst_row.proofs.Locks.{unites}
-use Rattle.inst_row.proofs.Seeing.{sees_both}
+use Rattle.inst_row.proofs.HistoriesSeenBySeats.{sees_both}
 use Rattle.inst_row.proofs.row.LockRow.join.Goals as goal
 
 pub join_seat-requires : goal.join_seat-requires

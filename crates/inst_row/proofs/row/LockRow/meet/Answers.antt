@@ -1,4 +1,4 @@
-use Rattle.inst_row.proofs.Seeing.{meet_first, meet_second, meet_after}
+use Rattle.inst_row.proofs.HistoriesSeenBySeats.{meet_first, meet_second, meet_after}
 use Rattle.inst_row.proofs.row.LockRow.meet.Goals as goal
 
 pub returns-clause-sees : goal.returns-clause-sees

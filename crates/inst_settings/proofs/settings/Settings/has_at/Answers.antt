@@ -2,7 +2,7 @@ use Rattle.std.proofs.Common.{◌<◌, [], Some, sym, ap, ◌∙◌, arith, leng
 use Rattle.std.proofs.lemmas.Slice.Eq.{bytes_eq-Decides}
 use Rattle.std.proofs.lemmas.List.{get_or_read}
 use Rattle.inst_settings.specs.Codes.{index_of}
-use Rattle.inst_settings.proofs.Known.{number_known}
+use Rattle.inst_settings.proofs.CodesKnownByHolders.{number_known}
 use Rattle.inst_settings.proofs.settings.Settings.has_at.Goals as goal
 
 pub returns-then-number-len-clause-here : goal.returns-then-number-len-clause-here

@@ -1,6 +1,6 @@
 use Rattle.std.proofs.Common.{sym, ap, ◌∙◌}
 use Rattle.inst_settings.specs.Codes.{index_of}
-use Rattle.inst_settings.proofs.Known.{nobody_known, only_known}
+use Rattle.inst_settings.proofs.CodesKnownByHolders.{nobody_known, only_known}
 use Rattle.inst_settings.proofs.settings.Settings.index_of.Goals as goal
 
 pub returns-in-Nobody : goal.returns-in-Nobody

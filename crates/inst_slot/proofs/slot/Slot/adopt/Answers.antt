@@ -1,9 +1,9 @@
 use Rattle.std.proofs.Common.{refl, sym, subst}
 use Rattle.inst_slot.specs.Book.{Book}
 use Rattle.inst_slot.specs.LawfulBoard.{IsLawfulBoard, AllAreAdopted}
-use Rattle.inst_slot.proofs.Looking.{looked_on, saw_pending}
-use Rattle.inst_slot.proofs.Found.{found_keeps, found_adopted}
-use Rattle.inst_slot.proofs.Others.{others_look}
+use Rattle.inst_slot.proofs.EffectOfLookAndDecision.{looked_on, saw_pending}
+use Rattle.inst_slot.proofs.ArrivalGetsItsPlace.{found_keeps, found_adopted}
+use Rattle.inst_slot.proofs.BooksOfOthersStay.{others_look}
 use Rattle.inst_slot.proofs.slot.Slot.adopt.Goals as goal
 
 pub returns-clause-lawful : goal.returns-clause-lawful

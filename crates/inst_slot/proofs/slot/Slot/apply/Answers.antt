@@ -6,17 +6,17 @@ use Rattle.inst_board.specs.Learning.{KnowTheSame}
 use Rattle.inst_settings.specs.Settings.{is_participant}
 use Rattle.inst_command.specs.Ask.{command_fits}
 use Rattle.inst_journal.specs.Sound.{IsSound}
-use Rattle.inst_slot.specs.inner.Answering.{over}
-use Rattle.inst_board.specs.declared.place.Place.{Place}
+use Rattle.inst_slot.specs.inner.Answering.{book_with_spots}
+use Rattle.inst_command.specs.declared.place.Place.{Place}
 use Rattle.inst_board.specs.declared.wish.Wish.{Wish}
 use Rattle.inst_slot.specs.declared.arrivals.Spot.{Spot}
 use Rattle.inst_slot.specs.Asking.{request, Settles, AppliesTo}
 use Rattle.inst_slot.specs.Book.{Book}
-use Rattle.inst_slot.proofs.Deciding.{asks_where_it_decides}
-use Rattle.inst_slot.proofs.Settling.{settles_keep}
-use Rattle.inst_slot.proofs.Entering.{enters_keep}
-use Rattle.inst_slot.proofs.Refusing.{on_error, settles_left, settles_unknown}
-use Rattle.inst_slot.proofs.Others.{others_settle, others_enter}
+use Rattle.inst_slot.proofs.SlotMayDecideWhatIsAsked.{asks_where_it_decides}
+use Rattle.inst_slot.proofs.DecisionKeepsLawfulBoard.{settles_keep}
+use Rattle.inst_slot.proofs.CommandsThatDecideNothing.{enters_keep}
+use Rattle.inst_slot.proofs.RefusalsChangeNothing.{on_error, settles_left, settles_unknown}
+use Rattle.inst_slot.proofs.BooksOfOthersStay.{others_settle, others_enter}
 use Rattle.inst_slot.proofs.slot.Slot.apply.Goals as goal
 
 pub returns-in-Some-clause-decides : goal.returns-in-Some-clause-decides
@@ -34,10 +34,10 @@ returns-in-Some-clause-lawful g c =
     let b = g.B.Board in
     let book : Book = c.args.self.now in
     let r = c.in-Some.request in
-    let new = over c.settle.new.ledger.book c.self.inside.arrivals.items in
+    let new = book_with_spots c.settle.new.ledger.book c.self.inside.arrivals.items in
     let old = c.self.inside.ledger.book in
-    let is = ap (λ (x : Book). request x c.args.ask.now.command) (sym c.self.view_is) ∙ ap (λ (S : List Spot). request (over old S) c.args.ask.now.command) (sym c.as_slice-spots.ensures.value) ∙ c.in-Some.ensures.is in
-    let seen = subst (λ (S : List Spot). Settles (b.settings c.args.board.now).margin b.knows b.has_role b.stood b.stays c.args.board.now (over old S) c.args.ask.now r.place r.wish c.settle.result c.settle.new.board (over c.settle.new.ledger.book S)) c.as_slice-spots.ensures.value c.settle.ensures.settles in
+    let is = ap (λ (x : Book). request x c.args.ask.now.command) (sym c.self.view_is) ∙ ap (λ (S : List Spot). request (book_with_spots old S) c.args.ask.now.command) (sym c.as_slice-spots.ensures.value) ∙ c.in-Some.ensures.is in
+    let seen = subst (λ (S : List Spot). Settles (b.settings c.args.board.now).margin b.knows b.has_role b.stood b.stays c.args.board.now (book_with_spots old S) c.args.ask.now r.place r.wish c.settle.result c.settle.new.board (book_with_spots c.settle.new.ledger.book S)) c.as_slice-spots.ensures.value c.settle.ensures.settles in
     let settles = subst (λ (x : Book). Settles (b.settings c.args.board.now).margin b.knows b.has_role b.stood b.stays c.args.board.now x c.args.ask.now r.place r.wish c.settle.result c.settle.new.board new) c.self.view_is seen in
     settles_keep b.settings b.knows b.has_role (b.settings c.args.board.now).margin b.stood b.stays (λ x y. g.met.B.Board.stays_settings x y) (λ x y p. g.met.B.Board.stays_roles x y p)
     c.args.board.now c.settle.new.board c.settle.ensures.stays book c.requires.lawful refl c.args.ask.now (r.place, r.wish) c.settle.result new
@@ -56,10 +56,10 @@ returns-in-Some-clause-refused g c =
     let b = g.B.Board in
     let book : Book = c.args.self.now in
     let r = c.in-Some.request in
-    let new = over c.settle.new.ledger.book c.self.inside.arrivals.items in
+    let new = book_with_spots c.settle.new.ledger.book c.self.inside.arrivals.items in
     let old = c.self.inside.ledger.book in
-    let is = ap (λ (x : Book). request x c.args.ask.now.command) (sym c.self.view_is) ∙ ap (λ (S : List Spot). request (over old S) c.args.ask.now.command) (sym c.as_slice-spots.ensures.value) ∙ c.in-Some.ensures.is in
-    let seen = subst (λ (S : List Spot). Settles (b.settings c.args.board.now).margin b.knows b.has_role b.stood b.stays c.args.board.now (over old S) c.args.ask.now r.place r.wish c.settle.result c.settle.new.board (over c.settle.new.ledger.book S)) c.as_slice-spots.ensures.value c.settle.ensures.settles in
+    let is = ap (λ (x : Book). request x c.args.ask.now.command) (sym c.self.view_is) ∙ ap (λ (S : List Spot). request (book_with_spots old S) c.args.ask.now.command) (sym c.as_slice-spots.ensures.value) ∙ c.in-Some.ensures.is in
+    let seen = subst (λ (S : List Spot). Settles (b.settings c.args.board.now).margin b.knows b.has_role b.stood b.stays c.args.board.now (book_with_spots old S) c.args.ask.now r.place r.wish c.settle.result c.settle.new.board (book_with_spots c.settle.new.ledger.book S)) c.as_slice-spots.ensures.value c.settle.ensures.settles in
     let settles = subst (λ (x : Book). Settles (b.settings c.args.board.now).margin b.knows b.has_role b.stood b.stays c.args.board.now x c.args.ask.now r.place r.wish c.settle.result c.settle.new.board new) c.self.view_is seen in
     on_error (λ (fault : Fault). fault ≢ Memory → KnowTheSame b.knows c.args.board.now c.settle.new.board) c.settle.result
     (λ fault is_err other. settles_unknown b.settings b.knows b.has_role (b.settings c.args.board.now).margin c.args.board.now c.settle.new.board book b.stood b.stays c.requires.lawful c.args.ask.now (r.place, r.wish)
@@ -70,10 +70,10 @@ returns-in-Some-clause-others g c =
     let b = g.B.Board in
     let book : Book = c.args.self.now in
     let r = c.in-Some.request in
-    let new = over c.settle.new.ledger.book c.self.inside.arrivals.items in
+    let new = book_with_spots c.settle.new.ledger.book c.self.inside.arrivals.items in
     let old = c.self.inside.ledger.book in
-    let is = ap (λ (x : Book). request x c.args.ask.now.command) (sym c.self.view_is) ∙ ap (λ (S : List Spot). request (over old S) c.args.ask.now.command) (sym c.as_slice-spots.ensures.value) ∙ c.in-Some.ensures.is in
-    let seen = subst (λ (S : List Spot). Settles (b.settings c.args.board.now).margin b.knows b.has_role b.stood b.stays c.args.board.now (over old S) c.args.ask.now r.place r.wish c.settle.result c.settle.new.board (over c.settle.new.ledger.book S)) c.as_slice-spots.ensures.value c.settle.ensures.settles in
+    let is = ap (λ (x : Book). request x c.args.ask.now.command) (sym c.self.view_is) ∙ ap (λ (S : List Spot). request (book_with_spots old S) c.args.ask.now.command) (sym c.as_slice-spots.ensures.value) ∙ c.in-Some.ensures.is in
+    let seen = subst (λ (S : List Spot). Settles (b.settings c.args.board.now).margin b.knows b.has_role b.stood b.stays c.args.board.now (book_with_spots old S) c.args.ask.now r.place r.wish c.settle.result c.settle.new.board (book_with_spots c.settle.new.ledger.book S)) c.as_slice-spots.ensures.value c.settle.ensures.settles in
     let settles = subst (λ (x : Book). Settles (b.settings c.args.board.now).margin b.knows b.has_role b.stood b.stays c.args.board.now x c.args.ask.now r.place r.wish c.settle.result c.settle.new.board new) c.self.view_is seen in
     others_settle b.settings b.knows b.has_role (b.settings c.args.board.now).margin b.stood b.stays (λ x y. g.met.B.Board.stays_settings x y) (λ x y p. g.met.B.Board.stays_roles x y p) (λ x k t o. g.met.B.Board.stood_seldom x k t o)
     c.args.board.now c.settle.new.board c.settle.ensures.stays refl book c.args.ask.now (r.place, r.wish) c.settle.result new c.requires.lawful
@@ -91,10 +91,10 @@ returns-in-Some-clause-err g c =
     let b = g.B.Board in
     let book : Book = c.args.self.now in
     let r = c.in-Some.request in
-    let new = over c.settle.new.ledger.book c.self.inside.arrivals.items in
+    let new = book_with_spots c.settle.new.ledger.book c.self.inside.arrivals.items in
     let old = c.self.inside.ledger.book in
-    let is = ap (λ (x : Book). request x c.args.ask.now.command) (sym c.self.view_is) ∙ ap (λ (S : List Spot). request (over old S) c.args.ask.now.command) (sym c.as_slice-spots.ensures.value) ∙ c.in-Some.ensures.is in
-    let seen = subst (λ (S : List Spot). Settles (b.settings c.args.board.now).margin b.knows b.has_role b.stood b.stays c.args.board.now (over old S) c.args.ask.now r.place r.wish c.settle.result c.settle.new.board (over c.settle.new.ledger.book S)) c.as_slice-spots.ensures.value c.settle.ensures.settles in
+    let is = ap (λ (x : Book). request x c.args.ask.now.command) (sym c.self.view_is) ∙ ap (λ (S : List Spot). request (book_with_spots old S) c.args.ask.now.command) (sym c.as_slice-spots.ensures.value) ∙ c.in-Some.ensures.is in
+    let seen = subst (λ (S : List Spot). Settles (b.settings c.args.board.now).margin b.knows b.has_role b.stood b.stays c.args.board.now (book_with_spots old S) c.args.ask.now r.place r.wish c.settle.result c.settle.new.board (book_with_spots c.settle.new.ledger.book S)) c.as_slice-spots.ensures.value c.settle.ensures.settles in
     let settles = subst (λ (x : Book). Settles (b.settings c.args.board.now).margin b.knows b.has_role b.stood b.stays c.args.board.now x c.args.ask.now r.place r.wish c.settle.result c.settle.new.board new) c.self.view_is seen in
     settles_left b.settings b.knows b.has_role (b.settings c.args.board.now).margin c.args.board.now c.settle.new.board book b.stood b.stays c.requires.lawful c.args.ask.now (r.place, r.wish) c.settle.result new settles
 
@@ -103,19 +103,19 @@ returns-in-Some-clause-applies g c =
     let b = g.B.Board in
     let book : Book = c.args.self.now in
     let r = c.in-Some.request in
-    let new = over c.settle.new.ledger.book c.self.inside.arrivals.items in
+    let new = book_with_spots c.settle.new.ledger.book c.self.inside.arrivals.items in
     let old = c.self.inside.ledger.book in
-    let is = ap (λ (x : Book). request x c.args.ask.now.command) (sym c.self.view_is) ∙ ap (λ (S : List Spot). request (over old S) c.args.ask.now.command) (sym c.as_slice-spots.ensures.value) ∙ c.in-Some.ensures.is in
-    let seen = subst (λ (S : List Spot). Settles (b.settings c.args.board.now).margin b.knows b.has_role b.stood b.stays c.args.board.now (over old S) c.args.ask.now r.place r.wish c.settle.result c.settle.new.board (over c.settle.new.ledger.book S)) c.as_slice-spots.ensures.value c.settle.ensures.settles in
+    let is = ap (λ (x : Book). request x c.args.ask.now.command) (sym c.self.view_is) ∙ ap (λ (S : List Spot). request (book_with_spots old S) c.args.ask.now.command) (sym c.as_slice-spots.ensures.value) ∙ c.in-Some.ensures.is in
+    let seen = subst (λ (S : List Spot). Settles (b.settings c.args.board.now).margin b.knows b.has_role b.stood b.stays c.args.board.now (book_with_spots old S) c.args.ask.now r.place r.wish c.settle.result c.settle.new.board (book_with_spots c.settle.new.ledger.book S)) c.as_slice-spots.ensures.value c.settle.ensures.settles in
     let settles = subst (λ (x : Book). Settles (b.settings c.args.board.now).margin b.knows b.has_role b.stood b.stays c.args.board.now x c.args.ask.now r.place r.wish c.settle.result c.settle.new.board new) c.self.view_is seen in
     subst (λ (o : Option (Place × Wish)). AppliesTo (b.settings c.args.board.now).margin b.knows b.has_role b.stood b.stays c.args.board.now book c.args.ask.now o c.settle.result c.settle.new.board new) (sym is) settles
 
 pub enter-requires-clause-request : goal.enter-requires-clause-request
-enter-requires-clause-request g c = ap (λ (x : Book). request x c.args.ask.now.command) (sym c.self.view_is) ∙ ap (λ (S : List Spot). request (over c.self.inside.ledger.book S) c.args.ask.now.command) (sym c.as_slice-spots.ensures.value) ∙ c.in-None.ensures
+enter-requires-clause-request g c = ap (λ (x : Book). request x c.args.ask.now.command) (sym c.self.view_is) ∙ ap (λ (S : List Spot). request (book_with_spots c.self.inside.ledger.book S) c.args.ask.now.command) (sym c.as_slice-spots.ensures.value) ∙ c.in-None.ensures
 
 pub returns-in-None-clause-applies : goal.returns-in-None-clause-applies
 returns-in-None-clause-applies g c =
     let b = g.B.Board in
     let book : Book = c.args.self.now in
-    let none = ap (λ (x : Book). request x c.args.ask.now.command) (sym c.self.view_is) ∙ ap (λ (S : List Spot). request (over c.self.inside.ledger.book S) c.args.ask.now.command) (sym c.as_slice-spots.ensures.value) ∙ c.in-None.ensures in
+    let none = ap (λ (x : Book). request x c.args.ask.now.command) (sym c.self.view_is) ∙ ap (λ (S : List Spot). request (book_with_spots c.self.inside.ledger.book S) c.args.ask.now.command) (sym c.as_slice-spots.ensures.value) ∙ c.in-None.ensures in
     subst (λ (o : Option (Place × Wish)). AppliesTo (b.settings c.args.board.now).margin b.knows b.has_role b.stood b.stays c.args.board.now book c.args.ask.now o c.enter.result c.enter.new.board c.enter.new.self) (sym none) c.enter.ensures.enters

@@ -1,6 +1,6 @@
 use Rattle.std.proofs.Common.{◌≡◌, sym, subst}
 use Rattle.inst_journal.specs.Opened.{carried}
-use Rattle.inst_journal.proofs.Carrying.{carried_opened}
+use Rattle.inst_journal.proofs.EventsCarriedOverOpening.{carried_opened}
 use Rattle.inst_ledger.specs.Book.{Book}
 use Rattle.inst_slot.proofs.slot.Slot.carry.Goals as goal
 

@@ -2,9 +2,9 @@ use Rattle.std.proofs.Common.{refl, ◌∙◌, sym, subst, arith}
 use Rattle.std.proofs.lemmas.Grind.{common_steps}
 use Rattle.inst_slot.specs.Book.{Book}
 use Rattle.inst_slot.specs.LawfulBoard.{IsLawfulBoard}
-use Rattle.inst_slot.proofs.Looking.{looked_on}
-use Rattle.inst_slot.proofs.Delivering.{delivery_keeps, delivery_fits}
-use Rattle.inst_slot.proofs.Others.{others_look}
+use Rattle.inst_slot.proofs.EffectOfLookAndDecision.{looked_on}
+use Rattle.inst_slot.proofs.DeliveryFitsBooks.{delivery_keeps, delivery_fits}
+use Rattle.inst_slot.proofs.BooksOfOthersStay.{others_look}
 use Rattle.inst_slot.proofs.slot.Slot.deliver.Goals as goal
 
 pub returns-in-None-clause-lawful : goal.returns-in-None-clause-lawful

@@ -2,8 +2,8 @@ use Rattle.std.proofs.Common.{◌∙◌, ◌++◌, append-nil, List, Option, sym
 use Rattle.inst_journal.specs.declared.event.Event.{Event}
 use Rattle.inst_journal.specs.Reply.{kept_event}
 use Rattle.inst_slot.specs.Book.{Book}
-use Rattle.inst_slot.proofs.Entering.{handled_as, kept_apart, alone_as}
-use Rattle.inst_slot.proofs.Keeping.{with_events}
+use Rattle.inst_slot.proofs.CommandsThatDecideNothing.{handled_as, kept_apart, alone_as}
+use Rattle.inst_slot.proofs.BoardStaysLawful.{with_events}
 use Rattle.inst_slot.proofs.slot.Slot.enter_alone.Goals.{in-Some+in_ok-keep, in_default}
 use Rattle.inst_slot.proofs.slot.Slot.enter_alone.Goals as goal
 

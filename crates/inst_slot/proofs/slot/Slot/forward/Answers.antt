@@ -5,12 +5,12 @@ use Rattle.inst_journal.specs.declared.event.Event.TheVariants.{Forwarded}
 use Rattle.inst_journal.specs.Sound.{Fits}
 use Rattle.inst_transfers.specs.Held.{row_in}
 use Rattle.inst_slot.specs.declared.arrivals.Spot.{Spot}
-use Rattle.inst_slot.specs.inner.Answering.{over}
+use Rattle.inst_slot.specs.inner.Answering.{book_with_spots}
 use Rattle.inst_slot.specs.Book.{Book}
 use Rattle.inst_ledger.specs.Right.{own_ids}
 use Rattle.inst_slot.specs.Spots.{rows_of, AreSpots}
 use Rattle.inst_slot.specs.Telling.{with_delivery}
-use Rattle.inst_slot.proofs.Dues.{books_nothing}
+use Rattle.inst_slot.proofs.OwnTransfersThatWait.{books_nothing}
 use Rattle.inst_slot.proofs.OwnIds.{keeps_over}
 use Rattle.inst_slot.proofs.Spots.{spots_forwarded, over_forwarded}
 use Rattle.inst_slot.proofs.slot.Slot.forward.Goals as goal
@@ -37,7 +37,7 @@ returns-clause-ok c =
     let s : Spot = record { position = c.transfers-position.result; index = Some c.args.place.index } in
     let at = c.transfers-position.ensures.count ∙ sym (length-map c.self.inside.ledger.table.entries row_in) ∙ ap length c.transfers-position.ensures.right.rows in
     let items = c.push_reserved.ensures.items ∙ ap (λ (l : List Spot). l ++ s ∷ []) c.in_ok-try_reserve.ensures.items in
-    ap (over c.keep.new.self.book) items ∙ over_forwarded old c.keep.new.self.book entry c.self.inside.arrivals.items s c.in_ok-keep.ensures.ok at c.self.invariant.1
+    ap (book_with_spots c.keep.new.self.book) items ∙ over_forwarded old c.keep.new.self.book entry c.self.inside.arrivals.items s c.in_ok-keep.ensures.ok at c.self.invariant.1
     ∙ ap (λ (x : Book). with_delivery x c.args.place (Some entry)) c.self.view_is
 
 pub invariant_of-self : goal.invariant_of-self

@@ -2,7 +2,7 @@ use Rattle.std.proofs.Common.{◌∙◌, ◌++◌, ◌∷◌, [], sym, refl, ap,
 use Rattle.inst_journal.specs.Sound.{Fits}
 use Rattle.inst_ledger.specs.Right.{own_ids}
 use Rattle.inst_slot.specs.Book.{Book}
-use Rattle.inst_slot.proofs.Dues.{books_nothing}
+use Rattle.inst_slot.proofs.OwnTransfersThatWait.{books_nothing}
 use Rattle.inst_slot.proofs.OwnIds.{apart_moves_none, apart_books_none, keeps_over}
 use Rattle.inst_slot.proofs.Spots.{spots_over, over_after}
 use Rattle.inst_slot.proofs.slot.Slot.keep.Goals as goal

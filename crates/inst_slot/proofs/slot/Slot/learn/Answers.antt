@@ -1,30 +1,30 @@
 use Rattle.std.proofs.Common.{refl, subst, List}
 use Rattle.inst_slot.specs.declared.arrivals.Spot.{Spot}
-use Rattle.inst_slot.specs.inner.Answering.{over}
+use Rattle.inst_slot.specs.inner.Answering.{book_with_spots}
 use Rattle.inst_slot.specs.Book.{Book}
-use Rattle.inst_slot.specs.inner.Lessons.{LearnsOutcome}
-use Rattle.inst_slot.specs.Telling.{lesson}
-use Rattle.inst_slot.proofs.Glancing.{learns_keep, keeps_adopted, keeps_same}
-use Rattle.inst_slot.proofs.Others.{others_look}
+use Rattle.inst_slot.specs.inner.Resolutions.{LearnsOutcome}
+use Rattle.inst_slot.specs.Telling.{resolution}
+use Rattle.inst_slot.proofs.ResolutionsOfGlances.{learns_keep, keeps_adopted, keeps_same}
+use Rattle.inst_slot.proofs.BooksOfOthersStay.{others_look}
 use Rattle.inst_slot.proofs.slot.Slot.learn.Goals as goal
 
 pub returns-in-Some-clause-learns : goal.returns-in-Some-clause-learns
 returns-in-Some-clause-learns g c =
     let b = g.B.Board in
-    let told = subst (λ (l : List Spot). LearnsOutcome (b.settings c.args.board.now).margin b.knows b.has_role b.stood c.args.board.now (over c.self.inside.ledger.book l) c.args.place c.learn_own.result c.learn_own.new.board (over c.learn_own.new.ledger.book l))
+    let told = subst (λ (l : List Spot). LearnsOutcome (b.settings c.args.board.now).margin b.knows b.has_role b.stood c.args.board.now (book_with_spots c.self.inside.ledger.book l) c.args.place c.learn_own.result c.learn_own.new.board (book_with_spots c.learn_own.new.ledger.book l))
     c.as_slice.ensures.value c.learn_own.ensures.learns in
-    subst (λ (x : Book). LearnsOutcome (b.settings c.args.board.now).margin b.knows b.has_role b.stood c.args.board.now x c.args.place c.learn_own.result c.learn_own.new.board (over c.learn_own.new.ledger.book c.self.inside.arrivals.items)) c.self.view_is told
+    subst (λ (x : Book). LearnsOutcome (b.settings c.args.board.now).margin b.knows b.has_role b.stood c.args.board.now x c.args.place c.learn_own.result c.learn_own.new.board (book_with_spots c.learn_own.new.ledger.book c.self.inside.arrivals.items)) c.self.view_is told
 
 pub returns-in-Some-clause-lawful : goal.returns-in-Some-clause-lawful
 returns-in-Some-clause-lawful g c =
     let b = g.B.Board in
     let book : Book = c.args.self.now in
-    let told = subst (λ (l : List Spot). LearnsOutcome (b.settings c.args.board.now).margin b.knows b.has_role b.stood c.args.board.now (over c.self.inside.ledger.book l) c.args.place c.learn_own.result c.learn_own.new.board (over c.learn_own.new.ledger.book l))
+    let told = subst (λ (l : List Spot). LearnsOutcome (b.settings c.args.board.now).margin b.knows b.has_role b.stood c.args.board.now (book_with_spots c.self.inside.ledger.book l) c.args.place c.learn_own.result c.learn_own.new.board (book_with_spots c.learn_own.new.ledger.book l))
     c.as_slice.ensures.value c.learn_own.ensures.learns in
-    let learns = subst (λ (x : Book). LearnsOutcome (b.settings c.args.board.now).margin b.knows b.has_role b.stood c.args.board.now x c.args.place c.learn_own.result c.learn_own.new.board (over c.learn_own.new.ledger.book c.self.inside.arrivals.items)) c.self.view_is told in
+    let learns = subst (λ (x : Book). LearnsOutcome (b.settings c.args.board.now).margin b.knows b.has_role b.stood c.args.board.now x c.args.place c.learn_own.result c.learn_own.new.board (book_with_spots c.learn_own.new.ledger.book c.self.inside.arrivals.items)) c.self.view_is told in
     learns_keep b.settings b.knows b.has_role (b.settings c.args.board.now).margin b.stood c.args.board.now c.learn_own.new.board c.args.place learns.0 learns.1 book c.requires.lawful
     (g.met.B.Board.stays_settings c.args.board.now c.learn_own.new.board c.learn_own.ensures.stays) refl (λ r. (g.met.B.Board.stays_roles c.args.board.now c.learn_own.new.board book.who c.learn_own.ensures.stays).0 r)
-    c.learn_own.result (over c.learn_own.new.ledger.book c.self.inside.arrivals.items) learns.2
+    c.learn_own.result (book_with_spots c.learn_own.new.ledger.book c.self.inside.arrivals.items) learns.2
 
 pub returns-in-Some-clause-others : goal.returns-in-Some-clause-others
 returns-in-Some-clause-others g c =
@@ -37,16 +37,16 @@ pub returns-in-Some-clause-same : goal.returns-in-Some-clause-same
 returns-in-Some-clause-same g c =
     let b = g.B.Board in
     let book : Book = c.args.self.now in
-    let told = subst (λ (l : List Spot). LearnsOutcome (b.settings c.args.board.now).margin b.knows b.has_role b.stood c.args.board.now (over c.self.inside.ledger.book l) c.args.place c.learn_own.result c.learn_own.new.board (over c.learn_own.new.ledger.book l))
+    let told = subst (λ (l : List Spot). LearnsOutcome (b.settings c.args.board.now).margin b.knows b.has_role b.stood c.args.board.now (book_with_spots c.self.inside.ledger.book l) c.args.place c.learn_own.result c.learn_own.new.board (book_with_spots c.learn_own.new.ledger.book l))
     c.as_slice.ensures.value c.learn_own.ensures.learns in
-    let learns = subst (λ (x : Book). LearnsOutcome (b.settings c.args.board.now).margin b.knows b.has_role b.stood c.args.board.now x c.args.place c.learn_own.result c.learn_own.new.board (over c.learn_own.new.ledger.book c.self.inside.arrivals.items)) c.self.view_is told in
-    keeps_same _ book (over c.learn_own.new.ledger.book c.self.inside.arrivals.items) (lesson book c.args.place learns.0) c.learn_own.result learns.2
+    let learns = subst (λ (x : Book). LearnsOutcome (b.settings c.args.board.now).margin b.knows b.has_role b.stood c.args.board.now x c.args.place c.learn_own.result c.learn_own.new.board (book_with_spots c.learn_own.new.ledger.book c.self.inside.arrivals.items)) c.self.view_is told in
+    keeps_same _ book (book_with_spots c.learn_own.new.ledger.book c.self.inside.arrivals.items) (resolution book c.args.place learns.0) c.learn_own.result learns.2
 
 pub returns-in-Some-clause-adopted : goal.returns-in-Some-clause-adopted
 returns-in-Some-clause-adopted g c = λ all.
     let b = g.B.Board in
     let book : Book = c.args.self.now in
-    let told = subst (λ (l : List Spot). LearnsOutcome (b.settings c.args.board.now).margin b.knows b.has_role b.stood c.args.board.now (over c.self.inside.ledger.book l) c.args.place c.learn_own.result c.learn_own.new.board (over c.learn_own.new.ledger.book l))
+    let told = subst (λ (l : List Spot). LearnsOutcome (b.settings c.args.board.now).margin b.knows b.has_role b.stood c.args.board.now (book_with_spots c.self.inside.ledger.book l) c.args.place c.learn_own.result c.learn_own.new.board (book_with_spots c.learn_own.new.ledger.book l))
     c.as_slice.ensures.value c.learn_own.ensures.learns in
-    let learns = subst (λ (x : Book). LearnsOutcome (b.settings c.args.board.now).margin b.knows b.has_role b.stood c.args.board.now x c.args.place c.learn_own.result c.learn_own.new.board (over c.learn_own.new.ledger.book c.self.inside.arrivals.items)) c.self.view_is told in
-    keeps_adopted _ book (over c.learn_own.new.ledger.book c.self.inside.arrivals.items) (lesson book c.args.place learns.0) c.learn_own.result learns.2 all
+    let learns = subst (λ (x : Book). LearnsOutcome (b.settings c.args.board.now).margin b.knows b.has_role b.stood c.args.board.now x c.args.place c.learn_own.result c.learn_own.new.board (book_with_spots c.learn_own.new.ledger.book c.self.inside.arrivals.items)) c.self.view_is told in
+    keeps_adopted _ book (book_with_spots c.learn_own.new.ledger.book c.self.inside.arrivals.items) (resolution book c.args.place learns.0) c.learn_own.result learns.2 all

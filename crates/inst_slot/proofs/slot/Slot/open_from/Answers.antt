@@ -1,14 +1,14 @@
 use Rattle.std.proofs.Common.{◌≡◌, ℕ, List, sym, ap, subst}
 use Rattle.inst_settings.specs.Settings.{HubSettings}
-use Rattle.inst_board.specs.declared.place.Place.{Place}
+use Rattle.inst_command.specs.declared.place.Place.{Place}
 use Rattle.inst_board.specs.Learning.{KnowsTruly}
 use Rattle.inst_journal.specs.declared.event.Event.{Event}
 use Rattle.inst_journal.specs.Opened.{carried, live_taken}
-use Rattle.inst_journal.proofs.Carrying.{carried_opened}
+use Rattle.inst_journal.proofs.EventsCarriedOverOpening.{carried_opened}
 use Rattle.inst_slot.specs.Book.{Book}
 use Rattle.inst_slot.specs.LawfulBoard.{IsLawfulBoard}
 use Rattle.inst_slot.specs.Opening.{OpensPlaces}
-use Rattle.inst_slot.proofs.Opening.{opened_sound, opened_lawful}
+use Rattle.inst_slot.proofs.SlotOpensAgain.{opened_sound, opened_lawful}
 use Rattle.inst_slot.proofs.slot.Slot.open_from.Goals as goal
 
 pub open_places-requires-clause-opened : goal.open_places-requires-clause-opened

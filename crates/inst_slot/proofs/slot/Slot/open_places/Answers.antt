@@ -11,8 +11,8 @@ use Rattle.inst_journal.specs.Opened.{live_taken, takes_live}
 use Rattle.inst_journal.specs.Sound.{Fits, IsSound}
 use Rattle.inst_slot.specs.Book.{Book}
 use Rattle.inst_slot.specs.Opening.{OpensPlaces}
-use Rattle.inst_ledger.proofs.Opening.{fits_at_place, one_more}
-use Rattle.inst_slot.proofs.Opening.{taken_of, taken_still, taken_next, takes_of, takes_none, next_within, next_place, next_unopened, opened_more, OpenedSoFar}
+use Rattle.inst_ledger.proofs.HistoryEventByEvent.{fits_at_place, one_more}
+use Rattle.inst_slot.proofs.SlotOpensAgain.{taken_of, taken_still, taken_next, takes_of, takes_none, next_within, next_place, next_unopened, opened_more, OpenedSoFar}
 use Rattle.inst_slot.proofs.slot.Slot.open_places.Goals as goal
 use Rattle.inst_slot.proofs.slot.Slot.open_places.Goals.{in-Taken+then-is_none, in-Taken+else-is_none, in_default}
 

@@ -1,5 +1,5 @@
 use Rattle.std.proofs.Common.{◌≡◌, length, take}
-use Rattle.inst_slot.proofs.Opening.{taken_of, OpenedSoFar}
+use Rattle.inst_slot.proofs.SlotOpensAgain.{taken_of, OpenedSoFar}
 use Rattle.inst_slot.proofs.slot.Slot.open_places.Given as goal
 
 abbrev pub invariant-loop-event : goal.invariant-loop-event

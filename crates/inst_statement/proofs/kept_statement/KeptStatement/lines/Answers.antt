@@ -3,7 +3,7 @@ use Rattle.std.specs.List.{slice_get, slice_range}
 use Rattle.std.proofs.lemmas.List.{take_more, get_or-drop}
 use Rattle.std.proofs.lemmas.Option.{slice_get_within, get_or_from_slice_get}
 use Rattle.inst_command.specs.declared.line.Line.{Line}
-use Rattle.inst_statement.specs.KeptStatement.{lines_of}
+use Rattle.inst_statement.specs.KeptStatement.{lines_of_statement}
 use Rattle.inst_statement.proofs.kept_statement.KeptStatement.lines.Goals as goal
 
 -- one line further
@@ -19,4 +19,4 @@ line_further all first index line order there =
 pub loop-index-preserved : goal.loop-index-preserved
 loop-index-preserved c =
     c.in_ok-push.ensures.items ∙ ap (λ lines. lines ++ c.line.result ∷ []) c.loop-index.invariant
-    ∙ line_further (lines_of c.args.events.now c.args.self.now) c.args.first c.loop-index.index c.line.result (omega (arith, c.loop-index.auto.index)) c.line.ensures
+    ∙ line_further (lines_of_statement c.args.events.now c.args.self.now) c.args.first c.loop-index.index c.line.result (omega (arith, c.loop-index.auto.index)) c.line.ensures

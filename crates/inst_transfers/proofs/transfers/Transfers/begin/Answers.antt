@@ -18,5 +18,5 @@ returns-clause-state c =
     let i = c.self.inside in
     let kept = filter_same _ (waits_at i.table.entries) _ (λ x b f call. (search rules, search rules)) _ _ c.retain.ensures.filtered in
     let own = ap (ids_at (keys_of i.table.entries)) kept ∙ live_on i.who i.table.entries c.len.ensures.unique i.own.items c.self.invariant.0 c.self.invariant.1 in
-    (λ j. record { found = found_at i.table.entries; rows = rows_in i.table.entries; own = own j; reserved = i.reserved; credits = i.credits; debits = i.debits; waiting = i.waiting })
+    (λ j. record { found = found_at i.table.entries; rows = rows_in i.table.entries; own = own j; reserved = i.reserved; credits = i.credits; debits = i.debits })
     ∙ ap (λ (h : Held). opened_in h.who (state_in h)) c.self.view_is

@@ -7,7 +7,7 @@ use Rattle.indexmap.proofs.CallerLemmas.{keys-with_value_at}
 use Rattle.inst_journal.specs.Sums.{if_accepted}
 use Rattle.inst_transfers.specs.declared.transfer.Side.TheVariants.{Own, Other}
 use Rattle.inst_transfers.specs.declared.transfer.Transfer.{Transfer}
-use Rattle.inst_transfers.specs.State.{Key, booked_in, settled, with_outcome}
+use Rattle.inst_transfers.specs.State.{Key, booked_in, table_after_outcome, with_outcome}
 use Rattle.inst_transfers.specs.Held.{ids_at, state_in, ArePositions, Held}
 use Rattle.inst_transfers.proofs.Rows.{found_put, changed, rows_kept}
 use Rattle.inst_transfers.proofs.transfers.Transfers.book.Goals as goal
@@ -45,9 +45,9 @@ returns-in-Own-clause-state c =
     let amount = c.from-cents.ensures ∙ c.get.ensures.value in
     let debits = ap (λ (n : ℕ). i.debits + n) (c.if_accepted.ensures.value ∙ ap (if_accepted (Some o)) amount) in
     let reserved = ap (λ (n : ℕ). i.reserved - n) amount in
-    (λ j. record { found = found j; rows = rows j; own = own j; reserved = reserved j; credits = i.credits; debits = debits j; waiting = i.waiting - 1 })
-    ∙ ap (λ (h : Held). settled (state_in h) key t o (Own c.in-Own.to c.in-Own.stamp)) c.self.view_is
-    ∙ ap (settled (state_in c.args.self.now) key t o) (sym c.in-Own.is)
+    (λ j. record { found = found j; rows = rows j; own = own j; reserved = reserved j; credits = i.credits; debits = debits j })
+    ∙ ap (λ (h : Held). table_after_outcome (state_in h) key t o (Own c.in-Own.to c.in-Own.stamp)) c.self.view_is
+    ∙ ap (table_after_outcome (state_in c.args.self.now) key t o) (sym c.in-Own.is)
     ∙ ap (booked_in (state_in c.args.self.now) key o) (sym c.requires.there.transfer)
 
 pub returns-in-Other-clause-state : goal.returns-in-Other-clause-state
@@ -65,9 +65,9 @@ returns-in-Other-clause-state c =
     let own = ap (λ (l : List Key). ids_at l i.own.items) (keys-with_value_at i.table f.position row) in
     let amount = c.from-cents.ensures ∙ c.get.ensures.value in
     let credits = ap (λ (n : ℕ). i.credits + n) (c.if_accepted-in-Other.ensures.value ∙ ap (if_accepted (Some o)) amount) in
-    (λ j. record { found = found j; rows = rows j; own = own j; reserved = i.reserved; credits = credits j; debits = i.debits; waiting = i.waiting })
-    ∙ ap (λ (h : Held). settled (state_in h) key t o (Other c.in-Other.deadline)) c.self.view_is
-    ∙ ap (settled (state_in c.args.self.now) key t o) (sym c.in-Other.is)
+    (λ j. record { found = found j; rows = rows j; own = own j; reserved = i.reserved; credits = credits j; debits = i.debits })
+    ∙ ap (λ (h : Held). table_after_outcome (state_in h) key t o (Other c.in-Other.deadline)) c.self.view_is
+    ∙ ap (table_after_outcome (state_in c.args.self.now) key t o) (sym c.in-Other.is)
     ∙ ap (booked_in (state_in c.args.self.now) key o) (sym c.requires.there.transfer)
 
 pub returns-in-Own-clause-keys : goal.returns-in-Own-clause-keys

@@ -25,5 +25,5 @@ returns-clause-state c =
     let found = found_put i.table.entries c.insert.new.self.entries key row (on_ok _ _ c.unwrap.ensures c.insert.ensures.updates).0 in
     let rows = rows_more i.table.entries c.insert.new.self.entries key row more in
     let own = own_before i.table.entries c.insert.new.self.entries key row i.own.items c.self.invariant.0 more in
-    (λ j. record { found = found j; rows = rows j; own = own j; reserved = i.reserved; credits = i.credits; debits = i.debits; waiting = i.waiting })
+    (λ j. record { found = found j; rows = rows j; own = own j; reserved = i.reserved; credits = i.credits; debits = i.debits })
     ∙ ap (λ (h : Held). forwarded_in (state_in h) c.args.from c.args.id c.args.cents c.args.deadline) c.self.view_is

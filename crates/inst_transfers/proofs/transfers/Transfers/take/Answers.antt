@@ -26,5 +26,5 @@ returns-clause-state c =
     let rows = rows_more i.table.entries c.insert.new.self.entries key row more in
     let own = own_more i.table.entries c.insert.new.self.entries key row i.own.items c.push_reserved.new.self.items c.len-position.result c.self.invariant.0 more c.len-position.ensures.len c.push_reserved.ensures.items in
     let reserved = ap (λ (n : ℕ). i.reserved + n) (c.from.ensures ∙ c.get.ensures.value) in
-    (λ j. record { found = found j; rows = rows j; own = own j; reserved = reserved j; credits = i.credits; debits = i.debits; waiting = i.waiting + 1 })
+    (λ j. record { found = found j; rows = rows j; own = own j; reserved = reserved j; credits = i.credits; debits = i.debits })
     ∙ ap (λ (h : Held). taken_in h.who (state_in h) c.args.id c.args.to c.args.cents c.args.stamp) c.self.view_is

@@ -1,9 +1,9 @@
 use Rattle.std.proofs.Common.{◌≡◌, sym, ◌∙◌, ap}
 use Rattle.inst_command.specs.Ask.{ask_fits}
 use Rattle.inst_world.specs.HasRun.{World}
-use Rattle.inst_slot.proofs.Adopting.{asks_adopted}
-use Rattle.inst_world.proofs.Worlds.{leads_to, acted}
-use Rattle.inst_world.proofs.Acting.{still_kept, asker, asked}
+use Rattle.inst_slot.proofs.ForwardedTransfersHavePlaces.{asks_adopted}
+use Rattle.inst_world.proofs.BooksAsOneSlotActs.{leads_to, acted}
+use Rattle.inst_world.proofs.StepIsRunOrRefused.{still_kept, asker, asked}
 use Rattle.inst_world.proofs.world.World.ask.Goals as goal
 
 pub apply-requires-clause-lawful : goal.apply-requires-clause-lawful

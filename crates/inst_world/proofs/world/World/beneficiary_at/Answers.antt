@@ -7,7 +7,7 @@ use Rattle.inst_model.specs.Opening.{Opening}
 use Rattle.inst_model.specs.Transfer.{Transfer, at_place}
 use Rattle.inst_model.specs.Hub.{history, outcome}
 use Rattle.inst_world.specs.HasRun.{World, HasRun}
-use Rattle.inst_world.proofs.Finding.{to_of, to_shown, found_participant, found_owner}
+use Rattle.inst_world.proofs.PlaceOfNamedTransfer.{to_of, to_shown, found_participant, found_owner}
 use Rattle.inst_world.proofs.world.World.beneficiary_at.Goals as goal
 use Rattle.inst_world.proofs.world.World.beneficiary_at.Goals.{in-Unused, in-Pending, in-Pending-2}
 

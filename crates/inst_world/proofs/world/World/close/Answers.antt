@@ -5,7 +5,7 @@ use Rattle.inst_command.specs.declared.step.Step.{Step}
 use Rattle.inst_model.specs.Closing.{of_originators, of_participants, closing}
 use Rattle.inst_model.specs.Interleaving.{IsInterleaving}
 use Rattle.inst_world.specs.HasRun.{World, HasRun, HasRunSomething}
-use Rattle.inst_world.proofs.OnlyTold.{told_more, told_none}
+use Rattle.inst_world.proofs.RunsThatOnlyTell.{told_more, told_none}
 use Rattle.inst_world.proofs.world.World.close.Goals as goal
 
 pub returns-clause-closed : goal.returns-clause-closed

@@ -1,5 +1,5 @@
-use Rattle.inst_world.proofs.Worlds.{leads_to, acted}
-use Rattle.inst_world.proofs.Acting.{still_kept, delivered}
+use Rattle.inst_world.proofs.BooksAsOneSlotActs.{leads_to, acted}
+use Rattle.inst_world.proofs.StepIsRunOrRefused.{still_kept, delivered}
 use Rattle.inst_world.proofs.world.World.deliver.Goals as goal
 
 pub deliver-requires-clause-lawful : goal.deliver-requires-clause-lawful

@@ -1,6 +1,6 @@
 use Rattle.std.proofs.Common.{◌≡◌}
-use Rattle.inst_world.proofs.Worlds.{leads_to, acted}
-use Rattle.inst_world.proofs.Acting.{still_kept, expired}
+use Rattle.inst_world.proofs.BooksAsOneSlotActs.{leads_to, acted}
+use Rattle.inst_world.proofs.StepIsRunOrRefused.{still_kept, expired}
 use Rattle.inst_world.proofs.world.World.expire.Goals as goal
 
 pub expire-requires : goal.expire-requires

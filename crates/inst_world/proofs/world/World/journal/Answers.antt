@@ -5,7 +5,7 @@ use Rattle.inst_journal.specs.Sound.{IsSound}
 use Rattle.inst_model.specs.Hub.{history}
 use Rattle.inst_slot.specs.Book.{events_of}
 use Rattle.inst_world.specs.HasRun.{World, HasRun, journal_of}
-use Rattle.inst_world.proofs.Worlds.{leads_to}
+use Rattle.inst_world.proofs.BooksAsOneSlotActs.{leads_to}
 use Rattle.inst_world.proofs.world.World.journal.Goals as goal
 
 pub returns-clause-history : goal.returns-clause-history

@@ -6,7 +6,7 @@ use Rattle.inst_journal.specs.History.{History}
 use Rattle.inst_model.specs.Hub.{history}
 use Rattle.inst_world.specs.HasRun.{journal_of}
 use Rattle.inst_world.specs.NextOpening.{books_of}
-use Rattle.inst_world.proofs.Carrying.{below}
+use Rattle.inst_world.proofs.CarriedTransfersFindPlaces.{below}
 use Rattle.inst_world.proofs.world.World.journals.Goals as goal
 
 one_more : (journals : List History) (journal : History) (p : ℕ) (J : List Event) → p < length journals + 1 → (p < length journals → books_of journals p ≡ J) → (p ≡ length journals → journal.events ≡ J) → books_of (journals ++ journal ∷ []) p ≡ J

@@ -1,5 +1,5 @@
-use Rattle.inst_world.proofs.Worlds.{leads_to, acted}
-use Rattle.inst_world.proofs.Acting.{still_kept, learnt}
+use Rattle.inst_world.proofs.BooksAsOneSlotActs.{leads_to, acted}
+use Rattle.inst_world.proofs.StepIsRunOrRefused.{still_kept, learnt}
 use Rattle.inst_world.proofs.world.World.learn.Goals as goal
 
 pub learn-requires : goal.learn-requires

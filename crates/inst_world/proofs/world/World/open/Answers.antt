@@ -2,7 +2,7 @@ use Rattle.std.proofs.Common.{◌≡◌, sym, ap, ◌∙◌, [], subst, arith}
 use Rattle.inst_settings.specs.Settings.{HubSettings, participants}
 use Rattle.inst_settings.specs.Lawful.{IsSettings}
 use Rattle.inst_model.specs.Opening.Opening.{First}
-use Rattle.inst_world.proofs.Opening.{new_books, new_pushed, new_world, new_has_run}
+use Rattle.inst_world.proofs.FirstOpening.{new_books, new_pushed, new_world, new_has_run}
 use Rattle.inst_world.proofs.world.World.open.Goals as goal
 
 pub loop-who-preserved : goal.loop-who-preserved

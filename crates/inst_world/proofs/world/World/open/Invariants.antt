@@ -1,5 +1,5 @@
 use Rattle.std.proofs.Common.{◌≡◌}
-use Rattle.inst_world.proofs.Opening.{new_books}
+use Rattle.inst_world.proofs.FirstOpening.{new_books}
 use Rattle.inst_world.proofs.world.World.open.Given as goal
 
 abbrev pub invariant-loop-who : goal.invariant-loop-who

@@ -5,7 +5,7 @@ use Rattle.inst_model.specs.Opening.{BooksCanOpen}
 use Rattle.inst_world.specs.HasRun.{World}
 use Rattle.inst_world.specs.NextOpening.{books_of, opening_from}
 use Rattle.inst_world.specs.inner.NextOpening.{HaveFoundBefore, OnlyFinds}
-use Rattle.inst_world.proofs.Carried.{has_run_none, is_world_again}
+use Rattle.inst_world.proofs.NothingRunSinceOpening.{has_run_none, is_world_again}
 use Rattle.inst_world.proofs.world.World.open_from.Goals as goal
 
 pub adopt_all-requires : goal.adopt_all-requires

@@ -3,16 +3,16 @@ use Rattle.inst_settings.specs.Settings.{HubSettings}
 use Rattle.inst_journal.specs.declared.event.Event.{Event}
 use Rattle.inst_journal.specs.Sound.{IsSound}
 use Rattle.inst_command.specs.declared.step.Step.{Step}
-use Rattle.inst_board.specs.declared.place.Place.{Place}
+use Rattle.inst_command.specs.declared.place.Place.{Place}
 use Rattle.inst_model.specs.Opening.{Opening}
 use Rattle.inst_model.specs.Transfer.{Transfer, at_place}
 use Rattle.inst_model.specs.Hub.{history}
-use Rattle.inst_model.proofs.Together.{together}
+use Rattle.inst_model.proofs.AllHistoriesTogether.{together}
 use Rattle.inst_slot.specs.Book.{place_at}
 use Rattle.inst_world.specs.HasRun.{World, HasRun}
-use Rattle.inst_world.proofs.Worlds.{leads_to}
+use Rattle.inst_world.proofs.BooksAsOneSlotActs.{leads_to}
 use Rattle.inst_world.specs.Places.{IsPlaceOf}
-use Rattle.inst_world.proofs.Finding.{place_found_by_name, name_found_at_place}
+use Rattle.inst_world.proofs.PlaceOfNamedTransfer.{place_found_by_name, name_found_at_place}
 use Rattle.inst_world.proofs.world.World.place_of.Goals as goal
 
 pub returns-clause-place : goal.returns-clause-place

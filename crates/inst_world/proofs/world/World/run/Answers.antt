@@ -4,7 +4,7 @@ use Rattle.inst_model.specs.Opening.Opening.{First}
 use Rattle.inst_model.specs.Trace.{trace}
 use Rattle.inst_world.specs.HasRun.{IsWorld, journal_of}
 use Rattle.inst_world.specs.Headline.{run_of}
-use Rattle.inst_world.proofs.Promising.{is_run, keeps_the_headline}
+use Rattle.inst_world.proofs.PromisesFollowFromLaws.{is_run, keeps_the_headline}
 use Rattle.inst_world.proofs.world.World.run.Goals as goal
 
 pub returns-clause-ran : goal.returns-clause-ran

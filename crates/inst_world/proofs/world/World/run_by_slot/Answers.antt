@@ -1,5 +1,5 @@
 use Rattle.inst_command.specs.declared.reply.Answer.TheVariants.{Reply, New}
-use Rattle.inst_world.proofs.Acting.{ran_matched, refused_matched}
+use Rattle.inst_world.proofs.StepIsRunOrRefused.{ran_matched, refused_matched}
 use Rattle.inst_world.proofs.world.World.run_by_slot.Goals as goal
 
 pub returns-in_ok-ask-in-Ask : goal.returns-in_ok-ask-in-Ask

@@ -1,5 +1,5 @@
 use Rattle.std.proofs.Common.{◌∙◌, arith}
-use Rattle.inst_world.proofs.Running.{runs_on}
+use Rattle.inst_world.proofs.StepsRunInOrder.{runs_on}
 use Rattle.inst_world.proofs.world.World.run_steps.Goals as goal
 
 pub loop-step-preserved : goal.loop-step-preserved

@@ -1,13 +1,13 @@
 use Rattle.std.proofs.Common.{subst}
 use Rattle.inst_settings.specs.Lawful.{IsSettings}
-use Rattle.inst_world.specs.HasRun.{World, settings_of, HasRunSomething}
-use Rattle.inst_world.proofs.GoingOn.{of_model, unrun}
+use Rattle.inst_world.specs.HasRun.{World, world_settings, HasRunSomething}
+use Rattle.inst_world.proofs.HubRunAfterStep.{of_model, unrun}
 use Rattle.inst_world.proofs.world.World.step.Goals as goal
 
 pub returns-clause-model : goal.returns-clause-model
 returns-clause-model c =
     of_model _ _ _ _ (subst HasRunSomething c.self.view_is c.self.invariant.3)
-    (subst (λ (w : World). IsSettings (settings_of w)) c.self.view_is c.self.invariant.2) c.run_by_slot.ensures.ok
+    (subst (λ (w : World). IsSettings (world_settings w)) c.self.view_is c.self.invariant.2) c.run_by_slot.ensures.ok
 
 pub returns-clause-unrun : goal.returns-clause-unrun
 returns-clause-unrun c = unrun _ _ _ c.run_by_slot.ensures.err

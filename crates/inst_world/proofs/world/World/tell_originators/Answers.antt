@@ -3,7 +3,7 @@ use Rattle.std.proofs.lemmas.List.{append_assoc}
 use Rattle.inst_command.specs.declared.step.Step.{Step}
 use Rattle.inst_model.specs.Closing.{of_places, of_originators}
 use Rattle.inst_world.specs.HasRun.{HasRun}
-use Rattle.inst_world.proofs.OnlyTold.{told_more, told_none}
+use Rattle.inst_world.proofs.RunsThatOnlyTell.{told_more, told_none}
 use Rattle.inst_world.proofs.world.World.tell_originators.Goals as goal
 
 pub loop-from-preserved : goal.loop-from-preserved

@@ -2,7 +2,7 @@ use Rattle.std.proofs.Common.{◌≡◌, suc, ◌+◌, ◌∷◌, ◌++◌, refl
 use Rattle.inst_command.specs.declared.step.Step.TheVariants.{Learn}
 use Rattle.inst_model.specs.Closing.{of_places}
 use Rattle.inst_world.specs.HasRun.{HasRun}
-use Rattle.inst_world.proofs.OnlyTold.{told_more, told_none, told_one}
+use Rattle.inst_world.proofs.RunsThatOnlyTell.{told_more, told_none, told_one}
 use Rattle.inst_world.proofs.world.World.tell_places.Goals as goal
 
 pub loop-index-preserved : goal.loop-index-preserved

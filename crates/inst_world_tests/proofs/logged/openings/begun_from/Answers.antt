@@ -1,4 +1,4 @@
-use Rattle.inst_world_tests.proofs.Ready.{ready_on}
+use Rattle.inst_world_tests.proofs.DiskReadyForHub.{ready_on}
 use Rattle.inst_world_tests.proofs.logged.openings.begun_from.Goals as goal
 
 pub run_through-requires : goal.run_through-requires

@@ -1,4 +1,4 @@
-use Rattle.inst_world_tests.proofs.Ready.{left_known, ready_on}
+use Rattle.inst_world_tests.proofs.DiskReadyForHub.{left_known, ready_on}
 use Rattle.inst_world_tests.proofs.logged.openings.next.Goals as goal
 
 pub next_of-requires : goal.next_of-requires

@@ -1,4 +1,4 @@
-use Rattle.inst_world_tests.proofs.Ready.{left_known, ready_on}
+use Rattle.inst_world_tests.proofs.DiskReadyForHub.{left_known, ready_on}
 use Rattle.inst_world_tests.proofs.logged.openings.run_on.Goals as goal
 
 pub run_through-requires : goal.run_through-requires

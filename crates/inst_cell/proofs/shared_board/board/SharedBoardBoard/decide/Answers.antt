@@ -9,10 +9,10 @@ use Rattle.inst_board.proofs.PlainSteps.{wanted_in_time}
 use Rattle.inst_cell.specs.View.{count}
 use Rattle.inst_cell.specs.Rule.{IsShowable}
 use Rattle.inst_cell.specs.Held.{settings_of, knows, has_role, stood}
-use Rattle.inst_cell.proofs.Boards.{wants_at, learns_as, learns_two, says_known, stood_from, stood_across, knew_before, due_of, opened_not_unused, answers_decided, answers_pending, answers_settled, settled, answers_party, a_party, place_still, moment_known, moment_still, moment_cases, moment_own, decided_of, not_mine}
-use Rattle.inst_cell.proofs.Learnt.{no_none}
+use Rattle.inst_cell.proofs.KnowledgeAfterStep.{wants_at, learns_as, learns_two, says_known, stood_from, stood_across, knew_before, due_of, opened_not_unused, answers_decided, answers_pending, answers_settled, settled, answers_party, a_party, place_still, moment_known, moment_still, moment_cases, moment_own, decided_of, not_mine}
+use Rattle.inst_cell.proofs.FactsLearntFromStep.{no_none}
 use Rattle.inst_cell.proofs.shared_board.board.SharedBoardBoard.decide.Goals as goal
-use Rattle.inst_cell.proofs.Knowing.{same_moment}
+use Rattle.inst_cell.proofs.KnowledgeOfOneStanding.{same_moment}
 
 pub returns-in_err-outcome-in-Pending-clause-decides :
     goal.returns-in_err-outcome-in-Pending-clause-decides

@@ -1,7 +1,7 @@
 use Rattle.std.proofs.Common.{◌∙◌, sym}
 use Rattle.inst_board.specs.declared.about.About.TheVariants.{Opened, HasTerms}
 use Rattle.inst_board.specs.declared.look.Look.TheVariants.{Unused, Pending, Decided}
-use Rattle.inst_cell.proofs.Boards.{opened_too, looks_as, knew_before, seen_only, says_known, terms_of, pending_not_unused, decided_not_unused, look_unused, look_pending, look_decided}
+use Rattle.inst_cell.proofs.KnowledgeAfterStep.{opened_too, looks_as, knew_before, seen_only, says_known, terms_of, pending_not_unused, decided_not_unused, look_unused, look_pending, look_decided}
 use Rattle.inst_cell.proofs.shared_board.board.SharedBoardBoard.look.Goals as goal
 
 pub terms-terms-requires-clause-opened : goal.terms-terms-requires-clause-opened

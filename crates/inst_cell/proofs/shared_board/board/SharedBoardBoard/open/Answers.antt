@@ -1,6 +1,6 @@
 use Rattle.std.proofs.Common.{false}
 use Rattle.inst_board.specs.Standing.{pending}
-use Rattle.inst_cell.proofs.Boards.{learns_as}
+use Rattle.inst_cell.proofs.KnowledgeAfterStep.{learns_as}
 use Rattle.inst_cell.proofs.shared_board.board.SharedBoardBoard.open.Goals as goal
 
 pub returns-clause-opened : goal.returns-clause-opened

@@ -1,5 +1,5 @@
 use Rattle.std.proofs.Common.{◌∙◌, arith}
-use Rattle.inst_cell.proofs.Boards.{wrote_still, place_still, knows_same, facts_noted}
+use Rattle.inst_cell.proofs.KnowledgeAfterStep.{wrote_still, place_still, knows_same, facts_noted}
 use Rattle.inst_cell.proofs.shared_board.board.SharedBoardBoard.write_terms.Goals as goal
 
 pub returns-clause-others : goal.returns-clause-others

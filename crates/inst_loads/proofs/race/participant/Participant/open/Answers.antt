@@ -1,4 +1,4 @@
-use Rattle.inst_loads.proofs.Starting.{starts}
+use Rattle.inst_loads.proofs.BoardOfNewParticipant.{starts}
 use Rattle.inst_loads.proofs.race.participant.Participant.open.Goals as goal
 
 pub invariant_of-result : goal.invariant_of-result

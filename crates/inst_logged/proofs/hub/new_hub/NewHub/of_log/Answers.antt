@@ -1,11 +1,11 @@
 use Rattle.std.proofs.Common.{◌≡◌, ◌∙◌, Ok, Option, Some, None, List, ℕ, take, ap, sym, subst}
 use Rattle.std.proofs.lemmas.Result.{err_from_is_err_and}
-use Rattle.inst_log.specs.Layout.{recovered, blocks}
+use Rattle.inst_log.specs.Layout.{recovered_lines, blocks}
 use Rattle.inst_log.specs.Opening.{Begins}
 use Rattle.inst_books.specs.Books.{all_events}
 use Rattle.inst_logged.specs.declared.version.Version.{Version}
 use Rattle.inst_logged.specs.Header.{AreFirstLines}
-use Rattle.inst_logged.proofs.Behind.{version_there, version_same, books_unrefused, none_found, some_found, unrefused_err}
+use Rattle.inst_logged.proofs.BooksBehindFirstLine.{version_there, version_same, books_unrefused, none_found, some_found, unrefused_err}
 use Rattle.inst_logged.proofs.hub.new_hub.NewHub.of_log.Goals as goal
 
 pub returns-in_default-clause-found : goal.returns-in_default-clause-found
@@ -23,7 +23,7 @@ returns-in_err-journals-clause-found g c = λ clean version first are begins.
     let v = c.in-Some.version in
     let file = g.D.Disk.seen c.read_lines.new.disk in
     let seen = c.read_lines.ensures.seen in
-    let lines = c.in_ok-first.ensures.lines (c.books_on.ensures.read.clean clean) ∙ ap (λ (f : List ℕ). blocks (take 1 (recovered f))) (sym seen) in
+    let lines = c.in_ok-first.ensures.lines (c.books_on.ensures.read.clean clean) ∙ ap (λ (f : List ℕ). blocks (take 1 (recovered_lines f))) (sym seen) in
     let here = subst (Begins first) (sym seen) begins in
     let same = version_same mode s first file c.deref.result.now c.in_ok-version.field-0 c.in_ok-version.ensures.back version are here (c.deref.ensures.value ∙ lines) v c.in-Some.is in
     let finds = c.books_on.ensures.found clean in
@@ -38,7 +38,7 @@ returns-in-Some-2-clause-found g c = λ clean version first are begins.
     let v = c.in-Some.version in
     let file = g.D.Disk.seen c.read_lines.new.disk in
     let seen = c.read_lines.ensures.seen in
-    let lines = c.in_ok-first.ensures.lines (c.books_on.ensures.read.clean clean) ∙ ap (λ (f : List ℕ). blocks (take 1 (recovered f))) (sym seen) in
+    let lines = c.in_ok-first.ensures.lines (c.books_on.ensures.read.clean clean) ∙ ap (λ (f : List ℕ). blocks (take 1 (recovered_lines f))) (sym seen) in
     let here = subst (Begins first) (sym seen) begins in
     let same = version_same mode s first file c.deref.result.now c.in_ok-version.field-0 c.in_ok-version.ensures.back version are here (c.deref.ensures.value ∙ lines) v c.in-Some.is in
     let finds = c.books_on.ensures.found clean in
@@ -55,7 +55,7 @@ returns-clause-found g c = λ clean version first are begins.
     let v = c.in-Some.version in
     let file = g.D.Disk.seen c.read_lines.new.disk in
     let seen = c.read_lines.ensures.seen in
-    let lines = c.in_ok-first.ensures.lines (c.books_on.ensures.read.clean clean) ∙ ap (λ (f : List ℕ). blocks (take 1 (recovered f))) (sym seen) in
+    let lines = c.in_ok-first.ensures.lines (c.books_on.ensures.read.clean clean) ∙ ap (λ (f : List ℕ). blocks (take 1 (recovered_lines f))) (sym seen) in
     let here = subst (Begins first) (sym seen) begins in
     let same = version_same mode s first file c.deref.result.now c.in_ok-version.field-0 c.in_ok-version.ensures.back version are here (c.deref.ensures.value ∙ lines) v c.in-Some.is in
     let finds = c.books_on.ensures.found clean in

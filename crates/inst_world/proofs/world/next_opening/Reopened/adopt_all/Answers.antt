@@ -1,7 +1,7 @@
 use Rattle.std.proofs.Common.{◌≡◌, subst, sym, ap, ◌∙◌, arith}
 use Rattle.inst_settings.specs.Settings.{HubSettings, participants}
 use Rattle.inst_world.specs.inner.NextOpening.{HaveFoundBefore}
-use Rattle.inst_world.proofs.Carrying.{finds_none, finds_on, none_before}
+use Rattle.inst_world.proofs.CarriedTransfersFindPlaces.{finds_none, finds_on, none_before}
 use Rattle.inst_world.proofs.world.next_opening.Reopened.adopt_all.Goals as goal
 
 pub loop-owner-init : goal.loop-owner-init

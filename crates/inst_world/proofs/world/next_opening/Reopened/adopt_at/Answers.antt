@@ -3,7 +3,7 @@ use Rattle.inst_board.specs.Standing.{look_of}
 use Rattle.inst_board.specs.Plain.{Contents}
 use Rattle.inst_world.specs.HasRun.{World}
 use Rattle.inst_world.specs.inner.NextOpening.{IsCarryingWorld, HaveFoundBefore, OnlyFinds}
-use Rattle.inst_world.proofs.Carrying.{its_lawful, adopted_found, adopted_carrying, adopted_finds, passes_by, finds_none}
+use Rattle.inst_world.proofs.CarriedTransfersFindPlaces.{its_lawful, adopted_found, adopted_carrying, adopted_finds, passes_by, finds_none}
 use Rattle.inst_world.proofs.world.next_opening.Reopened.adopt_at.Goals as goal
 
 pub adopt-requires : goal.adopt-requires

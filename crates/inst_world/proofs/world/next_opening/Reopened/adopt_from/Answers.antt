@@ -1,6 +1,6 @@
 use Rattle.std.proofs.Common.{◌≡◌, sym, ap, ◌∙◌, arith}
 use Rattle.inst_settings.specs.Settings.{HubSettings}
-use Rattle.inst_world.proofs.Carrying.{finds_none, finds_on, owner_done}
+use Rattle.inst_world.proofs.CarriedTransfersFindPlaces.{finds_none, finds_on, owner_done}
 use Rattle.inst_world.proofs.world.next_opening.Reopened.adopt_from.Goals as goal
 
 pub loop-index-init : goal.loop-index-init

@@ -8,7 +8,7 @@ use Rattle.inst_slot.specs.Opening.{opened_again}
 use Rattle.inst_world.specs.HasRun.{World}
 use Rattle.inst_world.specs.NextOpening.{books_of}
 use Rattle.inst_world.specs.inner.NextOpening.{AreOpenedAgain}
-use Rattle.inst_world.proofs.Reopening.{book_at, none_opened, next_opened, carrying}
+use Rattle.inst_world.proofs.BoardOfReopenedHub.{book_at, none_opened, next_opened, carrying}
 use Rattle.inst_world.proofs.world.next_opening.Reopened.open.Goals as goal
 
 pub loop-who-init : goal.loop-who-init

@@ -1,0 +1,68 @@
+-- What a worker sees, and goes on knowing.
+use Rattle.std.proofs.Common.{◌≡◌, ℕ, zero, suc, List, [], ◌∷◌, ◌++◌, Some, None, subst}
+use Rattle.std.specs.Prelude.{Option, slice_get}
+use Rattle.inst_settings.specs.Settings.{HubSettings}
+use Rattle.inst_command.specs.declared.command.Command.{Command}
+use Rattle.inst_command.specs.declared.command.Command.TheVariants.{Fund, Defund, Submit, Confirm, Reject, Investigate, Fetch, Query}
+use Rattle.inst_command.specs.declared.outcome.State.{State as StateValue}
+use Rattle.inst_command.specs.declared.reply.Reply.{Reply}
+use Rattle.inst_command.specs.declared.reply.Reply.TheVariants.{Done, Taken, State, Inbox, Position as PositionReply, Statement as StatementReply, Refused}
+use Rattle.inst_board.specs.declared.about.About.TheVariants.{Opened, Decided}
+use Rattle.inst_board.specs.declared.about.Fact.{Fact}
+use Rattle.inst_command.specs.declared.place.Place.{Place}
+use Rattle.inst_board.specs.Standing.{about}
+use Rattle.inst_journal.specs.declared.event.Event.{Event}
+use Rattle.inst_command.specs.declared.ask.Ask.{Ask}
+use Rattle.inst_hub.specs.declared.hub.Hub.{Hub}
+use Rattle.inst_hub.specs.declared.teller.Teller.{Teller}
+use Rattle.inst_participant.specs.Answers.{IsTicket, IsSubmitted}
+use Rattle.inst_hub.specs.Calls.{KnowsMore, Calls, knows_of}
+use Rattle.inst_crew.specs.Seen.{IsSeen}
+use Rattle.inst_crew.specs.inner.Seen.{AreSeen}
+
+no_ticket : (k : Place) → Some k ≡ None → ⊥
+no_ticket k e = cc
+
+submitted_opened : (sees : Fact → Type 0) (s : HubSettings) (command : Command) (k : Place) → IsSubmitted sees s command k → sees (about k Opened)
+submitted_opened sees s (Submit x) k h = h.0
+submitted_opened sees s (Fund funding) k h = absurd h
+submitted_opened sees s (Defund funding) k h = absurd h
+submitted_opened sees s (Confirm p i) k h = absurd h
+submitted_opened sees s (Reject p i r) k h = absurd h
+submitted_opened sees s (Investigate i) k h = absurd h
+submitted_opened sees s (Fetch n) k h = absurd h
+submitted_opened sees s (Query query) k h = absurd h
+
+-- a ticket names a place that is known opened
+pub ticket_opened : (sees : Fact → Type 0) (s : HubSettings) (who : ℕ) (command : Command) (K : List Event) (reply : Reply) (k : Place) → IsTicket sees s who command K reply (Some k) → sees (about k Opened)
+ticket_opened sees s who command K (Taken id deadline) k h = submitted_opened sees s command k h.2
+ticket_opened sees s who command K (State from id state) k h = h.2.opened
+ticket_opened sees s who command K (Done r) k h = absurd (no_ticket k h)
+ticket_opened sees s who command K (Inbox es) k h = absurd (no_ticket k h)
+ticket_opened sees s who command K (PositionReply a b d) k h = absurd (no_ticket k h)
+ticket_opened sees s who command K (StatementReply ls) k h = absurd (no_ticket k h)
+ticket_opened sees s who command K (Refused f) k h = absurd (no_ticket k h)
+
+pub seen_more : (t u : Teller) (pair : Place × StateValue) → KnowsMore t u → IsSeen t pair → IsSeen u pair
+seen_more t u pair more seen = record {
+  opened = more.facts (about pair.0 Opened) seen.opened;
+  used = seen.used;
+  outcome = λ o e. more.facts (about pair.0 (Decided o)) (seen.outcome o e);
+}
+
+pub all_seen_more : (t u : Teller) (states : List (Place × StateValue)) → KnowsMore t u → AreSeen t states → AreSeen u states
+all_seen_more t u states more seen i pair at = seen_more t u pair more (seen i pair at)
+
+at_end : (states : List (Place × StateValue)) (x y : Place × StateValue) (i : ℕ) (P : Place × StateValue → Type 0) → P x → ((j : ℕ) (z : Place × StateValue) → slice_get states j ≡ Some z → P z) → slice_get (states ++ x ∷ []) i ≡ Some y → P y
+at_end [] x y zero P new old e = let is : x ≡ y = cc in subst P is new
+at_end [] x y (suc i) P new old e = let no : ⊥ = cc in absurd no
+at_end (z ∷ zs) x y zero P new old e = old 0 y e
+at_end (z ∷ zs) x y (suc i) P new old e = at_end zs x y i P new (λ j w f. old (suc j) w f) e
+
+pub one_more_seen : (u : Teller) (states : List (Place × StateValue)) (x : Place × StateValue) → AreSeen u states → IsSeen u x → AreSeen u (states ++ x ∷ [])
+one_more_seen u states x seen new i y at = at_end states x y i (IsSeen u) new seen at
+
+-- after a call the ticket's place is known opened
+pub call_opened : (h : Hub) (t : Teller) (ask : Ask) (answer : Reply × Option Place) (u : Teller) (k : Place) → Calls h t ask answer u → answer.1 ≡ Some k → knows_of u (about k Opened)
+call_opened h t ask answer u k call e = ticket_opened (knows_of u) h.settings ask.who ask.command call.1.left.slot.events answer.0 k
+    (subst (λ (o : Option Place). IsTicket (knows_of u) h.settings ask.who ask.command call.1.left.slot.events answer.0 o) e call.1.ticket)

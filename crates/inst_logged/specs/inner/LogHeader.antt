@@ -1,0 +1,46 @@
+-- What the JSON of a first line says, member by member.
+use Rattle.std.specs.Prelude.{◌≡◌, ℕ, List, map, codes, Option, Some, option_and_then}
+use Rattle.serde_json.specs.Data.{Data, string, Items}
+use Rattle.serde_json.specs.Find.{get, as_number, as_u64, as_str, as_array}
+use Rattle.inst_settings.specs.Settings.{HubSettings}
+use Rattle.inst_json.specs.Replies.{items}
+use Rattle.inst_lines.specs.declared.mode.Mode.{Mode}
+use Rattle.inst_logged.specs.declared.version.Version.{Version}
+use Rattle.inst_logged.specs.declared.version.Version.TheVariants.{One, Two}
+use Rattle.inst_logged.specs.Header.{mode_word}
+
+-- the number under a name
+abbrev pub number_in : List ℕ → Data → Option ℕ
+number_in name d = option_and_then as_u64 (option_and_then as_number (get name d))
+
+-- the text under a name
+abbrev pub text_in : List ℕ → Data → Option (List ℕ)
+text_in name d = option_and_then as_str (get name d)
+
+-- the list under a name
+abbrev pub list_in : List ℕ → Data → Option Items
+list_in name d = option_and_then as_array (get name d)
+
+-- the version as a number
+abbrev pub number_of : Version → ℕ
+number_of One = 1
+number_of Two = 2
+
+-- the members of the settings have these values
+pub record SaysSettings (s : HubSettings) (d : Data) : Type 0 where
+  pub participants : list_in (codes "participants") d ≡ Some (items (map string s.codes))
+  pub places : number_in (codes "places") d ≡ Some s.places
+  pub fundings : number_in (codes "fundings") d ≡ Some s.fundings
+  pub limit : number_in (codes "limit") d ≡ Some s.limit
+  pub margin : number_in (codes "margin") d ≡ Some s.margin
+  pub ahead : number_in (codes "ahead") d ≡ Some s.ahead
+  pub ceiling : number_in (codes "ceiling") d ≡ Some s.ceiling
+  pub base : number_in (codes "base") d ≡ Some s.base
+
+-- all members have these values
+pub record Says (version : Version) (mode : Mode) (s : HubSettings) (books : Option ℕ) (d : Data) :
+    Type 0 where
+  pub version_is : number_in (codes "version") d ≡ Some (number_of version)
+  pub mode_is : text_in (codes "log") d ≡ Some (mode_word mode)
+  pub books_are : number_in (codes "books") d ≡ books
+  pub settings : SaysSettings s d

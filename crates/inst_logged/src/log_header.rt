@@ -1,0 +1,258 @@
+//! What the first line of a log says, read again.
+ghost use Rattle.std.specs.Prelude.{◌≡◌, ◌⊎◌, ◌<◌, ◌^◌, ◌++◌, [], ◌∷◌, List, ℕ, Option, Some, None};
+ghost use Rattle.std.specs.Prelude.{true, map, codes, IfOk, option_map, ok_or};
+ghost use Rattle.std.specs.List.{list_all};
+ghost use Rattle.serde_json.specs.Data.{string};
+ghost use Rattle.serde_json.specs.View.{view, items_view};
+ghost use Rattle.inst_base.specs.Text.{is_code};
+ghost use Rattle.inst_base.specs.declared.fault.Fault.TheVariants.{NotJson};
+ghost use Rattle.inst_settings.specs.Settings.{HubSettings};
+ghost use Rattle.inst_settings.specs.Lawful.{IsSettings, AreOfAHub, numbers_of};
+ghost use Rattle.inst_base.specs.Newline.{newline, NoNewline};
+ghost use Rattle.inst_json.specs.Replies.{items};
+ghost use Rattle.inst_json.specs.Lines.{json_of};
+ghost use Rattle.inst_logged.specs.Header.{mode_word};
+ghost use Rattle.inst_logged.specs.LogHeader.{IsHeaderLine, beginning_with};
+ghost use Rattle.inst_logged.specs.inner.LogHeader.{Says, SaysSettings, number_in, text_in};
+ghost use Rattle.inst_logged.specs.inner.LogHeader.{list_in, number_of};
+ghost use Rattle.inst_logged.specs.declared.version.Version.TheVariants.{Two};
+
+use crate::Version;
+use crate::header::header_line;
+use inst_base::Code;
+use inst_lines::Mode;
+use inst_settings::{HubParameters, Settings};
+use serde_json::Value;
+use std::alloc::{AllocError, Global};
+
+/// What the first line of a log says.
+#[derive(Drop)]
+pub struct LogHeader {
+    /// What its lines stand for.
+    pub mode: Mode,
+    /// The settings of its hub.
+    pub settings: Settings,
+    /// How many lines of books stand behind it, where the hub opened from books.
+    pub books: Option<u64>,
+}
+
+/// Returns what the first line of a log says, given with its newline or without, or `None` if no
+/// log begins so.
+pub fn read_beginning(alloc: Global, line: &[u8]) -> Result<Option<LogHeader>, AllocError>
+    ensures { (version : Version) (mode : Mode) (s : HubSettings) (books : Option ℕ) →
+        IsHeaderLine version mode s books line.now
+        → IfOk result (λ beginning. beginning ≡ Some (beginning_with mode s books)) }
+{
+    match value_of(alloc, without_newline(line))? {
+        Some(value) => beginning_in(alloc, &value),
+        None => Ok(None),
+    }
+}
+
+/// Returns a line without its newline.
+fn without_newline(line: &[u8]) -> &[u8]
+    ensures { (text : List ℕ) → NoNewline text →
+        (line.now ≡ text) ⊎ (line.now ≡ text ++ newline ∷ []) → result.now ≡ text }
+{
+    line.strip_suffix(b"\n").unwrap_or(line)
+}
+
+/// Returns the JSON value of a line, or `None` if the line is not JSON.
+fn value_of(alloc: Global, line: &[u8]) -> Result<Option<Value>, AllocError>
+    ensures { IfOk result (λ value. ok_or (option_map view value) NotJson ≡ json_of line.now) }
+{
+    match Value::from_slice(alloc, line) {
+        Ok(value) => Ok(Some(value)),
+        Err(error) if error.is_memory() => Err(AllocError),
+        Err(_) => Ok(None),
+    }
+}
+
+/// Returns what a first line says that is this JSON, or `None` if no log begins so.
+fn beginning_in(alloc: Global, value: &Value) -> Result<Option<LogHeader>, AllocError>
+    ensures { (version : Version) (mode : Mode) (s : HubSettings) (books : Option ℕ) → AreOfAHub s →
+        Says version mode s books (view value.now)
+        → IfOk result (λ beginning. beginning ≡ Some (beginning_with mode s books)) }
+{
+    let Some(mode) = mode_of(value) else {
+        return Ok(None);
+    };
+    let books = number(value, "books");
+    match settings_of(alloc, value)? {
+        Some(settings) => Ok(Some(LogHeader {
+            mode,
+            settings,
+            books,
+        })),
+        None => Ok(None),
+    }
+}
+
+fn mode_of(value: &Value) -> Option<Mode>
+    ensures { (mode : Mode) → text_in (codes "log") (view value.now) ≡ Some (mode_word mode) →
+        result ≡ Some mode }
+{
+    match value.get("log")?.as_str()? {
+        "run" => Some(Mode::Run),
+        "play" => Some(Mode::Play),
+        _ => None,
+    }
+}
+
+fn settings_of(alloc: Global, value: &Value) -> Result<Option<Settings>, AllocError>
+    ensures { (s : HubSettings) → AreOfAHub s → SaysSettings s (view value.now) →
+        IfOk result (λ settings. settings ≡ Some s) }
+{
+    let Some(numbers) = numbers_of(value) else {
+        return Ok(None);
+    };
+    let Some(codes) = codes_of(alloc, value)? else {
+        return Ok(None);
+    };
+    Ok(Settings::check(codes, numbers).ok())
+}
+
+/// Returns the codes of the participants.
+fn codes_of(alloc: Global, value: &Value) -> Result<Option<Vec<Code>>, AllocError>
+    ensures { (listed : List (List ℕ)) → list_all is_code listed ≡ true →
+        list_in (codes "participants") (view value.now) ≡ Some (items (map string listed))
+        → IfOk result (λ found. option_map (λ codes. codes.items) found ≡ Some listed) }
+{
+    match value.get("participants").and_then(Value::as_array) {
+        Some(listed) => codes_in(alloc, listed),
+        None => Ok(None),
+    }
+}
+
+/// Returns the codes that are listed, or `None` if one is no code.
+fn codes_in(alloc: Global, listed: &[Value]) -> Result<Option<Vec<Code>>, AllocError>
+    ensures { (named : List (List ℕ)) → list_all is_code named ≡ true →
+        items_view listed.now ≡ items (map string named)
+        → IfOk result (λ found. option_map (λ codes. codes.items) found ≡ Some named) }
+{
+    let mut codes = Vec::new(alloc);
+    for value in listed {
+        match code_of(value) {
+            Some(code) => codes.push(code)?,
+            None => return Ok(None),
+        }
+    }
+    Ok(Some(codes))
+}
+
+/// Returns the code that a value is.
+fn code_of(value: &Value) -> Option<Code>
+    ensures { (code : List ℕ) → is_code code ≡ true → view value.now ≡ string code →
+        result ≡ Some code }
+{
+    Code::new(value.as_str()?).ok()
+}
+
+/// Returns the numbers among the settings.
+fn numbers_of(value: &Value) -> Option<HubParameters>
+    ensures { (s : HubSettings) → IsSettings s → SaysSettings s (view value.now) →
+        result ≡ Some (numbers_of s) }
+{
+    Some(HubParameters {
+        places: small(value, "places")?,
+        fundings: small(value, "fundings")?,
+        limit: medium(value, "limit")?,
+        margin: medium(value, "margin")?,
+        ahead: medium(value, "ahead")?,
+        ceiling: number(value, "ceiling")?,
+        base: number(value, "base")?,
+    })
+}
+
+fn number(value: &Value, name: &str) -> Option<u64>
+    ensures { result ≡ number_in name.now (view value.now) }
+{
+    value.get(name)?.as_u64()
+}
+
+fn small(value: &Value, name: &str) -> Option<u16>
+    ensures { (n : ℕ) → n < 2 ^ 16 → number_in name.now (view value.now) ≡ Some n →
+        result ≡ Some n }
+{
+    u16::try_from(number(value, name)?).ok()
+}
+
+fn medium(value: &Value, name: &str) -> Option<u32>
+    ensures { (n : ℕ) → n < 2 ^ 32 → number_in name.now (view value.now) ≡ Some n →
+        result ≡ Some n }
+{
+    u32::try_from(number(value, name)?).ok()
+}
+
+/// Returns the version that a log's first line tells, given with its newline or without: the
+/// latest, unless it tells an earlier one. `None` if no log begins so: the line is JSON that has
+/// none of the members by which a log is known.
+pub fn version_of(alloc: Global, line: &[u8]) -> Result<Option<Version>, AllocError>
+    ensures none { line.now ≡ [] → IfOk result (λ version. version ≡ Some Two) }
+    ensures back { (version : Version) (mode : Mode) (s : HubSettings) (books : Option ℕ) →
+        IsHeaderLine version mode s books line.now
+        → IfOk result (λ found. found ≡ Some version) }
+{
+    if line.is_empty() {
+        return Ok(Some(Version::Two));
+    }
+    match value_of(alloc, without_newline(line))? {
+        Some(value) => Ok(version_in(&value)),
+        None => Ok(Some(Version::Two)),
+    }
+}
+
+/// Returns the version that a first line tells that is this JSON, or `None` if no log begins so.
+fn version_in(value: &Value) -> Option<Version>
+    ensures { (version : Version) →
+        number_in (codes "version") (view value.now) ≡ Some (number_of version) →
+        result ≡ Some version }
+{
+    if value.get("log").is_none() && value.get("version").is_none() {
+        return None;
+    }
+    match number(value, "version") {
+        Some(1) => Some(Version::One),
+        _ => Some(Version::Two),
+    }
+}
+
+/// Returns how many lines of books follow the first line of a log, given with its newline, or
+/// `None` if it begins otherwise: with other settings than these, or for a hub that opens for the
+/// first time.
+pub(crate) fn books_behind(
+    alloc: Global,
+    version: Version,
+    mode: Mode,
+    settings: &Settings,
+    first: &[u8],
+) -> Result<Option<u64>, AllocError>
+    ensures none { first.now ≡ [] → IfOk result (λ count. count ≡ None) }
+    ensures back { (books : Option ℕ) → IsHeaderLine version mode settings.now books first.now →
+        IfOk result (λ count. count ≡ books) }
+{
+    if first.is_empty() {
+        return Ok(None);
+    }
+    let line = without_newline(first);
+    let Some(count) = books_of(alloc, first)? else {
+        return Ok(None);
+    };
+    let expected = header_line(alloc, version, mode, settings, Some(count))?;
+    if expected.as_bytes() != line {
+        return Ok(None);
+    }
+    Ok(Some(count))
+}
+
+/// Returns how many lines of books a first line tells of.
+fn books_of(alloc: Global, line: &[u8]) -> Result<Option<u64>, AllocError>
+    ensures { (version : Version) (mode : Mode) (s : HubSettings) (books : Option ℕ) →
+        IsHeaderLine version mode s books line.now
+        → IfOk result (λ count. count ≡ books) }
+{
+    match value_of(alloc, without_newline(line))? {
+        Some(value) => Ok(number(&value, "books")),
+        None => Ok(None),
+    }
+}

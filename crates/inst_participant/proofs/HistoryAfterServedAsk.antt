@@ -1,0 +1,82 @@
+-- A participant serves an ask: its history grows, and the ticket is that of the reply.
+use Rattle.std.proofs.Common.{◌≡◌, ℕ, List, [], ◌∷◌, ◌++◌, append-nil, ⊎_elim, sym, ap, ◌∙◌, subst, Option, Some, None}
+use Rattle.std.specs.Prelude.{Result}
+use mathlib.Core.List.{IsPrefix}
+use Rattle.inst_base.specs.declared.fault.Fault.{Fault}
+use Rattle.inst_settings.specs.Settings.{HubSettings}
+use Rattle.inst_command.specs.declared.ask.Ask.{Ask}
+use Rattle.inst_command.specs.declared.outcome.Outcome.{Outcome}
+use Rattle.inst_command.specs.declared.reply.Reply.{Reply}
+use Rattle.inst_command.specs.declared.reply.Reply.TheVariants.{Done, Taken, State, Inbox, Position, Statement, Refused}
+use Rattle.inst_command.specs.declared.place.Place.{Place}
+use Rattle.inst_board.specs.declared.wish.Wish.{Wish}
+use Rattle.inst_board.specs.declared.about.Fact.{Fact}
+use Rattle.inst_journal.specs.declared.event.Event.{Event}
+use Rattle.inst_journal.specs.Sound.{IsSound}
+use Rattle.inst_journal.specs.Reply.{handle, told as told_of, kept_events}
+use Rattle.inst_model.specs.Trace.{as_reply}
+use Rattle.inst_cell.specs.declared.sight.Sight.{Sight}
+use Rattle.inst_cell.specs.Held.{settings_of, knows, has_role}
+use Rattle.inst_cell.specs.Seen.{sees}
+use Rattle.inst_slot.specs.Book.{Book, place_of}
+use Rattle.inst_slot.specs.Asking.{request, handle_ask, Applies, AppliesTo}
+use Rattle.inst_participant.specs.declared.participant.Participant.{Participant}
+use Rattle.inst_participant.specs.LockLaw.{IsReady}
+use Rattle.inst_participant.specs.Answers.{Answered, IsTicket}
+use Rattle.inst_participant.specs.inner.Telling.{IsToldBy}
+use Rattle.inst_participant.specs.Told.{IsToldMore}
+use Rattle.inst_participant.proofs.TicketOfReply.{IsReplied, ticket_taken, ticket_state}
+
+prefix_still : (J K : List Event) → K ≡ J → IsPrefix J K
+prefix_still J K e = ([], append-nil J ∙ sym e)
+
+prefix_more : (J K L : List Event) → K ≡ J ++ L → IsPrefix J K
+prefix_more J K L e = (L, sym e)
+
+-- an ask keeps the history and adds to it
+pub grows : {B : Type 0} (margin : ℕ) (known : B → Fact → Type 0) (role : B → ℕ → Type 0) (stood : B → Place → Outcome → Type 0) (stays : B → B → Type 0)
+    (b c : B) (book : Book) (ask : Ask) (result : Result Reply Fault) (new : Book)
+    → Applies margin known role stood stays b book ask result c new → IsPrefix book.events new.events
+grows {B} margin known role stood stays b c book ask result new applies = go (request book ask.command) applies
+  where
+    go : (asked : Option (Place × Wish)) → AppliesTo margin known role stood stays b book ask asked result c new → IsPrefix book.events new.events
+    go None e = ⊎_elim
+        (λ answered. prefix_more book.events new.events (kept_events (handle_ask book ask None)) (ap (λ (x : Book). x.events) answered.1))
+        (λ refused. prefix_still book.events new.events (ap (λ (x : Book). x.events) refused.1)) e
+    go (Some asked) e = ⊎_elim
+        (λ settled. prefix_more book.events new.events (kept_events (handle_ask book ask settled.0)) (ap (λ (x : Book). x.events) settled.2))
+        (λ refused. prefix_still book.events new.events (ap (λ (x : Book). x.events) refused.1)) e
+
+-- the ticket of a reply, where the participant x answered, and y told the teller
+pub its_ticket : (x y : Participant) (u : Sight) (ask : Ask) (reply : Reply) (ticket : Option Place)
+    → IsReady y → y.slot.who ≡ x.slot.who → y.slot.settings ≡ x.slot.settings → ask.who ≡ x.slot.who → IsSound y.slot.settings y.slot.who y.slot.events
+    → Answered x.slot.settings x.slot.who x.slot.events ask reply y.slot.events
+    → IsToldBy y ask.who reply u ticket → IsTicket (sees u) x.slot.settings x.slot.who ask.command y.slot.events reply ticket
+its_ticket x y u ask reply ticket ready same_who same_settings own sound answered told = go reply told replied
+  where
+    replied : IsReplied x.slot.settings x.slot.events ask.command ask.at answered.found reply y.slot
+    replied = record {
+      settings_are = same_settings;
+      reply_is = subst (λ (n : ℕ). reply ≡ as_reply (told_of (handle x.slot.settings n x.slot.events ask.command ask.at answered.found))) (sym same_who) answered.reply_is;
+      kept = subst (λ (n : ℕ). y.slot.events ≡ x.slot.events ++ kept_events (handle x.slot.settings n x.slot.events ask.command ask.at answered.found)) (sym same_who) answered.kept;
+      sound = subst (λ (s : HubSettings). IsSound s y.slot.who y.slot.events) same_settings sound;
+    }
+
+    mine : ask.who ≡ y.slot.who
+    mine = own ∙ sym same_who
+
+    go : (r : Reply) → IsToldBy y ask.who r u ticket → IsReplied x.slot.settings x.slot.events ask.command ask.at answered.found r y.slot → IsTicket (sees u) x.slot.settings x.slot.who ask.command y.slot.events r ticket
+    go (Taken id deadline) t rep = subst (λ (n : ℕ). IsTicket (sees u) x.slot.settings n ask.command y.slot.events (Taken id deadline) ticket) same_who
+        (ticket_taken settings_of knows has_role y.board y.slot x.slot.settings x.slot.events ask.command ask.at answered.found id deadline ticket (sees u) ready.lawful ready.adopted rep
+        (t.0 ∙ ap (λ (n : ℕ). place_of y.slot n id) mine) t.1)
+    go (State from id state) t rep = subst (λ (n : ℕ). IsTicket (sees u) x.slot.settings n ask.command y.slot.events (State from id state) ticket) same_who
+        (ticket_state settings_of knows has_role y.board y.slot x.slot.settings x.slot.events ask.command ask.at answered.found from id state ticket (sees u) ready.lawful ready.adopted rep t.0 t.1)
+    go (Done reference) t rep = t
+    go (Inbox entries) t rep = t
+    go (Position p r a) t rep = t
+    go (Statement lines) t rep = t
+    go (Refused fault) t rep = t
+
+-- a history that is told one event more, if any, grows
+pub told_grows : (J K : List Event) → IsToldMore J K → IsPrefix J K
+told_grows J K told = ⊎_elim (λ same. prefix_still J K same) (λ more. prefix_more J K (more.0 ∷ []) more.2) told

@@ -1,0 +1,117 @@
+-- How what the words ask for is done, or ends, in each of the parts that the program's run has.
+-- Exit statuses are this hub's own choice.
+use Rattle.std.specs.Prelude.{◌≡◌, ◌≢◌, ◌⊎◌, ℕ, List, Option, Some, None, IfSome, IsTrue}
+use Rattle.clap.specs.Words.{kind_of}
+use Rattle.clap.specs.declared.error.kind.ErrorKind.{ErrorKind}
+use Rattle.clap.specs.declared.error.kind.ErrorKind.TheVariants.{DisplayHelp, DisplayVersion}
+use Rattle.inst_base.specs.declared.fault.Fault.TheVariants.{BadSettings, Memory, WriteFault}
+use Rattle.inst_settings.specs.Settings.{HubSettings}
+use Rattle.inst_lines.specs.Answering.{hub_answerer, opened}
+use Rattle.inst_lines.specs.Check.{TellsPart}
+use Rattle.inst_lines.specs.Session.{FailsAfter}
+use Rattle.inst_lines.specs.declared.mode.Mode.{Mode}
+use Rattle.inst_drill.specs.declared.error.DrillError.{DrillError}
+use Rattle.inst_drill.specs.declared.error.DrillError.TheVariants as drill
+use Rattle.inst_options.specs.AnyFault.{IsNamed}
+use Rattle.inst_options.specs.LogFault.{status_of_log}
+use Rattle.inst_options.specs.declared.any_fault.AnyFault.{AnyFault}
+use Rattle.inst_options.specs.declared.error.WordsError.{WordsError}
+use Rattle.inst_options.specs.declared.error.WordsError.TheVariants as error
+use Rattle.inst_options.specs.declared.invocation.LogOptions.{LogOptions}
+use Rattle.inst_program.specs.declared.exit_reason.ExitReason.{ExitReason}
+use Rattle.inst_program.specs.declared.exit_reason.ExitReason.TheVariants as ending
+use Rattle.inst_program.specs.declared.logs.LogsError.{LogsError}
+use Rattle.inst_program.specs.declared.logs.LogsError.TheVariants as opening
+use Rattle.inst_logged.specs.Streams.{Streams}
+use Rattle.inst_program.specs.Files.{Change, Files, IsAsItWas, OthersStay, Stay, change_of}
+use Rattle.inst_program.specs.Keeping.{IsUntaken, KeepsAFront, KeepsLines, KeptRun, kept_run}
+use Rattle.inst_program.specs.Program.{status_of, AnswersInput, Failed, Refused}
+
+-- for words that ask for nothing that can be done: 0 where they ask for a text
+abbrev pub status_of_kind : ErrorKind → ℕ
+status_of_kind DisplayHelp = 0
+status_of_kind DisplayVersion = 0
+status_of_kind _ = 2
+
+abbrev pub status_of_error : WordsError → ℕ
+status_of_error (error.Words e) = status_of_kind (kind_of e)
+status_of_error (error.Option bad) = 2
+status_of_error (error.Fault fault) = status_of fault
+
+-- the exit status for them: 3 too, where a text that they ask for can't be written
+abbrev pub IsErrorStatus : WordsError → ℕ → Type 0
+IsErrorStatus e status = (status ≡ status_of_error e) ⊎ ((status_of_error e ≡ 0) × (status ≡ 3))
+
+-- how the program ends by an error of opening a log
+abbrev pub ending_of_error : LogsError → ExitReason
+ending_of_error opening.Memory = ending.Fault Memory
+ending_of_error (opening.Log fault) = ending.Log fault
+
+-- and by an error of a drill
+abbrev pub ending_of_drill : DrillError → ExitReason
+ending_of_drill (drill.Fault fault) = ending.Fault fault
+ending_of_drill drill.NoInterleaving = ending.NoInterleaving
+
+-- and for words whose task wasn't done
+abbrev pub status_of_ending : ExitReason → ℕ
+status_of_ending (ending.Fault fault) = status_of fault
+status_of_ending (ending.Log fault) = status_of_log fault
+status_of_ending ending.Unexplained = 2
+status_of_ending ending.NoInterleaving = 3
+status_of_ending ending.ScriptNotEmpty = 2
+
+-- how an explanation ends: no fault is named so, and nothing is written, or one is, and the writer
+-- failed
+abbrev pub IsUnexplained : List ℕ → Type 0 → ExitReason → Type 0
+IsUnexplained word unwritten (ending.Fault fault) =
+    (fault ≡ WriteFault) × ((named : AnyFault) × IsNamed word named)
+IsUnexplained word unwritten (ending.Log fault) = ⊥
+IsUnexplained word unwritten ending.Unexplained =
+    unwritten × ((fault : AnyFault) → ¬ (IsNamed word fault))
+IsUnexplained word unwritten ending.NoInterleaving = ⊥
+IsUnexplained word unwritten ending.ScriptNotEmpty = ⊥
+
+-- a run with a log ends with this exit status: the log isn't taken, and nothing was done, or some
+-- lines were answered in_use: another program has it open
+pub record IsUnkept (run : KeptRun) (t : Streams) (mixes in_use faith : Type 0) (c : Change)
+    (status : ℕ) : Type 0 where
+  pub refused : status ≡ 2 →
+      t.unread × t.unwritten × (faith → IsAsItWas c) × (in_use ⊎ (faith → IsUntaken run c.was))
+  pub front : KeepsAFront run t mixes faith c
+
+-- the lines of the reader are answered at a hub of these settings, with this log
+abbrev pub IsAnswered : Mode → HubSettings → Option LogOptions → Streams → Files → Files → Type 0
+IsAnswered mode s None t old new = AnswersInput mode s t × Stay old new
+IsAnswered mode s (Some log) t old new =
+    KeepsLines (kept_run mode s log) t (IsTrue new.is_clean) (change_of old new log.path.now)
+    × OthersStay old new log.path.now
+
+-- they are not, and the program ends so
+abbrev pub IsUnanswered : Mode → HubSettings → Option LogOptions → Streams → Files → Files →
+    ExitReason → Type 0
+IsUnanswered mode s None t old new (ending.Fault fault) =
+    FailsAfter (hub_answerer mode) (opened s) t.held t.held' t.left t.left' fault × Stay old new
+IsUnanswered mode s None t old new (ending.Log fault) = ⊥
+IsUnanswered mode s None t old new ending.Unexplained = ⊥
+IsUnanswered mode s None t old new ending.NoInterleaving = ⊥
+IsUnanswered mode s None t old new ending.ScriptNotEmpty = ⊥
+IsUnanswered mode s (Some log) t old new e =
+    IsUnkept (kept_run mode s log) t old.mixes (new.in_use log.path.now) (IsTrue new.is_clean)
+    (change_of old new log.path.now) (status_of_ending e)
+    × OthersStay old new log.path.now
+
+-- a check is ended by this fault, when no more than a front was told
+abbrev pub IsUnchecked : HubSettings → Option (List ℕ) → Option (List ℕ) → Option (List ℕ) →
+    ExitReason → Type 0
+IsUnchecked s left held held' (ending.Fault fault) =
+    (fault ≢ BadSettings) × IfSome left (λ bytes. TellsPart s bytes held held')
+IsUnchecked s left held held' (ending.Log fault) = ⊥
+IsUnchecked s left held held' ending.Unexplained = ⊥
+IsUnchecked s left held held' ending.NoInterleaving = ⊥
+IsUnchecked s left held held' ending.ScriptNotEmpty = ⊥
+
+-- the words' task isn't done, and this is the exit status
+pub record IsUndone (words : List (List ℕ)) (t : Streams) (old new : Files) (status : ℕ) : Type 0
+  where
+    pub refused : status ≡ 2 → Refused words t old new
+    pub failed : status ≡ 3 → Failed words t old new

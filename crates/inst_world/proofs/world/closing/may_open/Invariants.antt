@@ -1,7 +1,0 @@
-use Rattle.std.proofs.Common.{◌<◌, ℕ}
-use Rattle.inst_journal.specs.Opened.{HasOpeningsLeft}
-use Rattle.inst_world.specs.NextOpening.{books_of}
-use Rattle.inst_world.proofs.world.closing.may_open.Given as goal
-
-abbrev pub invariant-loop-journal : goal.invariant-loop-journal
-invariant-loop-journal l = (p : ℕ) → p < l.journal-index → HasOpeningsLeft (books_of l.journals p)
