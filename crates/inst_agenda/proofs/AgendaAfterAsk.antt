@@ -12,7 +12,7 @@ use Rattle.inst_model.specs.Opening.{Opening}
 use Rattle.inst_model.specs.Hub.{history}
 use Rattle.inst_model.specs.Trace.{answer}
 use Rattle.inst_model.specs.Transfer.{Transfer, at_place}
-use Rattle.inst_agenda.specs.Agenda.{Agenda, is_entry, waits, is_next}
+use Rattle.inst_agenda.specs.Agenda.{Agenda, is_entry, is_awaited, is_next}
 use Rattle.inst_agenda.specs.inner.Agenda.{Notes}
 use Rattle.inst_world.specs.HasRun.{World, world_settings, HasRun, Runs}
 use Rattle.inst_agenda.specs.inner.Naming.{named_by}
@@ -52,7 +52,7 @@ watches_ask hub middle a b ask told runs same notes O L watches =
     s : HubSettings
     s = world_settings hub
 
-    waits_same : (m p k : ℕ) → waits b m p k ≡ waits a m p k
+    waits_same : (m p k : ℕ) → is_awaited b m p k ≡ is_awaited a m p k
     waits_same m p k = ap (λ (w : List (ℕ × (ℕ × ℕ))). list_any (is_entry m p k) w) notes.waiting_is
 
     left_before : (at p k : ℕ) → IsLeft b at p k → IsLeft a at p k

@@ -9,8 +9,8 @@ use Rattle.std.proofs.lemmas.Bool.{false≢true, cases_Bool}
 use Rattle.std.proofs.lemmas.Bool.Decides.{nat_tests}
 use Rattle.inst_base.specs.TimeLimit.{is_due}
 use Rattle.inst_command.specs.declared.place.Place.{Place}
-use Rattle.inst_agenda.specs.Agenda.{is_place, is_entry}
-use Rattle.inst_agenda.specs.inner.Agenda.{comes_before, Notes, Waits, NothingIsDue, TakesNext}
+use Rattle.inst_agenda.specs.Agenda.{is_same_place, is_entry}
+use Rattle.inst_agenda.specs.inner.Agenda.{place_comes_before, Notes, Waits, NothingIsDue, TakesNext}
 
 -- how the sets compare two places, and two entries
 abbrev pub place_cmp : ℕ × ℕ → ℕ × ℕ → Ordering
@@ -20,15 +20,15 @@ abbrev pub entry_cmp : ℕ × (ℕ × ℕ) → ℕ × (ℕ × ℕ) → Ordering
 entry_cmp one other = ordering_then (nat_cmp one.0 other.0) (place_cmp one.1 other.1)
 
 -- a place that compares equal is the place itself
-same_place : (p k : ℕ) (place : ℕ × ℕ) → is_at (place_cmp (p, k)) place ≡ is_place p k place
+same_place : (p k : ℕ) (place : ℕ × ℕ) → is_at (place_cmp (p, k)) place ≡ is_same_place p k place
 same_place p k place = grind (arith, nat_tests)
 
 same_entry : (m p k : ℕ) (entry : ℕ × (ℕ × ℕ)) → is_at (entry_cmp (m, (p, k))) entry ≡ is_entry m p k entry
 same_entry m p k entry = grind (arith, nat_tests)
 
-any_place : (places : List (ℕ × ℕ)) (p k : ℕ) → list_any (is_place p k) places ≡ list_any (is_at (place_cmp (p, k))) places
+any_place : (places : List (ℕ × ℕ)) (p k : ℕ) → list_any (is_same_place p k) places ≡ list_any (is_at (place_cmp (p, k))) places
 any_place [] p k = refl
-any_place (place ∷ places) p k = ap (λ b. b || list_any (is_place p k) places) (sym (same_place p k place)) ∙ ap (λ b. is_at (place_cmp (p, k)) place || b) (any_place places p k)
+any_place (place ∷ places) p k = ap (λ b. b || list_any (is_same_place p k) places) (sym (same_place p k place)) ∙ ap (λ b. is_at (place_cmp (p, k)) place || b) (any_place places p k)
 
 any_entry : (entries : List (ℕ × (ℕ × ℕ))) (m p k : ℕ) → list_any (is_entry m p k) entries ≡ list_any (is_at (entry_cmp (m, (p, k)))) entries
 any_entry [] m p k = refl
@@ -47,7 +47,7 @@ notes waiting s n place updates = record {
   waiting_is = refl;
   next_are = λ p k.
       any_place n.keys p k ∙ updates.0 (p, k) ∙ ap (λ b. cond b true (contains place_cmp s (p, k))) (same_place place.owner place.index (p, k))
-      ∙ either (is_place place.owner place.index (p, k)) (contains place_cmp s (p, k)) ∙ ap (λ b. b || is_place place.owner place.index (p, k)) (sym (any_place s.keys p k));
+      ∙ either (is_same_place place.owner place.index (p, k)) (contains place_cmp s (p, k)) ∙ ap (λ b. b || is_same_place place.owner place.index (p, k)) (sym (any_place s.keys p k));
 }
 
 -- an entry that was put in
@@ -69,14 +69,14 @@ none_is_due next s first at least early m p k waiting = later (least (m, (p, k))
     later not_before early = grind (arith, nat_tests, not_before, early)
 
 -- those that are above the first come after it
-pub above : (first : ℕ × ℕ) (places : List (ℕ × ℕ)) → All (IsLtBy place_cmp first) places → (p k : ℕ) → list_any (is_place p k) places ≡ true → comes_before first (p, k) ≡ true
+pub above : (first : ℕ × ℕ) (places : List (ℕ × ℕ)) → All (IsLtBy place_cmp first) places → (p k : ℕ) → list_any (is_same_place p k) places ≡ true → place_comes_before first (p, k) ≡ true
 above first [] all p k there = absurd (false≢true there)
-above first (place ∷ places) all p k there = elim (cases_Bool (is_place p k place)) [
+above first (place ∷ places) all p k there = elim (cases_Bool (is_same_place p k place)) [
   | inl same ↦ here same (all 0 place (omega arith))
-  | inr other ↦ above first places (λ i d below. all (suc i) d (omega (arith, below))) p k (sym (ap (λ b. b || list_any (is_place p k) places) other) ∙ there)
+  | inr other ↦ above first places (λ i d below. all (suc i) d (omega (arith, below))) p k (sym (ap (λ b. b || list_any (is_same_place p k) places) other) ∙ there)
 ]
   where
-    here : is_place p k place ≡ true → IsLtBy place_cmp first place → comes_before first (p, k) ≡ true
+    here : is_same_place p k place ≡ true → IsLtBy place_cmp first place → place_comes_before first (p, k) ≡ true
     here same less = grind (arith, nat_tests, same, less)
 
 -- the first of the next was taken out

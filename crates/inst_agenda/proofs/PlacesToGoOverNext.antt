@@ -7,7 +7,7 @@ use Rattle.inst_command.specs.declared.step.Step.{Step}
 use Rattle.inst_model.specs.Opening.{Opening}
 use Rattle.inst_model.specs.Hub.{history}
 use Rattle.inst_model.specs.Transfer.{Transfer, at_place}
-use Rattle.inst_agenda.specs.Agenda.{Agenda, is_place, is_next}
+use Rattle.inst_agenda.specs.Agenda.{Agenda, is_same_place, is_next}
 use Rattle.inst_agenda.specs.inner.Agenda.{Notes}
 use Rattle.inst_world.specs.HasRun.{World, world_settings, HasRun}
 use Rattle.inst_agenda.specs.inner.Watching.{NotesSome}
@@ -16,14 +16,14 @@ use Rattle.inst_agenda.specs.inner.Watching.{NotesSome}
 pub notes_more : (a b c : Agenda) (place : Place) (from : ℕ) → place.owner ≡ from → NotesSome a b from → Notes b c place → NotesSome a c from
 notes_more a b c place from own some notes = record {
   waiting_is = notes.waiting_is ∙ some.waiting_is;
-  next_still = λ p k it. notes.next_are p k ∙ ap (λ (t : Bool). t || is_place place.owner place.index (p, k)) (some.next_still p k it);
-  next_from = λ p k it. elim (or_cases (is_next b p k) (is_place place.owner place.index (p, k)) (sym (notes.next_are p k) ∙ it)) [
+  next_still = λ p k it. notes.next_are p k ∙ ap (λ (t : Bool). t || is_same_place place.owner place.index (p, k)) (some.next_still p k it);
+  next_from = λ p k it. elim (or_cases (is_next b p k) (is_same_place place.owner place.index (p, k)) (sym (notes.next_are p k) ∙ it)) [
     | inl before ↦ some.next_from p k before
     | inr now ↦ inr (at_owner p k now)
   ];
 }
   where
-    at_owner : (p k : ℕ) → is_place place.owner place.index (p, k) ≡ true → p ≡ from
+    at_owner : (p k : ℕ) → is_same_place place.owner place.index (p, k) ≡ true → p ≡ from
     at_owner p k now = grind (arith, nat_tests, own, now)
 
 pub notes_none : (a : Agenda) (from : ℕ) → NotesSome a a from
@@ -32,7 +32,7 @@ notes_none a from = record { waiting_is = refl; next_still = λ p k it. it; next
 pub noted_here : (a b : Agenda) (place : Place) → Notes a b place → is_next b place.owner place.index ≡ true
 noted_here a b place notes = notes.next_are place.owner place.index ∙ or_true (is_next a place.owner place.index) here
   where
-    here : is_place place.owner place.index (place.owner, place.index) ≡ true
+    here : is_same_place place.owner place.index (place.owner, place.index) ≡ true
     here = grind (arith, nat_tests)
 
     or_true : (x : Bool) {y : Bool} → y ≡ true → (x || y) ≡ true

@@ -12,8 +12,8 @@ use Rattle.inst_model.specs.Opening.{Opening, IsOpening}
 use Rattle.inst_model.specs.Interleaving.{IsInterleaving}
 use Rattle.inst_model.specs.Transfer.{Transfer, live_transfers, at_place, deadline}
 use Rattle.inst_model.specs.Hub.{outcome, history}
-use Rattle.inst_agenda.specs.Agenda.{Agenda, waits, is_next, is_place, is_entry}
-use Rattle.inst_agenda.specs.inner.Agenda.{comes_before, NothingIsDue, Moves, TakesNext}
+use Rattle.inst_agenda.specs.Agenda.{Agenda, is_awaited, is_next, is_same_place, is_entry}
+use Rattle.inst_agenda.specs.inner.Agenda.{place_comes_before, NothingIsDue, Moves, TakesNext}
 use Rattle.inst_agenda.specs.FollowUps.{of_transfer, followed_up}
 use Rattle.inst_world.specs.HasRun.{World, world_settings, HasRun}
 use Rattle.inst_agenda.specs.Resting.{Rests}
@@ -58,7 +58,7 @@ place_cases p k o i = elim (cases_eq p o) [
 
 -- an agenda after the transfer at a place was gone over
 agenda_after : (s : HubSettings) (O : Opening) (M : List Step) (at o i to : ℕ) (a b : Agenda) → HasRunAs s O M → IsAgendaOf s O M a
-    → ((p k : ℕ) → is_next b p k ≡ true → is_participant s p ≡ true) → ((m p k : ℕ) → waits b m p k ≡ true → is_participant s p ≡ true)
+    → ((p k : ℕ) → is_next b p k ≡ true → is_participant s p ≡ true) → ((m p k : ℕ) → is_awaited b m p k ≡ true → is_participant s p ≡ true)
     → ((t p k : ℕ) → (p ≢ o) ⊎ (k ≢ i) → IsLeft b t p k → IsLeft a t p k)
     → ((x : Transfer) (t : ℕ) → at_place o (history s O M o) i ≡ Some x → IsLeft b t o i → Rests s O (reverse (of_transfer at o i to) ++ M) t o x)
     → IsAgendaOf s O (reverse (of_transfer at o i to) ++ M) b
@@ -139,8 +139,8 @@ pub record IsGoing (s : HubSettings) (O : Opening) (L : List Step) (at : ℕ) (h
   pub index : ℕ
   pub within : (is_participant s owner ≡ true) ⊎ ((owner ≡ 0) × (index ≡ 0))
   pub watches : WatchesAs s O (reach s O L at owner index) hub a
-  pub ahead : (p k : ℕ) → is_next a p k ≡ true → comes_before (p, k) (owner, index) ≡ false
-  pub none_due : (m p k : ℕ) → waits a m p k ≡ true → (comes_before (p, k) (owner, index) ≡ true) ⊎ (at < m)
+  pub ahead : (p k : ℕ) → is_next a p k ≡ true → place_comes_before (p, k) (owner, index) ≡ false
+  pub none_due : (m p k : ℕ) → is_awaited a m p k ≡ true → (place_comes_before (p, k) (owner, index) ≡ true) ⊎ (at < m)
 
 -- it has not begun
 pub going_at_first : (s : HubSettings) (O : Opening) (L : List Step) (at : ℕ) (hub : World) (a b : Agenda) → world_settings hub ≡ s → Moves a b → NothingIsDue b at → Watches O L hub a → IsGoing s O L at hub b
@@ -173,19 +173,19 @@ going_at_first s O L at hub a b same moves none w =
     not_true true never = absurd (never refl)
     not_true false never = refl
 
-    nothing_before : (p k : ℕ) → comes_before (p, k) (0, 0) ≡ false
+    nothing_before : (p k : ℕ) → place_comes_before (p, k) (0, 0) ≡ false
     nothing_before p k = grind (arith, nat_tests)
 
     later : (m : ℕ) → is_due m at ≡ false → at < m
     later m early = grind (arith, nat_tests, early)
 
 -- what lies between where a run stands and the first of the next is left
-between : (a b : Agenda) (at o i : ℕ) (place : Place) → TakesNext a b place → ((m p k : ℕ) → waits a m p k ≡ true → (comes_before (p, k) (o, i) ≡ true) ⊎ (at < m))
-    → (p k : ℕ) → comes_before (p, k) (o, i) ≡ false → comes_before (p, k) (place.owner, place.index) ≡ true → IsLeft a at p k
+between : (a b : Agenda) (at o i : ℕ) (place : Place) → TakesNext a b place → ((m p k : ℕ) → is_awaited a m p k ≡ true → (place_comes_before (p, k) (o, i) ≡ true) ⊎ (at < m))
+    → (p k : ℕ) → place_comes_before (p, k) (o, i) ≡ false → place_comes_before (p, k) (place.owner, place.index) ≡ true → IsLeft a at p k
 between a b at o i place takes none_due p k from below = record {
   not_next = elim (cases_Bool (is_next a p k)) [
     | inr none ↦ none
-    | inl next ↦ elim (or_cases (is_place p k (place.owner, place.index)) (is_next b p k) (sym (ap (λ (n : List (ℕ × ℕ)). list_any (is_place p k) n) takes.first) ∙ next)) [
+    | inl next ↦ elim (or_cases (is_same_place p k (place.owner, place.index)) (is_next b p k) (sym (ap (λ (n : List (ℕ × ℕ)). list_any (is_same_place p k) n) takes.first) ∙ next)) [
       | inl here ↦ absurd (at_itself here below)
       | inr later ↦ absurd (both below (takes.after p k later))
     ]
@@ -196,16 +196,16 @@ between a b at o i place takes none_due p k from below = record {
   ];
 }
   where
-    at_itself : is_place p k (place.owner, place.index) ≡ true → comes_before (p, k) (place.owner, place.index) ≡ true → ⊥
+    at_itself : is_same_place p k (place.owner, place.index) ≡ true → place_comes_before (p, k) (place.owner, place.index) ≡ true → ⊥
     at_itself here below = grind (arith, nat_tests, here, below)
 
-    both : comes_before (p, k) (place.owner, place.index) ≡ true → comes_before (place.owner, place.index) (p, k) ≡ true → ⊥
+    both : place_comes_before (p, k) (place.owner, place.index) ≡ true → place_comes_before (place.owner, place.index) (p, k) ≡ true → ⊥
     both below above = grind (arith, nat_tests, below, above)
 
 first_is_next : (a b : Agenda) (place : Place) → TakesNext a b place → is_next a place.owner place.index ≡ true
-first_is_next a b place takes = ap (λ (n : List (ℕ × ℕ)). list_any (is_place place.owner place.index) n) takes.first ∙ ap (λ (c : Bool). c || is_next b place.owner place.index) here
+first_is_next a b place takes = ap (λ (n : List (ℕ × ℕ)). list_any (is_same_place place.owner place.index) n) takes.first ∙ ap (λ (c : Bool). c || is_next b place.owner place.index) here
   where
-    here : is_place place.owner place.index (place.owner, place.index) ≡ true
+    here : is_same_place place.owner place.index (place.owner, place.index) ≡ true
     here = grind (arith, nat_tests)
 
 -- a run skips to the first of the next
@@ -236,31 +236,31 @@ skips_to s O L at hub a b place takes g = elim (cases_eq g.owner place.owner) [
     named : is_participant s place.owner ≡ true
     named = g.watches.is_agenda.next_named place.owner place.index (first_is_next a b place takes)
 
-    not_behind : comes_before (place.owner, place.index) (g.owner, g.index) ≡ false
+    not_behind : place_comes_before (place.owner, place.index) (g.owner, g.index) ≡ false
     not_behind = g.ahead place.owner place.index (first_is_next a b place takes)
 
-    left : (p k : ℕ) → comes_before (p, k) (g.owner, g.index) ≡ false → comes_before (p, k) (place.owner, place.index) ≡ true → IsLeft a at p k
+    left : (p k : ℕ) → place_comes_before (p, k) (g.owner, g.index) ≡ false → place_comes_before (p, k) (place.owner, place.index) ≡ true → IsLeft a at p k
     left p k from below = between a b at g.owner g.index place takes g.none_due p k from below
 
-    same_owner : g.owner ≡ place.owner → comes_before (place.owner, place.index) (g.owner, g.index) ≡ false → g.index ≤ place.index
+    same_owner : g.owner ≡ place.owner → place_comes_before (place.owner, place.index) (g.owner, g.index) ≡ false → g.index ≤ place.index
     same_owner same behind = grind (arith, nat_tests, same, behind)
 
-    other_owner : g.owner ≢ place.owner → comes_before (place.owner, place.index) (g.owner, g.index) ≡ false → g.owner < place.owner
+    other_owner : g.owner ≢ place.owner → place_comes_before (place.owner, place.index) (g.owner, g.index) ≡ false → g.owner < place.owner
     other_owner other behind = grind (arith, nat_tests, other, behind)
 
-    on_from : (k : ℕ) → g.owner ≡ place.owner → g.index ≤ k → comes_before (place.owner, k) (g.owner, g.index) ≡ false
+    on_from : (k : ℕ) → g.owner ≡ place.owner → g.index ≤ k → place_comes_before (place.owner, k) (g.owner, g.index) ≡ false
     on_from k same above = grind (arith, nat_tests, same, above)
 
-    on_to : (k : ℕ) → k < place.index → comes_before (place.owner, k) (place.owner, place.index) ≡ true
+    on_to : (k : ℕ) → k < place.index → place_comes_before (place.owner, k) (place.owner, place.index) ≡ true
     on_to k below = grind (arith, nat_tests, below)
 
-    own_from : (k : ℕ) → g.index ≤ k → comes_before (g.owner, k) (g.owner, g.index) ≡ false
+    own_from : (k : ℕ) → g.index ≤ k → place_comes_before (g.owner, k) (g.owner, g.index) ≡ false
     own_from k above = grind (arith, nat_tests, above)
 
-    later_from : (p k : ℕ) → g.owner < p → comes_before (p, k) (g.owner, g.index) ≡ false
+    later_from : (p k : ℕ) → g.owner < p → place_comes_before (p, k) (g.owner, g.index) ≡ false
     later_from p k above = grind (arith, nat_tests, above)
 
-    before_owner : (p k : ℕ) → p < place.owner → comes_before (p, k) (place.owner, place.index) ≡ true
+    before_owner : (p k : ℕ) → p < place.owner → place_comes_before (p, k) (place.owner, place.index) ≡ true
     before_owner p k below = grind (arith, nat_tests, below)
 
 -- and behind the last of the next it skips to the end
@@ -281,22 +281,22 @@ skips_to_the_end s O L at hub a none g =
           (skipped_originators s O L at 0 (participants s) hub a (omega (arith, up)) (λ p k above below. left p k (at_first p k first.0 first.1)) start)
     ]))
   where
-    left : (p k : ℕ) → comes_before (p, k) (g.owner, g.index) ≡ false → IsLeft a at p k
+    left : (p k : ℕ) → place_comes_before (p, k) (g.owner, g.index) ≡ false → IsLeft a at p k
     left p k from = record {
-      not_next = ap (λ (n : List (ℕ × ℕ)). list_any (is_place p k) n) none;
+      not_next = ap (λ (n : List (ℕ × ℕ)). list_any (is_same_place p k) n) none;
       not_due = λ m it. elim (g.none_due m p k it) [
         | inl before ↦ absurd (false≢true (sym from ∙ before))
         | inr early ↦ early
       ];
     }
 
-    own_from : (k : ℕ) → g.index ≤ k → comes_before (g.owner, k) (g.owner, g.index) ≡ false
+    own_from : (k : ℕ) → g.index ≤ k → place_comes_before (g.owner, k) (g.owner, g.index) ≡ false
     own_from k above = grind (arith, nat_tests, above)
 
-    later_from : (p k : ℕ) → g.owner < p → comes_before (p, k) (g.owner, g.index) ≡ false
+    later_from : (p k : ℕ) → g.owner < p → place_comes_before (p, k) (g.owner, g.index) ≡ false
     later_from p k above = grind (arith, nat_tests, above)
 
-    at_first : (p k : ℕ) → g.owner ≡ 0 → g.index ≡ 0 → comes_before (p, k) (g.owner, g.index) ≡ false
+    at_first : (p k : ℕ) → g.owner ≡ 0 → g.index ≡ 0 → place_comes_before (p, k) (g.owner, g.index) ≡ false
     at_first p k owner index = grind (arith, nat_tests, owner, index)
 
 -- the first of the next was gone over
@@ -329,26 +329,26 @@ goes_on s O L at hub new a b c place takes same next goes g = record {
     named : is_participant s place.owner ≡ true
     named = g.watches.is_agenda.next_named place.owner place.index (first_is_next a b place takes)
 
-    not_behind : comes_before (place.owner, place.index) (g.owner, g.index) ≡ false
+    not_behind : place_comes_before (place.owner, place.index) (g.owner, g.index) ≡ false
     not_behind = g.ahead place.owner place.index (first_is_next a b place takes)
 
     next_same : (p k : ℕ) → is_next c p k ≡ is_next b p k
-    next_same p k = ap (λ (n : List (ℕ × ℕ)). list_any (is_place p k) n) next
+    next_same p k = ap (λ (n : List (ℕ × ℕ)). list_any (is_same_place p k) n) next
 
-    waits_same : (m p k : ℕ) → waits b m p k ≡ waits a m p k
+    waits_same : (m p k : ℕ) → is_awaited b m p k ≡ is_awaited a m p k
     waits_same m p k = ap (λ (n : List (ℕ × (ℕ × ℕ))). list_any (is_entry m p k) n) takes.waiting_is
 
-    behind : (p k : ℕ) → comes_before (place.owner, place.index) (p, k) ≡ true → comes_before (p, k) (place.owner, place.index + 1) ≡ false
+    behind : (p k : ℕ) → place_comes_before (place.owner, place.index) (p, k) ≡ true → place_comes_before (p, k) (place.owner, place.index + 1) ≡ false
     behind p k later = grind (arith, nat_tests, later)
 
-    just_behind : (p k : ℕ) → p ≡ place.owner → k ≡ place.index → comes_before (p, k) (place.owner, place.index + 1) ≡ true
+    just_behind : (p k : ℕ) → p ≡ place.owner → k ≡ place.index → place_comes_before (p, k) (place.owner, place.index + 1) ≡ true
     just_behind p k owner index = grind (arith, nat_tests, owner, index)
 
-    further : (p k : ℕ) → comes_before (p, k) (g.owner, g.index) ≡ true → comes_before (place.owner, place.index) (g.owner, g.index) ≡ false → comes_before (p, k) (place.owner, place.index + 1) ≡ true
+    further : (p k : ℕ) → place_comes_before (p, k) (g.owner, g.index) ≡ true → place_comes_before (place.owner, place.index) (g.owner, g.index) ≡ false → place_comes_before (p, k) (place.owner, place.index + 1) ≡ true
     further p k passed ahead = grind (arith, nat_tests, passed, ahead)
 
     in_a : (p k : ℕ) → is_next b p k ≡ true → is_next a p k ≡ true
-    in_a p k it = ap (λ (n : List (ℕ × ℕ)). list_any (is_place p k) n) takes.first ∙ ap (λ (x : Bool). is_place p k (place.owner, place.index) || x) it ∙ or_right (is_place p k (place.owner, place.index))
+    in_a p k it = ap (λ (n : List (ℕ × ℕ)). list_any (is_same_place p k) n) takes.first ∙ ap (λ (x : Bool). is_same_place p k (place.owner, place.index) || x) it ∙ or_right (is_same_place p k (place.owner, place.index))
       where
         or_right : (x : Bool) → (x || true) ≡ true
         or_right true = refl
@@ -357,7 +357,7 @@ goes_on s O L at hub new a b c place takes same next goes g = record {
     next_named : (p k : ℕ) → is_next c p k ≡ true → is_participant s p ≡ true
     next_named p k it = w.is_agenda.next_named p k (in_a p k (sym (next_same p k) ∙ it))
 
-    waiting_named : (m p k : ℕ) → waits c m p k ≡ true → is_participant s p ≡ true
+    waiting_named : (m p k : ℕ) → is_awaited c m p k ≡ true → is_participant s p ≡ true
     waiting_named m p k it = elim (over.waits_from m p k it) [
       | inl before ↦ w.is_agenda.waiting_named m p k (sym (waits_same m p k) ∙ before)
       | inr here ↦ ap (is_participant s) here.0 ∙ named
@@ -365,11 +365,11 @@ goes_on s O L at hub new a b c place takes same next goes g = record {
 
     others : (t p k : ℕ) → (p ≢ place.owner) ⊎ (k ≢ place.index) → IsLeft c t p k → IsLeft a t p k
     others t p k other left = record {
-      not_next = ap (λ (n : List (ℕ × ℕ)). list_any (is_place p k) n) takes.first ∙ ap (λ (x : Bool). x || is_next b p k) (elsewhere p k other) ∙ sym (next_same p k) ∙ left.not_next;
+      not_next = ap (λ (n : List (ℕ × ℕ)). list_any (is_same_place p k) n) takes.first ∙ ap (λ (x : Bool). x || is_next b p k) (elsewhere p k other) ∙ sym (next_same p k) ∙ left.not_next;
       not_due = λ m it. left.not_due m (over.waits_still m p k (waits_same m p k ∙ it));
     }
       where
-        elsewhere : (p k : ℕ) → (p ≢ place.owner) ⊎ (k ≢ place.index) → is_place p k (place.owner, place.index) ≡ false
+        elsewhere : (p k : ℕ) → (p ≢ place.owner) ⊎ (k ≢ place.index) → is_same_place p k (place.owner, place.index) ≡ false
         elsewhere p k (inl owner) = grind (arith, nat_tests, owner)
         elsewhere p k (inr index) = grind (arith, nat_tests, index)
 

@@ -10,7 +10,7 @@ use Rattle.inst_command.specs.declared.step.Step.TheVariants.{Ask}
 use Rattle.inst_model.specs.Opening.{Opening}
 use Rattle.inst_model.specs.Transfer.{Transfer, live_transfers, at_place}
 use Rattle.inst_model.specs.Hub.{history}
-use Rattle.inst_agenda.specs.FollowUps.{of_transfer, of_transfers, of_originators}
+use Rattle.inst_agenda.specs.FollowUps.{of_transfer, of_transfers, steps_of_originators}
 use Rattle.inst_world.proofs.PlaceOfNamedTransfer.{some_of}
 use Rattle.inst_world.proofs.DeliveryAndResolutionFollowModel.{takes_none, no_ask_deliver, no_ask_learn, no_ask_expire}
 
@@ -33,10 +33,10 @@ of_transfers_no_ask at p index [] = tt
 of_transfers_no_ask at p index (x ∷ xs) =
     all_append NoAsk (of_transfer at p index x.to) (of_transfers at p (suc index) xs) (of_transfer_no_ask at p index x.to) (of_transfers_no_ask at p (suc index) xs)
 
-of_originators_no_ask : (at : ℕ) (T : ℕ → List Transfer) (n : ℕ) → AllByRecursion NoAsk (of_originators at T n)
+of_originators_no_ask : (at : ℕ) (T : ℕ → List Transfer) (n : ℕ) → AllByRecursion NoAsk (steps_of_originators at T n)
 of_originators_no_ask at T zero = tt
 of_originators_no_ask at T (suc p) =
-    all_append NoAsk (of_originators at T p) (of_transfers at p 0 (T p)) (of_originators_no_ask at T p) (of_transfers_no_ask at p 0 (T p))
+    all_append NoAsk (steps_of_originators at T p) (of_transfers at p 0 (T p)) (of_originators_no_ask at T p) (of_transfers_no_ask at p 0 (T p))
 
 -- steps that are no asks take nothing
 pub same_after : (s : HubSettings) (O : Opening) (xs L : List Step) → AllByRecursion NoAsk xs → (p : ℕ) → live_transfers p (history s O (reverse xs ++ L) p) ≡ live_transfers p (history s O L p)
@@ -131,7 +131,7 @@ gone_over_places s O L at p k few =
 
 -- the transfers of the first p originators have been gone over
 abbrev pub gone_over_originators : HubSettings → Opening → List Step → ℕ → ℕ → List Step
-gone_over_originators s O L at p = reverse (of_originators at (λ (q : ℕ). live_transfers q (history s O L q)) p) ++ L
+gone_over_originators s O L at p = reverse (steps_of_originators at (λ (q : ℕ). live_transfers q (history s O L q)) p) ++ L
 
 -- those of one originator more
 pub originator_more : (s : HubSettings) (O : Opening) (L : List Step) (at p : ℕ)
@@ -139,10 +139,10 @@ pub originator_more : (s : HubSettings) (O : Opening) (L : List Step) (at p : �
     ≡ reverse (of_transfers at p 0 (live_transfers p (history s O (gone_over_originators s O L at p) p))) ++ gone_over_originators s O L at p
 originator_more s O L at p =
     let T : ℕ → List Transfer = λ q. live_transfers q (history s O L q) in
-    ap (λ (n : ℕ). reverse (of_originators at T n) ++ L) next
-    ∙ one_on (of_originators at T p) (of_transfers at p 0 (T p)) L
+    ap (λ (n : ℕ). reverse (steps_of_originators at T n) ++ L) next
+    ∙ one_on (steps_of_originators at T p) (of_transfers at p 0 (T p)) L
     ∙ ap (λ (U : List Transfer). reverse (of_transfers at p 0 U) ++ gone_over_originators s O L at p)
-    (sym (same_after s O (of_originators at T p) L (of_originators_no_ask at T p) p))
+    (sym (same_after s O (steps_of_originators at T p) L (of_originators_no_ask at T p) p))
   where
     next : p + 1 ≡ suc p
     next = omega arith

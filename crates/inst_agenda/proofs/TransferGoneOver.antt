@@ -9,7 +9,7 @@ use Rattle.inst_command.specs.declared.place.Place.{Place}
 use Rattle.inst_model.specs.Opening.{Opening}
 use Rattle.inst_model.specs.Transfer.{Transfer, at_place, deadline}
 use Rattle.inst_model.specs.Hub.{outcome, history}
-use Rattle.inst_agenda.specs.Agenda.{Agenda, waits, is_entry}
+use Rattle.inst_agenda.specs.Agenda.{Agenda, is_awaited, is_entry}
 use Rattle.inst_agenda.specs.inner.Agenda.{Waits}
 use Rattle.inst_agenda.specs.FollowUps.{of_transfer}
 use Rattle.inst_world.specs.HasRun.{World, world_settings, HasRun}
@@ -24,9 +24,9 @@ goes : (O : Opening) (L : List Step) (at : ℕ) (place : Place) (hub middle new 
     → Some to ≡ option_map (λ (x : Transfer). x.to) (at_place place.owner (history (world_settings hub) O L place.owner) place.index)
     → HasRun O (reverse (of_transfer at place.owner place.index to) ++ L) middle
     → ((M : List Step) → HasRun O M middle → (x : Transfer) → at_place place.owner (history (world_settings hub) O M place.owner) place.index ≡ Some x
-    → outcome (world_settings hub) O M place.owner x.id ≡ None → waits b (deadline (world_settings hub) x) place.owner place.index ≡ true)
-    → ((m p k : ℕ) → waits a m p k ≡ true → waits b m p k ≡ true)
-    → ((m p k : ℕ) → waits b m p k ≡ true → (waits a m p k ≡ true) ⊎ ((p ≡ place.owner) × (k ≡ place.index)))
+    → outcome (world_settings hub) O M place.owner x.id ≡ None → is_awaited b (deadline (world_settings hub) x) place.owner place.index ≡ true)
+    → ((m p k : ℕ) → is_awaited a m p k ≡ true → is_awaited b m p k ≡ true)
+    → ((m p k : ℕ) → is_awaited b m p k ≡ true → (is_awaited a m p k ≡ true) ⊎ ((p ≡ place.owner) × (k ≡ place.index)))
     → GoesOver O L at place hub new a b
 goes O L at place hub middle new a b to settings same found ran pending still from =
     let s : HubSettings = world_settings hub in
@@ -53,9 +53,9 @@ goes_waiting O L at place hub middle new a b to d settings same found ran until 
     (λ M was x there none.
     let same_deadline : d ≡ deadline (world_settings hub) x = ap (λ (o : Option ℕ). elim o as (λ _. ℕ) [ None ↦ d | Some n ↦ n ]) (subst (λ (s : HubSettings). at_place place.owner (history s O M place.owner) place.index ≡ Some x
     → outcome s O M place.owner x.id ≡ None → Some d ≡ Some (deadline s x)) settings (λ it undecided. until M was x it undecided) there none) in
-    w.waiting_are (deadline (world_settings hub) x) place.owner place.index ∙ or_true (waits a (deadline (world_settings hub) x) place.owner place.index) (here (deadline (world_settings hub) x) same_deadline))
+    w.waiting_are (deadline (world_settings hub) x) place.owner place.index ∙ or_true (is_awaited a (deadline (world_settings hub) x) place.owner place.index) (here (deadline (world_settings hub) x) same_deadline))
     (λ m p k it. w.waiting_are m p k ∙ ap (λ (c : Bool). c || is_entry d place.owner place.index (m, (p, k))) it)
-    (λ m p k it. elim (or_cases (waits a m p k) (is_entry d place.owner place.index (m, (p, k))) (sym (w.waiting_are m p k) ∙ it)) [
+    (λ m p k it. elim (or_cases (is_awaited a m p k) (is_entry d place.owner place.index (m, (p, k))) (sym (w.waiting_are m p k) ∙ it)) [
       | inl before ↦ inl before
       | inr now ↦ inr (owner_is m p k now, index_is m p k now)
     ])

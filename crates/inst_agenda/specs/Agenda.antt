@@ -10,16 +10,16 @@ pub record Agenda : Type 0 where
   pub waiting : List (ℕ × (ℕ × ℕ))
   pub next : List (ℕ × ℕ)
 
-abbrev pub is_place : ℕ → ℕ → ℕ × ℕ → Bool
-is_place owner index place = nat_eq place.0 owner && nat_eq place.1 index
+abbrev pub is_same_place : ℕ → ℕ → ℕ × ℕ → Bool
+is_same_place owner index place = nat_eq place.0 owner && nat_eq place.1 index
 
 abbrev pub is_entry : ℕ → ℕ → ℕ → ℕ × (ℕ × ℕ) → Bool
-is_entry moment owner index entry = nat_eq entry.0 moment && is_place owner index entry.1
+is_entry moment owner index entry = nat_eq entry.0 moment && is_same_place owner index entry.1
 
 -- whether the place waits for this moment
-abbrev pub waits : Agenda → ℕ → ℕ → ℕ → Bool
-waits agenda moment owner index = list_any (is_entry moment owner index) agenda.waiting
+abbrev pub is_awaited : Agenda → ℕ → ℕ → ℕ → Bool
+is_awaited agenda moment owner index = list_any (is_entry moment owner index) agenda.waiting
 
 -- whether the place is one of the next
 abbrev pub is_next : Agenda → ℕ → ℕ → Bool
-is_next agenda owner index = list_any (is_place owner index) agenda.next
+is_next agenda owner index = list_any (is_same_place owner index) agenda.next

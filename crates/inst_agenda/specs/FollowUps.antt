@@ -22,15 +22,15 @@ of_transfers at p index [] = []
 of_transfers at p index (x ∷ xs) = of_transfer at p index x.to ++ of_transfers at p (suc index) xs
 
 -- so the transfers of the first n originators, in order of their numbers
-abbrev pub of_originators : ℕ → (ℕ → List Transfer) → ℕ → List Step
-of_originators at transfers zero = []
-of_originators at transfers (suc p) =
-    of_originators at transfers p ++ of_transfers at p 0 (transfers p)
+abbrev pub steps_of_originators : ℕ → (ℕ → List Transfer) → ℕ → List Step
+steps_of_originators at transfers zero = []
+steps_of_originators at transfers (suc p) =
+    steps_of_originators at transfers p ++ of_transfers at p 0 (transfers p)
 
 -- what follows at this reading where these steps have been run: each transfer that has a place is
 -- gone over
 abbrev pub follow_ups : HubSettings → Opening → List Step → ℕ → List Step
-follow_ups s O L at = of_originators at (λ p. live_transfers p (history s O L p)) (participants s)
+follow_ups s O L at = steps_of_originators at (λ p. live_transfers p (history s O L p)) (participants s)
 
 -- these steps, the newest in front, and what follows them
 abbrev pub followed_up : HubSettings → Opening → List Step → ℕ → List Step

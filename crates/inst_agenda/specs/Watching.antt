@@ -6,21 +6,21 @@ use Rattle.inst_command.specs.declared.step.Step.{Step}
 use Rattle.inst_model.specs.Opening.{Opening}
 use Rattle.inst_model.specs.Transfer.{Transfer, at_place}
 use Rattle.inst_model.specs.Hub.{history}
-use Rattle.inst_agenda.specs.Agenda.{Agenda, waits, is_next}
+use Rattle.inst_agenda.specs.Agenda.{Agenda, is_awaited, is_next}
 use Rattle.inst_world.specs.HasRun.{World, world_settings, HasRun}
 use Rattle.inst_agenda.specs.Resting.{Rests}
 
 -- the place is none of the next, and waits for no moment up to this reading
 pub record IsLeft (agenda : Agenda) (at p index : ℕ) : Type 0 where
   pub not_next : is_next agenda p index ≡ false
-  pub not_due : (m : ℕ) → waits agenda m p index ≡ true → at < m
+  pub not_due : (m : ℕ) → is_awaited agenda m p index ≡ true → at < m
 
 -- next_named, waiting_named: the agenda's places are of participants
 -- rests: of each transfer of theirs that it leaves at a reading nothing is left to do
 pub record IsAgendaOf (s : HubSettings) (O : Opening) (L : List Step) (agenda : Agenda) : Type 0
   where
     pub next_named : (p index : ℕ) → is_next agenda p index ≡ true → is_participant s p ≡ true
-    pub waiting_named : (m p index : ℕ) → waits agenda m p index ≡ true → is_participant s p ≡ true
+    pub waiting_named : (m p index : ℕ) → is_awaited agenda m p index ≡ true → is_participant s p ≡ true
     pub rests : (p index : ℕ) (x : Transfer) → is_participant s p ≡ true →
         at_place p (history s O L p) index ≡ Some x →
         (at : ℕ) → IsLeft agenda at p index → Rests s O L at p x

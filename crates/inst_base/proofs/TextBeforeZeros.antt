@@ -3,9 +3,9 @@ use Rattle.std.proofs.Common.{ℕ, ◌≤◌, ◌++◌, List, length, drop, repl
 use Rattle.std.proofs.Math.Seq.{take-append_seam, drop-append_seam}
 use Rattle.std.proofs.lemmas.List.{drop-replicate, length-replicate}
 use Rattle.std.specs.Str.{IsAscii}
-use Rattle.inst_base.specs.inner.ShortText.{IsKept}
+use Rattle.inst_base.specs.inner.ShortText.{IsPaddedText}
 
-pub IsKept-front : (room : ℕ) (text : List ℕ) → length text ≤ room → IsAscii text → IsKept room (text ++ drop (length text) (replicate room 0)) (length text)
+pub IsKept-front : (room : ℕ) (text : List ℕ) → length text ≤ room → IsAscii text → IsPaddedText room (text ++ drop (length text) (replicate room 0)) (length text)
 IsKept-front room text fits ascii = record {
   room_is = simp (length-append, length-drop, length-replicate) (omega arith);
   within = fits;

@@ -21,7 +21,7 @@ pub(crate) struct ShortText<const N: usize> {
 impl<const N: usize> Model for ShortText<N> {
     ghost use Rattle.std.specs.Prelude.{ℕ, List, ◌++◌, ◌-◌, ◌≤◌, length, take, replicate};
     ghost use Rattle.std.proofs.Common.{sym, ap, subst, ◌∙◌, take-append-drop, length-take-le};
-    ghost use Rattle.inst_base.specs.inner.ShortText.{IsKept};
+    ghost use Rattle.inst_base.specs.inner.ShortText.{IsPaddedText};
 
     ghost Value = { List ℕ };
 

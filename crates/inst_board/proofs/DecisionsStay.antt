@@ -8,12 +8,12 @@ use Rattle.inst_board.specs.declared.wish.Wish.{Wish}
 use Rattle.inst_board.specs.declared.about.About.TheVariants.{Decided, DecidedAt}
 use Rattle.inst_board.specs.declared.about.Fact.{Fact}
 use Rattle.inst_board.specs.Standing.{Standing, unused, pending, decided, Says, about}
-use Rattle.inst_board.specs.Learning.{Learns, Answers}
+use Rattle.inst_board.specs.Learning.{Learns, AnswersWish}
 use Rattle.inst_board.specs.Laws.{KnowsMore, DecidedOnce, EachDecisionIsOfItsReading, OnlyOwnReadingsAreLearnt}
 
 module _ (margin : ℕ) where
   -- what is known as decided is answered
-  pub answers_known : (stood : Outcome → Type 0) (wish : Wish) (t : ℕ) (p : Standing) (found : Option Outcome) (o : Outcome) → Says p (Decided o) → Answers margin stood wish t p found → found ≡ Some o
+  pub answers_known : (stood : Outcome → Type 0) (wish : Wish) (t : ℕ) (p : Standing) (found : Option Outcome) (o : Outcome) → Says p (Decided o) → AnswersWish margin stood wish t p found → found ≡ Some o
   answers_known stood wish t unused found o says h = absurd says
   answers_known stood wish t (pending ts d) found o says h = absurd says
   answers_known stood wish t (decided ts d p at) found o says h = h.0 ∙ ap Some (sym says)
@@ -23,12 +23,12 @@ module _ (margin : ℕ) where
     Known c k found = IfSome found (λ o. knows c (about k (Decided o)))
 
     -- what was answered is known
-    pub answered : (b c : B) (k : Place) (stood : Outcome → Type 0) (wish : Wish) (t : ℕ) (p : Standing) (found : Option Outcome) → Learns margin knows b k p c → Answers margin stood wish t p found → Known c k found
+    pub answered : (b c : B) (k : Place) (stood : Outcome → Type 0) (wish : Wish) (t : ℕ) (p : Standing) (found : Option Outcome) → Learns margin knows b k p c → AnswersWish margin stood wish t p found → Known c k found
     answered b c k stood wish t unused found l h = absurd h
     answered b c k stood wish t (pending ts d) found l h = subst (λ (f : Option Outcome). Known c k f) (sym h.0) tt
     answered b c k stood wish t (decided ts d o at) found l h = subst (λ (f : Option Outcome). Known c k f) (sym h.0) (l.shown (Decided o) refl)
 
-    pub again : (c d : B) (k : Place) (stood : Outcome → Type 0) (wish : Wish) (t : ℕ) (q : Standing) (found found' : Option Outcome) → Learns margin knows c k q d → Answers margin stood wish t q found'
+    pub again : (c d : B) (k : Place) (stood : Outcome → Type 0) (wish : Wish) (t : ℕ) (q : Standing) (found found' : Option Outcome) → Learns margin knows c k q d → AnswersWish margin stood wish t q found'
         → Known c k found → IfSome found (λ o. found' ≡ Some o)
     again c d k stood wish t q None found' l h known = tt
     again c d k stood wish t q (Some o) found' l h known = answers_known stood wish t q found' o (l.agrees (Decided o) known) h
@@ -43,7 +43,7 @@ module _ (margin : ℕ) where
         (known_more b c k found more (answered a b k (stood a k) first at one.standing found one.learns one.answers))
 
     of_reading : (b c : B) (k : Place) (stood : Outcome → Type 0) (wish : Wish) (at : ℕ) (o : Outcome) (p : Standing)
-        → Learns margin knows b k p c → Answers margin stood wish at p (Some o) → stood o ⊎ knows c (about k (DecidedAt at))
+        → Learns margin knows b k p c → AnswersWish margin stood wish at p (Some o) → stood o ⊎ knows c (about k (DecidedAt at))
         → stood o ⊎ (((t : Terms) × (d : ℕ) × Learns margin knows b k (decided t d o at) c) × knows c (about k (DecidedAt at)))
     of_reading b c k stood wish at o unused l h told = absurd h
     of_reading b c k stood wish at o (pending t d) l h told = let no : ⊥ = let e : Some o ≡ None = h.0 in cc in absurd no

@@ -14,7 +14,7 @@ use Rattle.inst_board.specs.declared.about.About.TheVariants.{Opened, HasTerms, 
 use Rattle.inst_board.specs.declared.about.Fact.{Fact}
 use Rattle.inst_board.specs.declared.about.Fact.{Fact}
 use Rattle.inst_board.specs.Standing.{Standing, unused, pending, decided, IsLawful, Says, look_of, about}
-use Rattle.inst_board.specs.Learning.{Learns, KnowsTruly, Answers}
+use Rattle.inst_board.specs.Learning.{Learns, KnowsTruly, AnswersWish}
 use Rattle.inst_board.specs.Wish.{wanted}
 use Rattle.inst_board.specs.Laws.{KnowsOpening, OnlyTheBeneficiaryAnswers, OwnOpeningsAreKnown, OwnAnswersAreKnown, OwnAnswersStand, WhatIsKnownStaysTrue}
 use Rattle.inst_board.proofs.Places.{place_cases}
@@ -101,7 +101,7 @@ module _ (margin : ℕ) where
       (seldom : (b : B) (k : Place) (t : Terms) (o : Outcome) → knows b (about k (HasTerms t)) → has_role b t.to → stood b k o → knows b (about k (Decided o)) ⊎ (o ≡ TimedOut)) where
     stands : (b c : B) (k : Place) (t : Terms) (d at : ℕ) (found : Option Outcome) (wish : Wish) (want : Outcome) → wanted margin wish d at ≡ Some want →
         KnowsOpening knows b k t d → has_role b t.to → ((o : Outcome) → ¬ knows b (about k (Decided o))) →
-        (p : Standing) → Learns margin knows b k p c → Answers margin (stood b k) wish at p found → (found ≡ Some want) ⊎ (found ≡ Some TimedOut)
+        (p : Standing) → Learns margin knows b k p c → AnswersWish margin (stood b k) wish at p found → (found ≡ Some want) ⊎ (found ≡ Some TimedOut)
     stands b c k t d at found wish want wants opening role none unused l h = absurd h
     stands b c k t d at found wish want wants opening role none (pending s e) l h =
         let due : d ≡ e = l.agrees (Due d) opening.due in

@@ -13,7 +13,7 @@ use Rattle.inst_command.specs.declared.place.Place.{Place}
 use Rattle.inst_board.specs.declared.plain.Kept.{Kept}
 use Rattle.inst_board.specs.declared.plain.Kept.TheVariants.{Unused, Written, Pending, Decided}
 use Rattle.inst_board.specs.Standing.{is_place, IsPlace, IsLawful, word_of}
-use Rattle.inst_board.specs.Plain.{Contents, place_number, rank_of, kept_at, standing_of, terms_of, HaveTerms, IsContents, Becomes}
+use Rattle.inst_board.specs.Plain.{Contents, place_number, rank_of, kept_at, standing_of, kept_terms, HaveTerms, IsContents, Becomes}
 use Rattle.inst_board.specs.inner.Plain.{Puts, PutsTerms}
 
 pub record IsInside (s : HubSettings) (k : Place) : Type 0 where
@@ -110,52 +110,52 @@ contents_written b k w new form h lawful puts = record {
 -- ---- the terms of a place
 
 -- terms are kept of each opened place
-pub opened_terms : (v : Kept) (w : Word) → w ≡ word_of (standing_of v) → w ≢ UnusedWord → (t : Terms) × (terms_of v ≡ Some t)
+pub opened_terms : (v : Kept) (w : Word) → w ≡ word_of (standing_of v) → w ≢ UnusedWord → (t : Terms) × (kept_terms v ≡ Some t)
 opened_terms Unused w is opened = absurd (opened is)
 opened_terms (Written t) w is opened = (t, refl)
 opened_terms (Pending t d) w is opened = (t, refl)
 opened_terms (Decided t d o at) w is opened = (t, refl)
 
 -- terms are kept of none but the places that the settings have
-pub written_is_place : (b : Contents) (k : Place) (t : Terms) → terms_of (kept_at b k) ≡ Some t → IsPlace b.settings k
+pub written_is_place : (b : Contents) (k : Place) (t : Terms) → kept_terms (kept_at b k) ≡ Some t → IsPlace b.settings k
 written_is_place b k t h = at_either (is_place b.settings k) refl where
   at_either : (has : Bool) → is_place b.settings k ≡ has → IsPlace b.settings k
   at_either true e = e
-  at_either false e = let nothing : None ≡ Some t = sym (ap terms_of (kept_outside b k e)) ∙ h in let no : ⊥ = cc in absurd no
+  at_either false e = let nothing : None ≡ Some t = sym (ap kept_terms (kept_outside b k e)) ∙ h in let no : ⊥ = cc in absurd no
 
 -- and lie within the list
-pub written_within : (l : List Kept) (n : ℕ) (t : Terms) → terms_of (get_or l n Unused) ≡ Some t → n < length l
+pub written_within : (l : List Kept) (n : ℕ) (t : Terms) → kept_terms (get_or l n Unused) ≡ Some t → n < length l
 written_within [] n t h = let no : ⊥ = cc in absurd no
 written_within (v ∷ l) zero t h = omega arith
 written_within (v ∷ l) (suc n) t h = let below = written_within l n t h in omega arith
 
 -- a value that is set where terms are kept is put there
-pub kept_puts : (b : Contents) (k : Place) (t : Terms) (n : ℕ) (w v : Kept) → terms_of (kept_at b k) ≡ Some t → n ≡ rank_of b.settings k → v ≡ w → Puts b.kept (rank_of b.settings k) w (set b.kept n v)
+pub kept_puts : (b : Contents) (k : Place) (t : Terms) (n : ℕ) (w v : Kept) → kept_terms (kept_at b k) ≡ Some t → n ≡ rank_of b.settings k → v ≡ w → Puts b.kept (rank_of b.settings k) w (set b.kept n v)
 kept_puts b k t n w v h rank same =
     let r = rank_of b.settings k in
-    let has : terms_of (get_or b.kept r Unused) ≡ Some t = ap terms_of (sym (kept_inside b k (written_is_place b k t h))) ∙ h in
+    let has : kept_terms (get_or b.kept r Unused) ≡ Some t = ap kept_terms (sym (kept_inside b k (written_is_place b k t h))) ∙ h in
     subst (λ (m : ℕ). Puts b.kept r w (set b.kept m v)) (sym rank) (subst (λ (x : Kept). Puts b.kept r w (set b.kept r x)) (sym same) (set_puts b.kept r w (written_within b.kept r t has)))
 
 -- the value at a rank has these terms, and no other
-only_terms : (l new : List Kept) (n : ℕ) (w : Kept) (t : Terms) → Puts l n w new → terms_of w ≡ Some t → (k : ℕ) → k ≡ n → (u : Terms) → terms_of (get_or new k Unused) ≡ Some u → Some t ≡ Some u
-only_terms l new n w t puts is k e u h = sym is ∙ ap terms_of (sym puts.here ∙ ap (λ m. get_or new m Unused) (sym e)) ∙ h
+only_terms : (l new : List Kept) (n : ℕ) (w : Kept) (t : Terms) → Puts l n w new → kept_terms w ≡ Some t → (k : ℕ) → k ≡ n → (u : Terms) → kept_terms (get_or new k Unused) ≡ Some u → Some t ≡ Some u
+only_terms l new n w t puts is k e u h = sym is ∙ ap kept_terms (sym puts.here ∙ ap (λ m. get_or new m Unused) (sym e)) ∙ h
 
 -- a value is kept with the terms that were kept
 pub terms_stay : (b : Contents) (place : Place) (new : List Kept) (all : List Terms) (w : Kept) (t : Terms) → Puts b.kept (rank_of b.settings place) w new → HaveTerms b.kept all
-    → terms_of (kept_at b place) ≡ Some t → terms_of w ≡ Some t → HaveTerms new all
+    → kept_terms (kept_at b place) ≡ Some t → kept_terms w ≡ Some t → HaveTerms new all
 terms_stay b place new all w t puts have was is k u h =
     let n = rank_of b.settings place in
-    let had : terms_of (get_or b.kept n Unused) ≡ Some t = ap terms_of (sym (kept_inside b place (written_is_place b place t was))) ∙ was in
+    let had : kept_terms (get_or b.kept n Unused) ≡ Some t = ap kept_terms (sym (kept_inside b place (written_is_place b place t was))) ∙ was in
     elim (cases_eq k n) [
       | inl e ↦ ap (slice_get all) e ∙ have n t had ∙ only_terms b.kept new n w t puts is k e u h
-      | inr other ↦ have k u (ap terms_of (sym (puts.elsewhere k other)) ∙ h)
+      | inr other ↦ have k u (ap kept_terms (sym (puts.elsewhere k other)) ∙ h)
     ]
 
 -- a value is kept with terms that are put beside it
-pub terms_come : (l new : List Kept) (all others : List Terms) (n : ℕ) (w : Kept) (t : Terms) → Puts l n w new → PutsTerms all n t others → HaveTerms l all → terms_of w ≡ Some t → HaveTerms new others
+pub terms_come : (l new : List Kept) (all others : List Terms) (n : ℕ) (w : Kept) (t : Terms) → Puts l n w new → PutsTerms all n t others → HaveTerms l all → kept_terms w ≡ Some t → HaveTerms new others
 terms_come l new all others n w t puts beside have is k u h = elim (cases_eq k n) [
   | inl e ↦ ap (slice_get others) e ∙ beside.here ∙ only_terms l new n w t puts is k e u h
-  | inr other ↦ beside.elsewhere k u other (have k u (ap terms_of (sym (puts.elsewhere k other)) ∙ h))
+  | inr other ↦ beside.elsewhere k u other (have k u (ap kept_terms (sym (puts.elsewhere k other)) ∙ h))
 ]
 
 -- ---- a board of unused places

@@ -19,7 +19,7 @@ use Rattle.inst_board.specs.Standing.{Standing, unused, pending, decided, IsLawf
 use Rattle.inst_board.specs.Laws.{ShowsItsWords}
 use Rattle.inst_board.specs.Learning.{Learns, Decides}
 use Rattle.inst_board.specs.Wish.{wanted}
-use Rattle.inst_board.specs.Plain.{Contents, kept_at, terms_of, standing_of, standing_at, plain_knows, plain_wrote, plain_stood, Becomes}
+use Rattle.inst_board.specs.Plain.{Contents, kept_at, kept_terms, standing_of, standing_at, plain_knows, plain_wrote, plain_stood, Becomes}
 use Rattle.inst_board.proofs.Places.{place_cases}
 
 module _ (margin : ℕ) where
@@ -61,10 +61,10 @@ module _ (margin : ℕ) where
   nothing_opened (decided t d o at) new a q h = absurd (new tt)
 
   -- a written place is opened
-  pub opens_now : (b : Contents) (k : Place) (t : Terms) (d : ℕ) (c : Contents) → terms_of (kept_at b k) ≡ Some t → ¬ plain_knows b (about k Opened) → 1 ≤ d
+  pub opens_now : (b : Contents) (k : Place) (t : Terms) (d : ℕ) (c : Contents) → kept_terms (kept_at b k) ≡ Some t → ¬ plain_knows b (about k Opened) → 1 ≤ d
       → Becomes b k (Pending t d) c → (u : Terms) → plain_wrote b k u → Learns margin plain_knows b k (pending u d) c
   opens_now b k t d c kept new due becomes u wrote =
-      let found : Some t ≡ Some u = sym kept ∙ ap terms_of wrote in
+      let found : Some t ≡ Some u = sym kept ∙ ap kept_terms wrote in
       let same : t ≡ u = cc in
       learns_written b k (Pending u d) c (subst (λ x. Becomes b k (Pending x d) c) same becomes) due (λ a h. nothing_opened (standing_at b k) new a (pending u d) h)
 

@@ -11,7 +11,7 @@ use Rattle.inst_board.specs.declared.about.About.{About}
 use Rattle.inst_board.specs.declared.about.About.TheVariants.{Opened, HasTerms, Due, Decided, DecidedAt}
 use Rattle.inst_board.specs.Standing.{Standing, unused, pending, decided, Says, about, look_of}
 use Rattle.inst_board.specs.Wish.{wanted}
-use Rattle.inst_board.specs.Learning.{Learns, Answers, Looks, Decides, MayDecide, IsParty, IsOfOpening}
+use Rattle.inst_board.specs.Learning.{Learns, AnswersWish, Looks, Decides, MayDecide, IsParty, IsOfOpening}
 use Rattle.inst_board.specs.Plain.{Contents, standing_at, plain_knows, plain_stood, standing_after, outcome_of_standing}
 use Rattle.inst_board.specs.Laws.{SayTheSame, Stands}
 use Rattle.inst_board.proofs.PlainSteps.{stays_true}
@@ -78,7 +78,7 @@ module _ (margin : ℕ) where
     abbrev IsDecided : Type 0
     IsDecided = (o : Outcome) → found ≡ Some o → plain_stood b k o ⊎ plain_knows c (about k (DecidedAt at))
 
-    from_pending : IsDecided → (t : Terms) (d : ℕ) → standing_at b k ≡ pending t d → (p : Standing) → Learns margin plain_knows b k p c → Answers margin (plain_stood b k) wish at p found → Exact (pending t d)
+    from_pending : IsDecided → (t : Terms) (d : ℕ) → standing_at b k ≡ pending t d → (p : Standing) → Learns margin plain_knows b k p c → AnswersWish margin (plain_stood b k) wish at p found → Exact (pending t d)
     from_pending told t d is unused l h = absurd h
     from_pending told t d is (pending s e) l h =
         let follows : Follows (pending t d) (pending s e) = subst (λ (q : Standing). Follows q (pending s e)) is l.agrees in
@@ -95,7 +95,7 @@ module _ (margin : ℕ) where
         let stands = stands_as b k (decided s e o n) c l (decided t d o at) (stays_true margin (standing_at b k) t d at o is) (ended_same t s d e o at n wants.1 follows) (all_said b c k t d s e o at n is l known) in
         (h.0 ∙ sym (ap outcome_of_standing changed), subst (λ (q : Standing). Stands b k q c) (sym changed) stands)
 
-    from_decided : (t : Terms) (d : ℕ) (o : Outcome) (m : ℕ) → standing_at b k ≡ decided t d o m → (p : Standing) → Learns margin plain_knows b k p c → Answers margin (plain_stood b k) wish at p found → Exact (decided t d o m)
+    from_decided : (t : Terms) (d : ℕ) (o : Outcome) (m : ℕ) → standing_at b k ≡ decided t d o m → (p : Standing) → Learns margin plain_knows b k p c → AnswersWish margin (plain_stood b k) wish at p found → Exact (decided t d o m)
     from_decided t d o m is unused l h = absurd h
     from_decided t d o m is (pending s e) l h = absurd (subst (λ (q : Standing). Follows q (pending s e)) is l.agrees (Decided o) refl)
     from_decided t d o m is (decided s e z n) l h =
@@ -103,7 +103,7 @@ module _ (margin : ℕ) where
         let stays = still b k (decided s e z n) c l (subst (λ (q : Standing). Follows (decided s e z n) q) (sym is) (same_decided t s d e o z m n follows)) in
         (h.0 ∙ ap Some (sym (follows (Decided o) refl)), subst (λ (q : Standing). Stands b k q c) is stays)
 
-    exact_from : IsDecided → (q : Standing) → standing_at b k ≡ q → Says q Opened → (p : Standing) → Learns margin plain_knows b k p c → Answers margin (plain_stood b k) wish at p found → Exact q
+    exact_from : IsDecided → (q : Standing) → standing_at b k ≡ q → Says q Opened → (p : Standing) → Learns margin plain_knows b k p c → AnswersWish margin (plain_stood b k) wish at p found → Exact q
     exact_from told unused is opened p l h = absurd opened
     exact_from told (pending t d) is opened p l h = from_pending told t d is p l h
     exact_from told (decided t d o m) is opened p l h = from_decided t d o m is p l h

@@ -9,7 +9,7 @@ use Rattle.inst_command.specs.declared.outcome.Outcome.TheVariants.{Accepted, Re
 use Rattle.inst_terms.specs.declared.terms.Terms.{Terms}
 use Rattle.inst_terms.specs.declared.word.Word.TheVariants.{Pending as PendingWord}
 use Rattle.inst_terms.specs.declared.word.Word.TheVariants.{Decided as DecidedWord}
-use Rattle.inst_terms.specs.WordLaw.{InTime, IsLawful as AreLawful}
+use Rattle.inst_terms.specs.WordLaw.{InTime, AreLawful}
 use Rattle.inst_command.specs.declared.place.Place.{Place}
 use Rattle.inst_board.specs.declared.wish.Wish.{Wish}
 use Rattle.inst_board.specs.declared.wish.Wish.TheVariants.{Accept, Reject, Expire}

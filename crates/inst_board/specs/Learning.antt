@@ -103,11 +103,11 @@ pub record MayDecide {B : Type 0} (knows : B → Fact → Type 0) (has_role : B 
 -- the answer to a wish at the moment, where the place then stands as p: the outcome that stands,
 -- which stood before, where that could be, or is what was wanted; and none where the transfer is
 -- pending and nothing was wanted yet
-abbrev pub Answers : ℕ → (Outcome → Type 0) → Wish → ℕ → Standing → Option Outcome → Type 0
-Answers margin stood wish at unused found = ⊥
-Answers margin stood wish at (pending terms deadline) found =
+abbrev pub AnswersWish : ℕ → (Outcome → Type 0) → Wish → ℕ → Standing → Option Outcome → Type 0
+AnswersWish margin stood wish at unused found = ⊥
+AnswersWish margin stood wish at (pending terms deadline) found =
     (found ≡ None) × (wanted margin wish deadline at ≡ None)
-Answers margin stood wish at (decided terms deadline outcome moment) found =
+AnswersWish margin stood wish at (decided terms deadline outcome moment) found =
     (found ≡ Some outcome) ×
     (stood outcome ⊎ ((wanted margin wish deadline at ≡ Some outcome) × (moment ≡ at)))
 
@@ -119,7 +119,7 @@ pub record Decides {B : Type 0} (margin : ℕ) (knows : B → Fact → Type 0) (
     (wish : Wish) (at : ℕ) (found : Option Outcome) (c : B) : Type 0 where
   pub standing : Standing
   pub learns : Learns margin knows b k standing c
-  pub answers : Answers margin (stood b k) wish at standing found
+  pub answers : AnswersWish margin (stood b k) wish at standing found
   pub decided : (o : Outcome) → found ≡ Some o → stood b k o ⊎ knows c (about k (DecidedAt at))
   pub reading : (moment : ℕ) → knows c (about k (DecidedAt moment)) →
       knows b (about k (DecidedAt moment)) ⊎ (moment ≡ at)

@@ -96,16 +96,16 @@ pub record IsContents (board : Contents) : Type 0 where
   pub lawful : (k : ℕ) → IsLawful board.settings.margin (standing_of (get_or board.kept k Unused))
 
 -- the terms that are kept of a place
-abbrev pub terms_of : Kept → Option Terms
-terms_of Unused = None
-terms_of (Written terms) = Some terms
-terms_of (Pending terms deadline) = Some terms
-terms_of (DecidedKept terms deadline outcome at) = Some terms
+abbrev pub kept_terms : Kept → Option Terms
+kept_terms Unused = None
+kept_terms (Written terms) = Some terms
+kept_terms (Pending terms deadline) = Some terms
+kept_terms (DecidedKept terms deadline outcome at) = Some terms
 
 -- the terms that are kept of each place lie at its rank
 abbrev pub HaveTerms : List Kept → List Terms → Type 0
 HaveTerms kept all =
-    (k : ℕ) (terms : Terms) → terms_of (get_or kept k Unused) ≡ Some terms →
+    (k : ℕ) (terms : Terms) → kept_terms (get_or kept k Unused) ≡ Some terms →
     slice_get all k ≡ Some terms
 
 -- from the first to the second, the place k comes to be kept so, and all others stay

@@ -74,7 +74,7 @@ impl PlainBoard {
     ghost use Rattle.inst_command.specs.declared.place.Place.{Place};
     ghost use Rattle.inst_board.specs.declared.plain.Kept.TheVariants.{Unused as KeptUnused};
     ghost use Rattle.inst_board.specs.Standing.{IsPlace, IsLawful, is_place, look_of, word_of};
-    ghost use Rattle.inst_board.specs.Plain.{Becomes, kept_at, standing_at, standing_of, terms_of};
+    ghost use Rattle.inst_board.specs.Plain.{Becomes, kept_at, standing_at, standing_of, kept_terms};
 
     /// The board of a hub that opens: each place is unused.
     pub fn new(alloc: Global, settings: &Settings) -> Result<PlainBoard, AllocError>
@@ -118,8 +118,8 @@ impl PlainBoard {
     /// The terms of a place that was written.
     #[inline(always)]
     fn terms(&self, place: Place) -> Terms
-        requires { (terms : Terms) × (terms_of (kept_at self.now place) ≡ Some terms) }
-        ensures { terms_of (kept_at self.now place) ≡ Some result }
+        requires { (terms : Terms) × (kept_terms (kept_at self.now place) ≡ Some terms) }
+        ensures { kept_terms (kept_at self.now place) ≡ Some result }
     {
         self.terms[rank_of(self.participants, place)]
     }
@@ -150,8 +150,8 @@ impl PlainBoard {
     /// Keeps this of a place whose terms were written.
     #[inline(always)]
     fn keep(&mut self, place: Place, kept: &Kept)
-        requires written { (terms : Terms) × (terms_of (kept_at self.old place) ≡ Some terms)
-            × (terms_of kept.now ≡ Some terms) }
+        requires written { (terms : Terms) × (kept_terms (kept_at self.old place) ≡ Some terms)
+            × (kept_terms kept.now ≡ Some terms) }
         requires lawful { IsLawful self.old.settings.margin (standing_of kept.now) }
         ensures { Becomes self.old place kept.now self.new }
     {

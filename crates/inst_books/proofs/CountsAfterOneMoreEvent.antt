@@ -17,7 +17,7 @@ use Rattle.inst_journal.proofs.KeyOnce.{forwarded_once}
 use Rattle.inst_journal.proofs.PlacesOfTakenAmounts.{sum_same}
 use Rattle.inst_journal.proofs.OneMoreElement.{first_some_push, sum_by-both, or_else-none}
 use Rattle.inst_journal.proofs.WalkOverFronts.{front_fits}
-use Rattle.inst_ledger.specs.Book.{Book, with_event}
+use Rattle.inst_ledger.specs.Book.{LedgerBook, ledger_with_event}
 use Rattle.inst_ledger.proofs.ForwardedTransfers.{unforwarded_unbooked}
 use Rattle.inst_books.specs.declared.tally.Tally.{Tally}
 use Rattle.inst_books.specs.Tally.{waiting_from, IsTally}
@@ -212,19 +212,19 @@ module _ (s : HubSettings) (who : ℕ) (J : List Event) (t u : Tally) (sound : I
       now_live q = ap (λ C. count_by (forwards_live q C) (J ++ Opened ∷ [])) (carried_opened J) ∙ still_waiting q
 
 -- the counts, after the ledger has kept an event
-pub after_keeping : (b c : Book) (event known : Event) (t : Tally) → c ≡ with_event b event → event ≡ known → IsTally b.who (b.events ++ known ∷ []) t → IsTally c.who c.events t
+pub after_keeping : (b c : LedgerBook) (event known : Event) (t : Tally) → c ≡ ledger_with_event b event → event ≡ known → IsTally b.who (b.events ++ known ∷ []) t → IsTally c.who c.events t
 after_keeping b c event known t kept is tally =
-    subst (λ (b : Book). IsTally b.who b.events t) (sym kept) (subst (λ (e : Event). IsTally b.who (b.events ++ e ∷ []) t) (sym is) tally)
+    subst (λ (b : LedgerBook). IsTally b.who b.events t) (sym kept) (subst (λ (e : Event). IsTally b.who (b.events ++ e ∷ []) t) (sym is) tally)
 
 -- what fitted the book that was seen fits the one within
-pub fits_within : (b seen : Book) (event known : Event) → b ≡ seen → event ≡ known → Fits seen.settings seen.who seen.events event → Fits b.settings b.who b.events known
+pub fits_within : (b seen : LedgerBook) (event known : Event) → b ≡ seen → event ≡ known → Fits seen.settings seen.who seen.events event → Fits b.settings b.who b.events known
 fits_within b seen event known same is fits =
-    subst (λ (e : Event). Fits b.settings b.who b.events e) is (subst (λ (b : Book). Fits b.settings b.who b.events event) (sym same) fits)
+    subst (λ (e : Event). Fits b.settings b.who b.events e) is (subst (λ (b : LedgerBook). Fits b.settings b.who b.events event) (sym same) fits)
 
 -- a history is sound before its last event
-pub sound_before : (b c : Book) (event : Event) → c ≡ with_event b event → IsSound c.settings c.who c.events → IsSound b.settings b.who b.events
+pub sound_before : (b c : LedgerBook) (event : Event) → c ≡ ledger_with_event b event → IsSound c.settings c.who c.events → IsSound b.settings b.who b.events
 sound_before b c event kept sound =
-    front_fits b.settings b.who [] b.events (event ∷ []) (subst (λ (b : Book). IsSound b.settings b.who b.events) kept sound)
+    front_fits b.settings b.who [] b.events (event ∷ []) (subst (λ (b : LedgerBook). IsSound b.settings b.who b.events) kept sound)
 
 -- the event neither brings nor books a transfer, and opens nothing
 abbrev pub IsQuiet : Event → Type 0

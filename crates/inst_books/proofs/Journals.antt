@@ -14,26 +14,26 @@ use Rattle.inst_journal.specs.History.{History}
 use Rattle.inst_log.specs.Layout.{blocks}
 use Rattle.inst_log.proofs.Lines.{blocks-append}
 use Rattle.inst_books.specs.Events.{event_line, event_can_be_written}
-use Rattle.inst_books.specs.Books.{all_events, AreWritable, lines_from, no_books, with_event}
+use Rattle.inst_books.specs.Books.{all_events, AreWritable, book_lines_from, no_books, books_with_event}
 use Rattle.inst_books.specs.Laws.{event_has_form}
 
 pub kept_in : (journals : List History) (i : ℕ) (event : Event) (old new : History) → i < length journals → new.events ≡ (get_or journals i old).events ++ event ∷ []
-    → all_events (slice_set journals i new) ≡ with_event i event (all_events journals)
+    → all_events (slice_set journals i new) ≡ books_with_event i event (all_events journals)
 kept_in [] i event old new low more = absurd (omega arith)
 kept_in (journal ∷ journals) zero event old new low more = ap (λ (book : List Event). book ∷ all_events journals) more
 kept_in (journal ∷ journals) (suc i) event old new low more = ap (λ (books : List (List Event)). journal.events ∷ books) (kept_in journals i event old new (omega arith) more)
 
 -- one book more is written
 pub written_next : (s : HubSettings) (journals : List History) (who : ℕ) (d : History) (events : List Event) (text new out : List ℕ) → who < length journals → events ≡ (get_or journals who d).events
-    → new ≡ text ++ blocks (map (event_line s who) events) → text ++ blocks (lines_from s who (all_events (drop who journals))) ≡ out
-    → new ++ blocks (lines_from s (who + 1) (all_events (drop (who + 1) journals))) ≡ out
+    → new ≡ text ++ blocks (map (event_line s who) events) → text ++ blocks (book_lines_from s who (all_events (drop who journals))) ≡ out
+    → new ++ blocks (book_lines_from s (who + 1) (all_events (drop (who + 1) journals))) ≡ out
 written_next s journals who d events text new out low is more so =
-    let rest = lines_from s (who + 1) (all_events (drop (who + 1) journals)) in
+    let rest = book_lines_from s (who + 1) (all_events (drop (who + 1) journals)) in
     let first = map (event_line s who) events in
     ap (λ (t : List ℕ). t ++ blocks rest) more ∙ append_assoc text (blocks first) (blocks rest)
     ∙ ap (λ (t : List ℕ). text ++ t) (sym (blocks-append first rest))
     ∙ ap (λ (book : List Event). text ++ blocks (map (event_line s who) book ++ rest)) is
-    ∙ ap (λ (hs : List History). text ++ blocks (lines_from s who (all_events hs))) (sym (drop_more journals who d low)) ∙ so
+    ∙ ap (λ (hs : List History). text ++ blocks (book_lines_from s who (all_events hs))) (sym (drop_more journals who d low)) ∙ so
 
 -- the book at hand can be written, and so can those behind it
 pub writable_next : (s : HubSettings) (journals : List History) (who : ℕ) (d : History) → who < length journals
@@ -72,7 +72,7 @@ code_all s who all h = ap (list_all is_code) (sym (take_all who s.codes all)) �
 
 -- ---- what is read can be written
 
-pub with_event_writable : (s : HubSettings) (who : ℕ) (event : Event) (books : List (List Event)) → event_can_be_written s event ≡ true → AreWritable s books → AreWritable s (with_event who event books)
+pub with_event_writable : (s : HubSettings) (who : ℕ) (event : Event) (books : List (List Event)) → event_can_be_written s event ≡ true → AreWritable s books → AreWritable s (books_with_event who event books)
 with_event_writable s who event [] can all = refl
 with_event_writable s zero event (book ∷ books) can all =
     let parts = and_parts (list_all (event_can_be_written s) book) (list_all (list_all (event_can_be_written s)) books) all in

@@ -21,12 +21,12 @@ use Rattle.inst_log.proofs.Lines.{parts}
 use Rattle.inst_books.specs.declared.fault.BookFault.{BookFault}
 use Rattle.inst_books.specs.declared.fault.BookFault.TheVariants.{BadLine}
 use Rattle.inst_books.specs.Reading.{Entry, field, participant_in, event_named, entry_in, entry_of_line, or_bad_line, event_of_line}
-use Rattle.inst_books.specs.Books.{with_event, go_on, with_lines, no_books, books_of_text}
+use Rattle.inst_books.specs.Books.{books_with_event, go_on, with_lines, no_books, books_of_text}
 use Rattle.inst_books.specs.Laws.{said_of, EachSaysAnEvent, TellsTheBooks}
 
 -- ---- one event
 
-with_event-length : (who : ℕ) (event : Event) (books : List (List Event)) → length (with_event who event books) ≡ length books
+with_event-length : (who : ℕ) (event : Event) (books : List (List Event)) → length (books_with_event who event books) ≡ length books
 with_event-length who event [] = refl
 with_event-length zero event (book ∷ books) = refl
 with_event-length (suc who) event (book ∷ books) = ap suc (with_event-length who event books)
@@ -46,7 +46,7 @@ later_other who = ne_eqb (suc who) zero (λ (same : suc who ≡ zero). omega (ar
 abbrev if_said : Event → Bool → List Event
 if_said event said = if said then event ∷ [] else []
 
-with_event-at : (who p : ℕ) (event : Event) (books : List (List Event)) → p < length books → get_or (with_event who event books) p [] ≡ get_or books p [] ++ (if who == p then event ∷ [] else [])
+with_event-at : (who p : ℕ) (event : Event) (books : List (List Event)) → p < length books → get_or (books_with_event who event books) p [] ≡ get_or books p [] ++ (if who == p then event ∷ [] else [])
 with_event-at who p event [] low = absurd (omega arith)
 with_event-at zero zero event (book ∷ books) low = refl
 with_event-at zero (suc p) event (book ∷ books) low = sym (append-nil (get_or books p [])) ∙ ap (λ (b : Bool). get_or books p [] ++ if_said event b) (sym (first_other p))
@@ -131,7 +131,7 @@ module _ (s : HubSettings) where
   one_leads : (line : List ℕ) (lines : List (List ℕ)) (told : Result Entry BookFault) → event_of_line s line ≡ told → LeadFrom lines → (before after : List (List Event)) → go_on (with_lines s lines) before told ≡ Ok after → Leads (line ∷ lines) before after
   one_leads line lines (Err fault) says rest before after is = absurd (cc is)
   one_leads line lines (Ok entry) says rest before after is =
-      let next = with_event entry.0 entry.1 before in
+      let next = books_with_event entry.0 entry.1 before in
       let long = with_event-length entry.0 entry.1 before in
       let leads = rest next after is in record {
         events = (subst (λ (r : Result Entry BookFault). IsOkAnd r (λ e. is_participant s e.0 ≡ true)) (sym says) (line_there s line entry says), leads.events);

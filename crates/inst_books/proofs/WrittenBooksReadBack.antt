@@ -12,11 +12,11 @@ use Rattle.inst_log.proofs.Lines.{IsLine, AllLines, recovered_blocks}
 use Rattle.inst_books.specs.declared.fault.BookFault.{BookFault}
 use Rattle.inst_books.specs.declared.fault.BookFault.TheVariants.{BadLine}
 use Rattle.inst_books.specs.Events.{event_line, event_can_be_written}
-use Rattle.inst_books.specs.Books.{lines_from, book_lines, books_text, with_event, go_on, with_lines, no_books, books_of_text}
+use Rattle.inst_books.specs.Books.{book_lines_from, book_lines, books_text, books_with_event, go_on, with_lines, no_books, books_of_text}
 use Rattle.inst_books.specs.Laws.{event_has_form, IsEventOf, IsPlainLine, ArePlainLines, AreLinesOfALog, AreBooksOf}
 use Rattle.inst_books.proofs.WrittenEventReadsBack.{line_reads_back, plain_line}
 
-with_event_at : (front : List (List Event)) (book : List Event) (back : List (List Event)) (event : Event) → with_event (length front) event (front ++ book ∷ back) ≡ front ++ (book ++ event ∷ []) ∷ back
+with_event_at : (front : List (List Event)) (book : List Event) (back : List (List Event)) (event : Event) → books_with_event (length front) event (front ++ book ∷ back) ≡ front ++ (book ++ event ∷ []) ∷ back
 with_event_at [] book back event = refl
 with_event_at (first ∷ front) book back event = ap (λ (books : List (List Event)). first ∷ books) (with_event_at front book back event)
 
@@ -48,7 +48,7 @@ module _ (s : HubSettings) (lawful : IsSettings s) (coded : list_all is_code s.c
 
   all_books : (books front : List (List Event)) → length front + length books ≤ participants s
       → list_all (list_all (event_can_be_written s)) books ≡ true → list_all (list_all event_has_form) books ≡ true
-      → with_lines s (lines_from s (length front) books) (front ++ replicate (length books) []) ≡ Ok (front ++ books)
+      → with_lines s (book_lines_from s (length front) books) (front ++ replicate (length books) []) ≡ Ok (front ++ books)
   all_books [] front few writable form = refl
   all_books (book ∷ books) front few writable form =
       let can = and_parts (list_all (event_can_be_written s) book) (list_all (list_all (event_can_be_written s)) books) writable in
@@ -56,9 +56,9 @@ module _ (s : HubSettings) (lawful : IsSettings s) (coded : list_all is_code s.c
       let known = participant_below s (length front) (omega (arith, few)) in
       let rest : List (List Event) = replicate (length books) [] in
       let longer : length (front ++ book ∷ []) ≡ length front + 1 = length-append front (book ∷ []) in
-      one_book book (lines_from s (length front + 1) books) front [] rest known can.0 has.0
-      ∙ ap (λ (n : ℕ). with_lines s (lines_from s n books) (front ++ book ∷ rest)) (sym longer)
-      ∙ ap (with_lines s (lines_from s (length (front ++ book ∷ [])) books)) (sym (append_assoc front (book ∷ []) rest))
+      one_book book (book_lines_from s (length front + 1) books) front [] rest known can.0 has.0
+      ∙ ap (λ (n : ℕ). with_lines s (book_lines_from s n books) (front ++ book ∷ rest)) (sym longer)
+      ∙ ap (with_lines s (book_lines_from s (length (front ++ book ∷ [])) books)) (sym (append_assoc front (book ∷ []) rest))
       ∙ all_books books (front ++ book ∷ []) (omega (arith, few, longer)) can.1 has.1
       ∙ ap as_ok (append_assoc front (book ∷ []) books)
 
@@ -76,12 +76,12 @@ module _ (s : HubSettings) (lawful : IsSettings s) (coded : list_all is_code s.c
       (plain_line s who event (event_is who event known can.0 has.0), plain_book who events known can.1 has.1)
 
   plain_books : (who : ℕ) (books : List (List Event)) → who + length books ≤ participants s
-      → list_all (list_all (event_can_be_written s)) books ≡ true → list_all (list_all event_has_form) books ≡ true → ArePlainLines (lines_from s who books)
+      → list_all (list_all (event_can_be_written s)) books ≡ true → list_all (list_all event_has_form) books ≡ true → ArePlainLines (book_lines_from s who books)
   plain_books who [] few writable form = tt
   plain_books who (book ∷ books) few writable form =
       let can = and_parts (list_all (event_can_be_written s) book) (list_all (list_all (event_can_be_written s)) books) writable in
       let has = and_parts (list_all event_has_form book) (list_all (list_all event_has_form) books) form in
-      plain_joined (map (event_line s who) book) (lines_from s (who + 1) books)
+      plain_joined (map (event_line s who) book) (book_lines_from s (who + 1) books)
       (plain_book who book (participant_below s who (omega (arith, few))) can.0 has.0)
       (plain_books (who + 1) books (omega (arith, few)) can.1 has.1)
 

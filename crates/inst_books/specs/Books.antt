@@ -21,13 +21,13 @@ abbrev pub AreWritable : HubSettings → List (List Event) → Type 0
 AreWritable s books = list_all (list_all (event_can_be_written s)) books ≡ true
 
 -- the lines of the books of the participants from `who` on
-abbrev pub lines_from : HubSettings → ℕ → List (List Event) → List (List ℕ)
-lines_from s who [] = []
-lines_from s who (book ∷ books) = map (event_line s who) book ++ lines_from s (who + 1) books
+abbrev pub book_lines_from : HubSettings → ℕ → List (List Event) → List (List ℕ)
+book_lines_from s who [] = []
+book_lines_from s who (book ∷ books) = map (event_line s who) book ++ book_lines_from s (who + 1) books
 
 -- the lines of all books
 abbrev pub book_lines : HubSettings → List (List Event) → List (List ℕ)
-book_lines s books = lines_from s 0 books
+book_lines s books = book_lines_from s 0 books
 
 -- all books as text
 unfoldable pub books_text : HubSettings → List (List Event) → List ℕ
@@ -38,16 +38,16 @@ abbrev pub no_books : HubSettings → List (List Event)
 no_books s = replicate (participants s) []
 
 -- the books, with one event more in that of the participant `who`
-abbrev pub with_event : ℕ → Event → List (List Event) → List (List Event)
-with_event who event [] = []
-with_event zero event (book ∷ books) = (book ++ event ∷ []) ∷ books
-with_event (suc who) event (book ∷ books) = book ∷ with_event who event books
+abbrev pub books_with_event : ℕ → Event → List (List Event) → List (List Event)
+books_with_event who event [] = []
+books_with_event zero event (book ∷ books) = (book ++ event ∷ []) ∷ books
+books_with_event (suc who) event (book ∷ books) = book ∷ books_with_event who event books
 
 -- an event that was read goes into its book, and then the others into theirs; the first bad line
 -- stands
 abbrev pub go_on : (List (List Event) → Result (List (List Event)) BookFault) → List (List Event) →
     Result Entry BookFault → Result (List (List Event)) BookFault
-go_on others books (Ok entry) = others (with_event entry.0 entry.1 books)
+go_on others books (Ok entry) = others (books_with_event entry.0 entry.1 books)
 go_on others books (Err fault) = Err fault
 
 -- the books, with the events that these lines say put into them in order

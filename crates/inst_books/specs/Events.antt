@@ -30,8 +30,8 @@ funding_data book name funding = object (members (
     ∷ event_member name
     ∷ (codes "ref", string funding.reference) ∷ []))
 
-abbrev pub taken_data : List ℕ → List ℕ → List ℕ → ℕ → ℕ → Data
-taken_data book id to cents stamp = object (members (
+abbrev pub taken_event_data : List ℕ → List ℕ → List ℕ → ℕ → ℕ → Data
+taken_event_data book id to cents stamp = object (members (
     in_book book
     ∷ (codes "cents", whole cents)
     ∷ event_member (codes "taken")
@@ -57,8 +57,8 @@ booked_data book from id outcome = object (members (
     ∷ (codes "id", string id)
     ∷ (codes "outcome", string outcome) ∷ []))
 
-abbrev pub rejected_data : List ℕ → List ℕ → List ℕ → List ℕ → Data
-rejected_data book from id reason = object (members (
+abbrev pub rejected_event_data : List ℕ → List ℕ → List ℕ → List ℕ → Data
+rejected_event_data book from id reason = object (members (
     in_book book
     ∷ event_member (codes "booked")
     ∷ (codes "from", string from)
@@ -80,7 +80,7 @@ opened_data book = object (members (
 -- an outcome is named as replies of state name it
 abbrev pub outcome_data : List ℕ → List ℕ → List ℕ → Outcome → Data
 outcome_data book from id Accepted = booked_data book from id (codes "accepted")
-outcome_data book from id (Rejected reason) = rejected_data book from id reason
+outcome_data book from id (Rejected reason) = rejected_event_data book from id reason
 outcome_data book from id TimedOut = booked_data book from id (codes "timed_out")
 
 -- an event in the book that has this code
@@ -88,7 +88,7 @@ abbrev pub data_in : HubSettings → List ℕ → Event → Data
 data_in s book (Funded funding) = funding_data book (codes "funded") funding
 data_in s book (Defunded funding) = funding_data book (codes "defunded") funding
 data_in s book (Taken id to cents stamp) =
-    taken_data book id (code_numbered s to) cents (s.base + stamp)
+    taken_event_data book id (code_numbered s to) cents (s.base + stamp)
 data_in s book (Forwarded from id cents deadline) =
     forwarded_data book (code_numbered s from) id cents (s.base + deadline)
 data_in s book (Booked from id outcome) = outcome_data book (code_numbered s from) id outcome

@@ -128,14 +128,14 @@ or_bad_line (Ok x) = Ok x
 or_bad_line (Err fault) = Err BadLine
 
 -- what is returned is what is wanted, or that memory was refused, whenever that is
-abbrev pub IsUnlessMemory : {X : Type 0} → Result X BookFault → Result X BookFault → Type 0
-IsUnlessMemory returned wanted = (returned ≡ Err Memory) ⊎ (returned ≡ wanted)
+abbrev pub IsBookUnlessMemory : {X : Type 0} → Result X BookFault → Result X BookFault → Type 0
+IsBookUnlessMemory returned wanted = (returned ≡ Err Memory) ⊎ (returned ≡ wanted)
 
 -- what is returned, seen by view, is what is wanted, or that memory was refused, whenever that is
-abbrev pub GivesUnlessMemory : {X Y : Type 0} → (X → Y) → Result X BookFault → Result Y BookFault →
+abbrev pub GivesBookUnlessMemory : {X Y : Type 0} → (X → Y) → Result X BookFault → Result Y BookFault →
     Type 0
-GivesUnlessMemory view (Ok x) wanted = Ok (view x) ≡ wanted
-GivesUnlessMemory view (Err fault) wanted = (fault ≡ Memory) ⊎ (Err fault ≡ wanted)
+GivesBookUnlessMemory view (Ok x) wanted = Ok (view x) ≡ wanted
+GivesBookUnlessMemory view (Err fault) wanted = (fault ≡ Memory) ⊎ (Err fault ≡ wanted)
 
 -- the event of a line, and in whose book it stands, or that it is a bad one
 abbrev pub event_of_line : HubSettings → List ℕ → Result Entry BookFault

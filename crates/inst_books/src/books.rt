@@ -8,9 +8,9 @@ ghost use Rattle.inst_command.specs.LineText.{code_numbered};
 ghost use Rattle.inst_log.specs.Layout.{blocks};
 ghost use Rattle.inst_books.specs.Events.{event_line, event_can_be_written};
 ghost use Rattle.inst_books.specs.Laws.{event_has_form, AreBooksOf};
-ghost use Rattle.inst_books.specs.Reading.{GivesUnlessMemory, event_of_line};
+ghost use Rattle.inst_books.specs.Reading.{GivesBookUnlessMemory, event_of_line};
 ghost use Rattle.inst_books.specs.Books.{all_events, books_text, books_of_text, no_books};
-ghost use Rattle.inst_books.specs.Books.{with_event};
+ghost use Rattle.inst_books.specs.Books.{books_with_event};
 ghost use Rattle.inst_books.specs.Books.{AreWritable};
 ghost use Rattle.inst_books.specs.inner.Books.{KeepsEvent};
 
@@ -86,7 +86,7 @@ pub fn read_books(
     settings: &Settings,
     text: &[u8],
 ) -> Result<Vec<Journal>, BookFault>
-    ensures value { GivesUnlessMemory (λ journals. all_events journals.items) result
+    ensures value { GivesBookUnlessMemory (λ journals. all_events journals.items) result
         (books_of_text settings.now text.now) }
 
     // So they can be written again.
@@ -140,7 +140,7 @@ fn no_journals(alloc: Global, settings: &Settings) -> Result<Vec<Journal>, Alloc
 fn keep(journals: &mut [Journal], who: u8, event: Event) -> Result<(), AllocError>
     requires { who < length journals.old }
     ensures { OnOk result (all_events journals.new
-        ≡ with_event who event (all_events journals.old)) }
+        ≡ books_with_event who event (all_events journals.old)) }
 {
     mention::<Outcome>();
     match journals[usize::from(who)].push(event) {

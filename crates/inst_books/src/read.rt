@@ -7,7 +7,7 @@ ghost use Rattle.inst_json.specs.Lines.{json_of};
 ghost use Rattle.inst_json.specs.inner.Refusals.{GivesUnlessMemory};
 ghost use Rattle.inst_books.specs.Events.{event_can_be_written};
 ghost use Rattle.inst_books.specs.Reading.{event_of_line, entry_of_line, entry_in, event_named};
-ghost use Rattle.inst_books.specs.Reading.{IsUnlessMemory};
+ghost use Rattle.inst_books.specs.Reading.{IsBookUnlessMemory};
 ghost use Rattle.inst_books.specs.Reading.{funded_in, defunded_in, taken_in, forwarded_in};
 ghost use Rattle.inst_books.specs.Reading.{booked_in, fetched_in};
 
@@ -27,7 +27,7 @@ use std::alloc::Global;
 /// ignored, and of one given twice the last counts. `Memory` comes only where memory was refused. A
 /// line has a tree while it is read.
 pub fn read_event(alloc: Global, settings: &Settings, line: &[u8]) -> Result<(u8, Event), BookFault>
-    ensures value { IsUnlessMemory result (event_of_line settings.now line.now) }
+    ensures value { IsBookUnlessMemory result (event_of_line settings.now line.now) }
     ensures book { IfOk result (λ entry. is_participant settings.now entry.0 ≡ true) }
     ensures writable { IfOk result (λ entry. event_can_be_written settings.now entry.1 ≡ true) }
 {

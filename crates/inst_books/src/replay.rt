@@ -5,7 +5,7 @@ ghost use Rattle.inst_journal.specs.Money.{available};
 ghost use Rattle.inst_journal.specs.Opened.{live_submissions, live_forwarded};
 ghost use Rattle.inst_journal.specs.Sound.{Fits, FundedFits, TakenFits, ForwardedFits, BookedFits};
 ghost use Rattle.inst_journal.specs.Sound.{FetchedFits, OpenedFits};
-ghost use Rattle.inst_ledger.specs.Book.{with_event};
+ghost use Rattle.inst_ledger.specs.Book.{ledger_with_event};
 
 use crate::tally::Tally;
 use inst_base::{Cents, Ident, Moment};
@@ -32,10 +32,10 @@ pub struct Replay {
 }
 
 impl Model for Replay {
-    ghost use Rattle.inst_ledger.specs.Book.{Book};
+    ghost use Rattle.inst_ledger.specs.LedgerBook.{LedgerBook};
     ghost use Rattle.inst_books.specs.Tally.{IsTally};
 
-    ghost Value = { Book };
+    ghost Value = { LedgerBook };
 
     ghost view = { λ r. r.ledger.book };
 
@@ -167,7 +167,7 @@ impl Replay {
     /// Keeps an event that fits. Where memory is refused the book is as it was.
     pub fn keep(&mut self, event: Event) -> Result<(), AllocError>
         requires { Fits self.old.settings self.old.who self.old.events event }
-        ensures ok { OnOk result (self.new ≡ with_event self.old event) }
+        ensures ok { OnOk result (self.new ≡ ledger_with_event self.old event) }
         ensures err { OnErr result (self.new ≡ self.old) }
     {
         self.ledger.keep(event)?;

@@ -5,7 +5,7 @@ ghost use Rattle.inst_base.specs.TimeLimit.{deadline_of};
 ghost use Rattle.inst_journal.specs.Booked.{first_some, booked};
 ghost use Rattle.inst_ledger.specs.Kept.{sending_of, forwarding_of};
 ghost use Rattle.inst_books.specs.inner.Agreeing.{IsReleased, IsReceived, IsSent, Agrees};
-ghost use Rattle.inst_books.specs.inner.Agreeing.{histories_of};
+ghost use Rattle.inst_books.specs.inner.Agreeing.{ledger_histories};
 
 use inst_base::{Cents, Ident, Moment, mention};
 use inst_command::Outcome;
@@ -74,21 +74,21 @@ fn is_sent(sent: &Option<Sending>, limit: u32, to: u8, cents: Cents, deadline: M
 
 /// What came of the transfer to the participant `who`.
 fn forwarding(ledgers: &[Ledger], who: u8, from: u8, id: &Ident) -> Option<Forwarding>
-    ensures { result ≡ first_some (forwarding_of (from, id.now)) (histories_of ledgers.now who) }
+    ensures { result ≡ first_some (forwarding_of (from, id.now)) (ledger_histories ledgers.now who) }
 {
     ledgers.get(usize::from(who))?.forwarding(from, id)
 }
 
 /// What the participant `who` has sent with the transfer.
 fn sending(ledgers: &[Ledger], who: u8, id: &Ident) -> Option<Sending>
-    ensures { result ≡ first_some (sending_of id.now) (histories_of ledgers.now who) }
+    ensures { result ≡ first_some (sending_of id.now) (ledger_histories ledgers.now who) }
 {
     ledgers.get(usize::from(who))?.sending(id)
 }
 
 /// The outcome that the participant `who` has booked for the transfer.
 fn booked(ledgers: &[Ledger], who: u8, from: u8, id: &Ident) -> Option<Outcome>
-    ensures { result ≡ booked from id.now (histories_of ledgers.now who) }
+    ensures { result ≡ booked from id.now (ledger_histories ledgers.now who) }
 {
     ledgers.get(usize::from(who))?.booked(from, id)
 }
@@ -96,7 +96,7 @@ fn booked(ledgers: &[Ledger], who: u8, from: u8, id: &Ident) -> Option<Outcome>
 /// Whether what the event of the participant `who` says of a transfer agrees with what the other
 /// side has. It costs three looks at a table at most.
 fn agrees(ledgers: &[Ledger], limit: u32, who: u8, event: &Event) -> bool
-    ensures { IsTrue result ↔ Agrees limit (histories_of ledgers.now) who event.now }
+    ensures { IsTrue result ↔ Agrees limit (ledger_histories ledgers.now) who event.now }
 {
     match event {
         Event::Taken {
@@ -128,7 +128,7 @@ fn agrees(ledgers: &[Ledger], limit: u32, who: u8, event: &Event) -> bool
 
 /// Whether each of these events of the participant `who` agrees with the other side.
 fn all_agree(ledgers: &[Ledger], limit: u32, who: u8, events: &[Event]) -> bool
-    ensures { IsTrue result ↔ All (Agrees limit (histories_of ledgers.now) who) events.now }
+    ensures { IsTrue result ↔ All (Agrees limit (ledger_histories ledgers.now) who) events.now }
 {
     mention::<Outcome>();
     events
@@ -140,7 +140,7 @@ fn all_agree(ledgers: &[Ledger], limit: u32, who: u8, events: &[Event]) -> bool
 pub(crate) fn books_agree(ledgers: &[Ledger], limit: u32) -> bool
     requires { length ledgers.now ≤ 256 }
     ensures { IsTrue result ↔
-        ((p : ℕ) → All (Agrees limit (histories_of ledgers.now) p) (histories_of ledgers.now p)) }
+        ((p : ℕ) → All (Agrees limit (ledger_histories ledgers.now) p) (ledger_histories ledgers.now p)) }
 {
     for (who, ledger) in ledgers.iter().enumerate() {
         if !all_agree(ledgers, limit, who as u8, ledger.journal().events()) {

@@ -8,8 +8,8 @@ ghost use Rattle.inst_settings.specs.Settings.{is_participant};
 ghost use Rattle.inst_books.specs.Events.{data_in, event_can_be_written};
 ghost use Rattle.inst_books.specs.inner.Events.{is_name};
 ghost use Rattle.inst_books.specs.Laws.{event_has_form, outcome_has_form};
-ghost use Rattle.inst_books.specs.Events.{funding_data, taken_data, forwarded_data, booked_data};
-ghost use Rattle.inst_books.specs.Events.{rejected_data};
+ghost use Rattle.inst_books.specs.Events.{funding_data, taken_event_data, forwarded_data, booked_data};
+ghost use Rattle.inst_books.specs.Events.{rejected_event_data};
 ghost use Rattle.inst_books.specs.Events.{outcome_data, fetched_data, opened_data};
 
 use crate::members::{push_book, push_end, push_text_member, push_whole_member};
@@ -106,7 +106,7 @@ fn append_taken<'a>(
     requires book { IsTrue (is_code book.now) }
     requires to { IsTrue (is_code to.now) }
     ensures text { OnOk result (out.new.items
-        ≡ out.old.items ++ compact_text (taken_data book.now id.now to.now cents stamp)) }
+        ≡ out.old.items ++ compact_text (taken_event_data book.now id.now to.now cents stamp)) }
     ensures form { (is_identifier id.now && is_amount cents) ≡ true }
 {
     let id = id.text();
@@ -199,7 +199,7 @@ fn append_rejected<'a>(
     requires book { IsTrue (is_code book.now) }
     requires from { IsTrue (is_code from.now) }
     ensures text { OnOk result (out.new.items
-        ≡ out.old.items ++ compact_text (rejected_data book.now from.now id.now reason.now)) }
+        ≡ out.old.items ++ compact_text (rejected_event_data book.now from.now id.now reason.now)) }
     ensures form { (is_identifier id.now && is_reason reason.now) ≡ true }
 {
     let id = id.text();

@@ -8,23 +8,23 @@ use Rattle.inst_settings.specs.Settings.{HubSettings}
 use Rattle.inst_settings.specs.Lawful.{AreOfAHub}
 use Rattle.inst_lines.specs.declared.mode.Mode.{Mode}
 use Rattle.inst_lines.specs.Answers.{AnswersLine}
-use Rattle.inst_lines.specs.Answering.{hub_answerer, Keeps}
+use Rattle.inst_lines.specs.Answering.{hub_answerer, IsRunnerAt}
 use Rattle.inst_c.specs.declared.line_hub.LineHub.{LineHub}
 use Rattle.inst_c.specs.declared.calls.Told.{Told}
 use Rattle.inst_c.specs.declared.status.TheConstants.{DONE, CLOSED, STILL_OPEN, SHORT}
-use Rattle.inst_c.specs.LineHub.{HasOpened}
+use Rattle.inst_c.specs.LineHub.{HasFirstOpened}
 
 -- a hub of these settings has opened
 pub record HasOpenedOf (s : HubSettings) (mode : Mode) (new : Option LineHub) : Type 0 where
   pub hub : LineHub
   pub is : new ≡ Some hub
-  pub opened : HasOpened mode s hub
+  pub opened : HasFirstOpened mode s hub
   pub good : AreOfAHub s
 
 -- a hub opens where none is open, if it can have the settings and there is memory for it
-abbrev pub Opens : HubSettings → Mode → Option LineHub → Option LineHub → ℕ → Type 0
-Opens s mode (Some hub) new status = (status ≡ STILL_OPEN) × (new ≡ Some hub)
-Opens s mode None new status =
+abbrev pub OpensHub : HubSettings → Mode → Option LineHub → Option LineHub → ℕ → Type 0
+OpensHub s mode (Some hub) new status = (status ≡ STILL_OPEN) × (new ≡ Some hub)
+OpensHub s mode None new status =
     ((status ≡ DONE) × HasOpenedOf s mode new)
     ⊎ (((status ≡ number_of Memory) × (new ≡ None))
     ⊎ ((status ≡ number_of BadSettings) × ((new ≡ None) × ¬ (AreOfAHub s))))
@@ -35,7 +35,7 @@ pub record HasAnswered (line : List ℕ) (old : LineHub) (new : Option LineHub) 
     pub hub : LineHub
     pub is : new ≡ Some hub
     pub mode_is : hub.mode ≡ old.mode
-    pub answers : AnswersLine (hub_answerer old.mode) (Keeps old.mode) false line old.runner
+    pub answers : AnswersLine (hub_answerer old.mode) (IsRunnerAt old.mode) false line old.runner
         hub.runner
         [] hub.reply.items told.is_refused
     pub length_is : told.length ≡ length hub.reply.items

@@ -21,5 +21,5 @@ abbrev pub mode_of : Bool → Mode
 mode_of is_play = if is_play then Play else Run
 
 -- why no hub opens: want of memory, or settings that none can have
-abbrev pub IsRefusal : HubSettings → Fault → Type 0
-IsRefusal s fault = (fault ≡ Memory) ⊎ ((fault ≡ BadSettings) × ¬ (AreOfAHub s))
+abbrev pub IsOpenRefusal : HubSettings → Fault → Type 0
+IsOpenRefusal s fault = (fault ≡ Memory) ⊎ ((fault ≡ BadSettings) × ¬ (AreOfAHub s))

@@ -14,6 +14,6 @@ held_owns alloc p None = ftrue
 held_owns alloc p (Some hub) = box_owns (ghosts.dealloc_token alloc) the_row p hub
 
 -- the hub is taken, if there is one
-abbrev pub Takes : Option LineHub → Option (Box LineHub) → Type 0
-Takes held None = held ≡ None
-Takes held (Some taken) = held ≡ Some taken.value
+abbrev pub TakesHub : Option LineHub → Option (Box LineHub) → Type 0
+TakesHub held None = held ≡ None
+TakesHub held (Some taken) = held ≡ Some taken.value

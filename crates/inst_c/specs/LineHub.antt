@@ -2,11 +2,11 @@
 use Rattle.std.specs.Prelude.{◌≡◌, []}
 use Rattle.inst_settings.specs.Settings.{HubSettings}
 use Rattle.inst_lines.specs.declared.mode.Mode.{Mode}
-use Rattle.inst_lines.specs.Answering.{Keeps, opened}
+use Rattle.inst_lines.specs.Answering.{IsRunnerAt, new_past}
 use Rattle.inst_c.specs.declared.line_hub.LineHub.{LineHub}
 
 -- a hub has opened for the first time, its lines stand for this, and it has answered none
-pub record HasOpened (mode : Mode) (s : HubSettings) (hub : LineHub) : Type 0 where
+pub record HasFirstOpened (mode : Mode) (s : HubSettings) (hub : LineHub) : Type 0 where
   pub mode_is : hub.mode ≡ mode
-  pub keeps : Keeps mode (opened s) hub.runner
+  pub keeps : IsRunnerAt mode (new_past s) hub.runner
   pub no_reply : hub.reply.items ≡ []

@@ -1,9 +1,9 @@
 //! What C calls. The header `inst.h` says what each call is given, and what it answers.
 ghost use Rattle.std.specs.Prelude.{◌≡◌, IfOk, IfErr, None, is_some, if◌then◌else◌};
 ghost use Rattle.inst_settings.specs.Lawful.{AreOfAHub};
-ghost use Rattle.inst_c.specs.LineHub.{HasOpened};
-ghost use Rattle.inst_c.specs.Chosen.{chosen, mode_of, IsRefusal};
-ghost use Rattle.inst_c.specs.Calls.{Opens, Answers, Copies, CopiesBytes};
+ghost use Rattle.inst_c.specs.LineHub.{HasFirstOpened};
+ghost use Rattle.inst_c.specs.Chosen.{chosen, mode_of, IsOpenRefusal};
+ghost use Rattle.inst_c.specs.Calls.{OpensHub, Answers, Copies, CopiesBytes};
 
 use crate::chosen::{Chosen, mode};
 use crate::handle::Handle;
@@ -31,7 +31,7 @@ pub extern "C" fn inst_open(
     settings: &Chosen,
     is_play: bool,
 ) -> u32
-    ensures { Opens (chosen participants.now settings.now) (mode_of is_play) handle.old.held.hub
+    ensures { OpensHub (chosen participants.now settings.now) (mode_of is_play) handle.old.held.hub
         handle.new.held.hub result }
 {
     if handle.is_open {
@@ -54,9 +54,9 @@ fn opened(
     is_play: bool,
 ) -> Result<Box<LineHub>, Fault>
     ensures opened { IfOk result (λ hub.
-        HasOpened (mode_of is_play) (chosen participants.now settings.now) hub.value) }
+        HasFirstOpened (mode_of is_play) (chosen participants.now settings.now) hub.value) }
     ensures good { IfOk result (λ _. AreOfAHub (chosen participants.now settings.now)) }
-    ensures fault { IfErr result (IsRefusal (chosen participants.now settings.now)) }
+    ensures fault { IfErr result (IsOpenRefusal (chosen participants.now settings.now)) }
 {
     let settings = settings.settings(alloc, participants)?;
     let hub = LineHub::open(alloc, mode(is_play), &settings)?;

@@ -29,14 +29,14 @@ pub struct Chosen {
 
 impl Chosen {
     ghost use Rattle.inst_settings.specs.Lawful.{AreOfAHub};
-    ghost use Rattle.inst_c.specs.Chosen.{chosen, IsRefusal};
+    ghost use Rattle.inst_c.specs.Chosen.{chosen, IsOpenRefusal};
 
     /// The settings, with the participants whose codes stand in the text with commas between them.
     /// `BadSettings` where no hub can have them, and `Memory` where there is no room for the codes.
     pub fn settings(&self, alloc: Global, participants: &[u8]) -> Result<Settings, Fault>
         ensures chosen { IfOk result (λ settings. settings ≡ chosen participants.now self.now) }
         ensures good { IfOk result AreOfAHub }
-        ensures fault { IfErr result (IsRefusal (chosen participants.now self.now)) }
+        ensures fault { IfErr result (IsOpenRefusal (chosen participants.now self.now)) }
     {
         let codes = parse_codes(alloc, participants)?;
         let numbers = HubParameters {

@@ -1,6 +1,6 @@
 //! The handle that C has of a hub.
 ghost use Rattle.std.specs.Prelude.{◌≡◌, Some, None, is_some};
-ghost use Rattle.inst_c.specs.HeldHub.{Takes};
+ghost use Rattle.inst_c.specs.HeldHub.{TakesHub};
 
 use crate::held_hub::HeldHub;
 use crate::line_hub::LineHub;
@@ -21,7 +21,7 @@ pub struct Handle {
 impl Handle {
     /// Takes the hub, if one is open. The handle has none then.
     pub fn take(&mut self, alloc: Global) -> Option<Box<LineHub>>
-        ensures taken { Takes self.old.held.hub result }
+        ensures taken { TakesHub self.old.held.hub result }
         ensures none { self.new.held.hub ≡ None }
     {
         let none = Handle {

@@ -1,7 +1,7 @@
 //! A hub that answers one line after another, and keeps the last reply.
 ghost use Rattle.std.specs.Prelude.{◌≡◌, false, [], IfOk};
 ghost use Rattle.inst_lines.specs.Answers.{AnswersLine};
-ghost use Rattle.inst_lines.specs.Answering.{hub_answerer, Keeps};
+ghost use Rattle.inst_lines.specs.Answering.{hub_answerer, IsRunnerAt};
 
 use inst_agenda::Runner;
 use inst_json::LineReader;
@@ -22,11 +22,11 @@ pub struct LineHub {
 }
 
 impl LineHub {
-    ghost use Rattle.inst_c.specs.LineHub.{HasOpened};
+    ghost use Rattle.inst_c.specs.LineHub.{HasFirstOpened};
 
     /// A hub that opens for the first time.
     pub fn open(alloc: Global, mode: Mode, settings: &Settings) -> Result<LineHub, AllocError>
-        ensures opened { IfOk result (HasOpened mode settings.now) }
+        ensures opened { IfOk result (HasFirstOpened mode settings.now) }
     {
         let runner = Runner::open(alloc, settings)?;
         Ok(LineHub {
@@ -41,7 +41,7 @@ impl LineHub {
     /// reply to the line before is let go. After an error the hub may have gone on: let it go.
     pub fn answer(&mut self, line: &[u8]) -> Result<bool, AllocError>
         ensures answers { IfOk result (λ refused.
-            AnswersLine (hub_answerer self.old.mode) (Keeps self.old.mode) false line.now
+            AnswersLine (hub_answerer self.old.mode) (IsRunnerAt self.old.mode) false line.now
             self.old.runner self.new.runner [] self.new.reply.items refused) }
         ensures mode { self.new.mode ≡ self.old.mode }
     {

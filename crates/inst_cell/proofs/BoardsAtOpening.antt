@@ -13,10 +13,10 @@ use Rattle.inst_cell.specs.declared.view.Known.{Known}
 use Rattle.inst_cell.specs.declared.view.View.{View}
 use Rattle.inst_cell.specs.declared.shared_board.SharedBoard.{SharedBoard}
 use Rattle.inst_cell.specs.declared.sight.Sight.{Sight}
-use Rattle.inst_cell.specs.View.{known, all_of, count, roles_from, with_role, without_role, informed_view}
-use Rattle.inst_cell.specs.Rule.{total}
+use Rattle.inst_cell.specs.View.{known, all_that_is_known, count, roles_from, with_role, without_role, informed_view}
+use Rattle.inst_cell.specs.Rule.{count_of_places}
 use Rattle.inst_cell.specs.Held.{settings_of, table_of, view_of, roles_of, has_role, knows, AtOneTable}
-use Rattle.inst_cell.specs.Seen.{board_of}
+use Rattle.inst_cell.specs.Seen.{board_of_sight}
 use Rattle.inst_cell.specs.Opening.{HasAllRoles, IsWhole, IsDealt, IsAdmitted, AreDealt, AreAdmitted, AreOpened}
 use Rattle.inst_cell.proofs.Tally.{count_one, count_left, count_right, only_role}
 
@@ -31,7 +31,7 @@ five_words zero (suc b) x ha hb e = absurd (omega arith)
 five_words (suc a) (suc b) x ha hb e = let s = suc-mul b (suc a) in omega arith
 
 -- there is a first place
-pub first_below : (s : HubSettings) (a b : ℕ) → 1 ≤ a → 1 ≤ b → a ≡ participants s → b ≡ s.places → 0 < total s
+pub first_below : (s : HubSettings) (a b : ℕ) → 1 ≤ a → 1 ≤ b → a ≡ participants s → b ≡ s.places → 0 < count_of_places s
 first_below s a b ha hb ea eb =
     subst (λ (x : ℕ). 0 < x * participants s) eb (subst (λ (x : ℕ). 0 < b * x) ea (product a b ha hb))
   where
@@ -48,8 +48,8 @@ zeros zero x = refl
 zeros (suc n) zero = refl
 zeros (suc n) (suc x) = zeros n x
 
-pub sized_as : (l a b : ℕ) (s t : HubSettings) → l ≡ a * b * 6 → a ≡ t.places → b ≡ participants t → s ≡ t → l ≡ total s * 6
-sized_as l a b s t e p q f = e ∙ (ap (λ (x : ℕ). x * b * 6) p ∙ (ap (λ (x : ℕ). t.places * x * 6) q ∙ ap (λ (x : HubSettings). total x * 6) (sym f)))
+pub sized_as : (l a b : ℕ) (s t : HubSettings) → l ≡ a * b * 6 → a ≡ t.places → b ≡ participants t → s ≡ t → l ≡ count_of_places s * 6
+sized_as l a b s t e p q f = e ∙ (ap (λ (x : ℕ). x * b * 6) p ∙ (ap (λ (x : ℕ). t.places * x * 6) q ∙ ap (λ (x : HubSettings). count_of_places x * 6) (sym f)))
 
 roles_cut : (i n : ℕ) → i < n → roles_from i (n - i) ≡ i ∷ roles_from (suc i) (n - suc i)
 roles_cut i n h = let e : n - i ≡ suc (n - suc i) = omega arith in ap (λ (m : ℕ). roles_from i m) e
@@ -69,15 +69,15 @@ whole_role b p all below = subst (λ (r : List ℕ). 0 < count p r) (sym all) (r
 pub whole_still : (a b : SharedBoard) → settings_of b ≡ settings_of a → roles_of b ≡ roles_of a → HasAllRoles a → HasAllRoles b
 whole_still a b same roles all = roles ∙ (all ∙ ap (λ (s : HubSettings). roles_from 0 (participants s)) (sym same))
 
-knows_across : (a b : SharedBoard) (f : Fact) → settings_of b ≡ settings_of a → all_of (view_of b) ≡ all_of (view_of a) → knows b f → knows a f
+knows_across : (a b : SharedBoard) (f : Fact) → settings_of b ≡ settings_of a → all_that_is_known (view_of b) ≡ all_that_is_known (view_of a) → knows b f → knows a f
 knows_across a b f same facts h = (
   subst (λ (s : HubSettings). IsPlace s f.place) same h.0,
   subst (λ (l : List Known). Contains l (known (place_number (settings_of a) f.place) f.about)) facts
-      (subst (λ (s : HubSettings). Contains (all_of (view_of b)) (known (place_number s f.place) f.about)) same h.1),
+      (subst (λ (s : HubSettings). Contains (all_that_is_known (view_of b)) (known (place_number s f.place) f.about)) same h.1),
 )
 
 -- boards of one hub with the same facts know the same
-pub same_facts : (a b : SharedBoard) (f : Fact) → settings_of b ≡ settings_of a → all_of (view_of b) ≡ all_of (view_of a) → knows b f ↔ knows a f
+pub same_facts : (a b : SharedBoard) (f : Fact) → settings_of b ≡ settings_of a → all_that_is_known (view_of b) ≡ all_that_is_known (view_of a) → knows b f ↔ knows a f
 same_facts a b f same facts = (knows_across a b f same facts, knows_across b a f (sym same) (sym facts))
 
 -- the boards of the participants below `next`, and the board that has the other roles
@@ -85,7 +85,7 @@ pub record Dealt (all0 : SharedBoard) (n next : ℕ) (all : SharedBoard) (boards
   pub enough : length boards ≡ next
   pub one : AtOneTable all0 all
   pub roles : roles_of all ≡ roles_from next (n - next)
-  pub facts : all_of (view_of all) ≡ all_of (view_of all0)
+  pub facts : all_that_is_known (view_of all) ≡ all_that_is_known (view_of all0)
   pub each : (p : ℕ) (b : SharedBoard) → slice_get boards p ≡ Some b → IsDealt (settings_of all0) (table_of all0) (knows all0) p b
 
 -- a board that has the role i alone
@@ -108,14 +108,14 @@ dealt_more all0 n i all later new boards d below t1 v1 t2 v2 =
       settings = t1.1 ∙ d.one.1;
       table = t1.0 ∙ d.one.0;
       role = λ q. alone_role new i q mine;
-      known = λ f. same_facts all0 new f (t1.1 ∙ d.one.1) (ap all_of v1 ∙ d.facts);
+      known = λ f. same_facts all0 new f (t1.1 ∙ d.one.1) (ap all_that_is_known v1 ∙ d.facts);
     } in
     let many = d.enough in
     record {
       enough = length-append boards (new ∷ []) ∙ (let z : length boards + length (new ∷ []) ≡ i + 1 = omega arith in z);
       one = (t2.0 ∙ d.one.0, t2.1 ∙ d.one.1);
       roles = rest ∙ ap (λ (x : ℕ). roles_from x (n - x)) next;
-      facts = ap all_of v2 ∙ d.facts;
+      facts = ap all_that_is_known v2 ∙ d.facts;
       each = λ p b f. ⊎_elim (λ old. d.each p b old)
           (λ last. subst (λ (x : SharedBoard). IsDealt (settings_of all0) (table_of all0) (knows all0) p x) last.1
           (subst (λ (x : ℕ). IsDealt (settings_of all0) (table_of all0) (knows all0) x new) (sym (last.0 ∙ d.enough)) dealt))
@@ -130,12 +130,12 @@ pub record Seated (all0 : SharedBoard) (next : ℕ) (all : SharedBoard) (sights 
   pub each : (i : ℕ) (t : Sight) → slice_get sights i ≡ Some t → IsAdmitted (settings_of all0) (table_of all0) t
 
 pub seated_more : (all0 : SharedBoard) (i : ℕ) (all later : SharedBoard) (new : Sight) (sights : List Sight) → ((f : Fact) → ¬ knows all0 f) → Seated all0 i all sights
-    → AtOneTable all (board_of new) → view_of (board_of new) ≡ informed_view (view_of all)
+    → AtOneTable all (board_of_sight new) → view_of (board_of_sight new) ≡ informed_view (view_of all)
     → AtOneTable all later → view_of later ≡ view_of all
     → Seated all0 (i + 1) later (sights ++ new ∷ [])
 seated_more all0 i all later new sights nothing d t1 v1 t2 v2 =
-    let b = board_of new in
-    let facts : all_of (view_of b) ≡ all_of (view_of all0) = ap all_of v1 ∙ ap all_of d.same in
+    let b = board_of_sight new in
+    let facts : all_that_is_known (view_of b) ≡ all_that_is_known (view_of all0) = ap all_that_is_known v1 ∙ ap all_that_is_known d.same in
     let admitted : IsAdmitted (settings_of all0) (table_of all0) new = record {
       settings = t1.1 ∙ d.one.1;
       table = t1.0 ∙ d.one.0;

@@ -10,11 +10,11 @@ use Rattle.inst_board.specs.declared.about.Fact.{Fact}
 use Rattle.inst_board.specs.Standing.{about}
 use Rattle.inst_cell.specs.declared.view.View.{View}
 use Rattle.inst_cell.specs.declared.shared_board.SharedBoard.{SharedBoard}
-use Rattle.inst_cell.specs.Steps.{Shows}
+use Rattle.inst_cell.specs.Steps.{ShowsWord}
 use Rattle.inst_cell.specs.Held.{settings_of, view_of, knows}
 use Rattle.inst_cell.proofs.KnowledgeAfterStep.{knows_as}
 
-pub hit : (k : ℕ) (v w : View) (n old new m : ℕ) → n ≡ old → new ≡ m → Shows (n ≡ old) k v (either (eqb n old) new n) w → Shows (new ≡ m) k v new w
+pub hit : (k : ℕ) (v w : View) (n old new m : ℕ) → n ≡ old → new ≡ m → ShowsWord (n ≡ old) k v (either (eqb n old) new n) w → ShowsWord (new ≡ m) k v new w
 hit k v w n old new m e f s = record {
   standing = s.standing;
   is = sym (ap (λ b. either b new n) (eq-eqb n old e)) ∙ s.is;
@@ -26,7 +26,7 @@ hit k v w n old new m e f s = record {
   before = ⊎_elim (λ own. inl (f, own.1)) (λ b. inr b) s.before;
 }
 
-pub missed : (k : ℕ) (v w : View) (n old new m : ℕ) → n ≢ old → Shows (n ≡ old) k v (either (eqb n old) new n) w → Shows (n ≡ m) k v n w
+pub missed : (k : ℕ) (v w : View) (n old new m : ℕ) → n ≢ old → ShowsWord (n ≡ old) k v (either (eqb n old) new n) w → ShowsWord (n ≡ m) k v n w
 missed k v w n old new m ne s = record {
   standing = s.standing;
   is = sym (ap (λ b. either b new n) (ne_eqb n old ne)) ∙ s.is;

@@ -20,8 +20,8 @@ use Rattle.inst_board.specs.declared.look.Look.TheVariants.{Unused as LookUnused
 use Rattle.inst_board.specs.declared.about.About.{About}
 use Rattle.inst_board.specs.declared.about.About.TheVariants.{Opened, HasTerms, Due, Decided, DecidedAt}
 use Rattle.inst_board.specs.declared.about.Fact.{Fact}
-use Rattle.inst_board.specs.Standing.{Standing, unused, pending, decided, IsPlace, IsLawful, Says, Shows as WordsShow, word_of, look_of, place_state_of, about}
-use Rattle.inst_board.specs.Learning.{Learns, Looks, Answers, IsAnswer, IsParty}
+use Rattle.inst_board.specs.Standing.{Standing, unused, pending, decided, IsPlace, IsLawful, Says, ShowsWord as WordsShow, word_of, look_of, place_state_of, about}
+use Rattle.inst_board.specs.Learning.{Learns, Looks, AnswersWish, IsAnswer, IsParty}
 use Rattle.inst_board.specs.Wish.{wanted}
 use Rattle.inst_board.specs.Plain.{place_number}
 use Rattle.inst_board.proofs.Places.{inside}
@@ -29,9 +29,9 @@ use Rattle.inst_board.proofs.PlainSteps.{shows_says}
 use Rattle.inst_cell.specs.declared.view.View.{View}
 use Rattle.inst_cell.specs.declared.view.Known.{Known}
 use Rattle.inst_cell.specs.declared.shared_board.SharedBoard.{SharedBoard}
-use Rattle.inst_cell.specs.View.{known, all_of, count, facts_of, note, view_after_learning, with_note}
+use Rattle.inst_cell.specs.View.{known, all_that_is_known, count, facts_of, note, view_after_learning, with_note}
 use Rattle.inst_cell.specs.Rule.{encode, IsShowable}
-use Rattle.inst_cell.specs.Steps.{Shows, KnewOpening, KnewAnswer, KnewEnd}
+use Rattle.inst_cell.specs.Steps.{ShowsWord, KnewOpening, KnewAnswer, KnewEnd}
 use Rattle.inst_cell.specs.Held.{settings_of, view_of, knows_at, knows, has_role, wrote, stood, Stays}
 use Rattle.inst_cell.proofs.RuleAfterStep.{read_true, IsSeen, read_all, read_moment, moment_unread, one_place, all_left, all_right, all_cases, itself}
 use Rattle.inst_cell.proofs.Tally.{note_else}
@@ -98,7 +98,7 @@ module _ (b c : SharedBoard) (k : Place) (p : Standing) (mine : Bool) (place : I
       (λ new. inr (read_true N p mine (known N (DecidedAt n)) new).1)
       (all_cases (view_of b) N p mine (known N (DecidedAt n)) was.1)
 
-  pub learns_as : IsShowable (view_of b).margin p → ((a : About) → Contains (all_of (view_of b)) (known N a) → Says p a) → Learns S.margin knows b k p c
+  pub learns_as : IsShowable (view_of b).margin p → ((a : About) → Contains (all_that_is_known (view_of b)) (known N a) → Says p a) → Learns S.margin knows b k p c
   learns_as showable agrees = record {
     lawful = subst (λ (m : ℕ). IsLawful m p) b.bounded (lawful_of (view_of b).margin p showable);
     agrees = λ a h. agrees a h.1;
@@ -127,7 +127,7 @@ by_answer Accepted f = inl (f tt)
 by_answer (Rejected r) f = inl (f tt)
 by_answer TimedOut f = inr refl
 
-module _ (b : SharedBoard) (k : Place) (place : IsPlace (settings_of b) k) (p : Standing) (agrees : (a : About) → Contains (all_of (view_of b)) (known (place_number (settings_of b) k) a) → Says p a) where
+module _ (b : SharedBoard) (k : Place) (place : IsPlace (settings_of b) k) (p : Standing) (agrees : (a : About) → Contains (all_that_is_known (view_of b)) (known (place_number (settings_of b) k) a) → Says p a) where
   pub stood_from : KnewAnswer (place_number (settings_of b) k) (view_of b) p → (o : Outcome) → Says p (Decided o) → stood b k o
   stood_from answers o says = λ t h role. by_answer o (λ ans. (place, itself (view_of b) (known (place_number (settings_of b) k) (Decided o)) (answers t (agrees (HasTerms t) h.1) role o ans says).1))
 
@@ -151,14 +151,14 @@ module _ (b : SharedBoard) (k : Place) (place : IsPlace (settings_of b) k) (p : 
   }
 
 -- the other half of `before`
-pub knew_before : (k : ℕ) (v w : View) (n : ℕ) (s : Shows ⊥ k v n w) → KnewOpening k v s.standing × KnewAnswer k v s.standing × KnewEnd k v s.standing
+pub knew_before : (k : ℕ) (v w : View) (n : ℕ) (s : ShowsWord ⊥ k v n w) → KnewOpening k v s.standing × KnewAnswer k v s.standing × KnewEnd k v s.standing
 knew_before k v w n s = ⊎_elim (λ h. absurd h.0) (λ h. (h.1, h.2, h.3)) s.before
 
 -- who only saw the place
-pub not_mine : (k : ℕ) (v w : View) (n : ℕ) (s : Shows ⊥ k v n w) → s.mine ≡ false
+pub not_mine : (k : ℕ) (v w : View) (n : ℕ) (s : ShowsWord ⊥ k v n w) → s.mine ≡ false
 not_mine k v w n s = ⊎_elim (λ h. absurd h.0) (λ h. h.0) s.before
 
-pub seen_only : (k : ℕ) (v w : View) (n : ℕ) (s : Shows ⊥ k v n w) → w ≡ view_after_learning v k s.standing false
+pub seen_only : (k : ℕ) (v w : View) (n : ℕ) (s : ShowsWord ⊥ k v n w) → w ≡ view_after_learning v k s.standing false
 seen_only k v w n s = s.learns ∙ ap (λ (x : Bool). view_after_learning v k s.standing x) (not_mine k v w n s)
 
 pub look_unused : (p : Standing) (w : Word) → w ≡ word_of p → w ≡ Unused → LookUnused ≡ look_of p
@@ -218,19 +218,19 @@ not_decided unused w d o e f h = h
 not_decided (pending t c) w d o e f h = h
 not_decided (decided t c z m) w d o e f h = cc
 
-pub answers_decided : (margin : ℕ) (stood : Outcome → Type 0) (wish : Wish) (at : ℕ) (p : Standing) (w : Word) (o : Outcome) (m : ℕ) → w ≡ word_of p → w ≡ DecidedWord o m → ((z : Outcome) → Says p (Decided z) → stood z) → Answers margin stood wish at p (Some o)
+pub answers_decided : (margin : ℕ) (stood : Outcome → Type 0) (wish : Wish) (at : ℕ) (p : Standing) (w : Word) (o : Outcome) (m : ℕ) → w ≡ word_of p → w ≡ DecidedWord o m → ((z : Outcome) → Says p (Decided z) → stood z) → AnswersWish margin stood wish at p (Some o)
 answers_decided margin stood wish at unused w o m e f h = let no : ⊥ = cc in absurd no
 answers_decided margin stood wish at (pending t d) w o m e f h = let no : ⊥ = cc in absurd no
 answers_decided margin stood wish at (decided t d z n) w o m e f h = (let x : o ≡ z = cc in ap Some x, inl (h z refl))
 
-pub answers_pending : (margin : ℕ) (stood : Outcome → Type 0) (wish : Wish) (at : ℕ) (p : Standing) (w : Word) (d : ℕ) → w ≡ word_of p → w ≡ Pending d → wanted margin wish d at ≡ None → Answers margin stood wish at p None
+pub answers_pending : (margin : ℕ) (stood : Outcome → Type 0) (wish : Wish) (at : ℕ) (p : Standing) (w : Word) (d : ℕ) → w ≡ word_of p → w ≡ Pending d → wanted margin wish d at ≡ None → AnswersWish margin stood wish at p None
 answers_pending margin stood wish at unused w d e f none = let no : ⊥ = cc in absurd no
 answers_pending margin stood wish at (pending t c) w d e f none = let x : d ≡ c = cc in (refl, subst (λ (y : ℕ). wanted margin wish y at ≡ None) x none)
 answers_pending margin stood wish at (decided t c o m) w d e f none = let no : ⊥ = cc in absurd no
 
 -- the answer of an exchange: it took effect, or found what stood before
 pub answers_settled : (margin : ℕ) (stood : Outcome → Type 0) (wish : Wish) (at : ℕ) (p : Standing) (w : Word) (d : ℕ) (want o : Outcome) (m n : ℕ) → w ≡ word_of p → w ≡ DecidedWord o m → n ≡ encode p → IsShowable margin p → IsWord (DecidedWord want at)
-    → Says p (Due d) → wanted margin wish d at ≡ Some want → (n ≡ outcome_number want at) ⊎ ((z : Outcome) → Says p (Decided z) → stood z) → Answers margin stood wish at p (Some o)
+    → Says p (Due d) → wanted margin wish d at ≡ Some want → (n ≡ outcome_number want at) ⊎ ((z : Outcome) → Says p (Decided z) → stood z) → AnswersWish margin stood wish at p (Some o)
 answers_settled margin stood wish at unused w d want o m n e f is can word due wants before = let no : ⊥ = cc in absurd no
 answers_settled margin stood wish at (pending t c) w d want o m n e f is can word due wants before = let no : ⊥ = cc in absurd no
 answers_settled margin stood wish at (decided t c z l) w d want o m n e f is can word due wants before = let x : o ≡ z = cc in (
@@ -279,7 +279,7 @@ a_party has Expire k t party = party
 
 -- what stood at an exchange stood before the load that found the place pending
 pub stood_across : (b c : SharedBoard) (k : Place) (p q : Standing) (w : Word) (d : ℕ) → Stays b c → Learns (settings_of b).margin knows b k p c → w ≡ word_of p → w ≡ Pending d
-    → ((a : About) → Contains (all_of (view_of c)) (known (place_number (settings_of c) k) a) → Says q a) → KnewAnswer (place_number (settings_of c) k) (view_of c) q → (o : Outcome) → Says q (Decided o) → stood b k o
+    → ((a : About) → Contains (all_that_is_known (view_of c)) (known (place_number (settings_of c) k) a) → Says q a) → KnewAnswer (place_number (settings_of c) k) (view_of c) q → (o : Outcome) → Says q (Decided o) → stood b k o
 stood_across b c k p q w d stays one e f agrees answers o says = λ t h role. by_answer o (λ ans.
     let later = one.kept (about k (HasTerms t)) h in
     let fact = (answers t (agrees (HasTerms t) later.1) (subst (λ (r : List ℕ). 0 < count t.to r) (sym stays.roles) role) o ans says).1 in
@@ -301,14 +301,14 @@ wrote_still b c k j t h n place ne below stays view w = (
 pub place_still : (b c : SharedBoard) (k : Place) → Stays b c → IsPlace (settings_of b) k → IsPlace (settings_of c) k
 place_still b c k stays h = subst (λ (s : HubSettings). IsPlace s k) (sym stays.settings) h
 
-pub knows_same : (b c : SharedBoard) (f : Fact) → settings_of c ≡ settings_of b → all_of (view_of c) ≡ all_of (view_of b) → knows c f ↔ knows b f
+pub knows_same : (b c : SharedBoard) (f : Fact) → settings_of c ≡ settings_of b → all_that_is_known (view_of c) ≡ all_that_is_known (view_of b) → knows c f ↔ knows b f
 knows_same b c f e q = (
-  λ h. (subst (λ (s : HubSettings). IsPlace s f.place) e h.0, subst (λ (s : HubSettings). Contains (all_of (view_of b)) (known (place_number s f.place) f.about)) e (subst (λ (l : List Known). Contains l (known (place_number (settings_of c) f.place) f.about)) q h.1)),
-  λ h. (subst (λ (s : HubSettings). IsPlace s f.place) (sym e) h.0, subst (λ (s : HubSettings). Contains (all_of (view_of c)) (known (place_number s f.place) f.about)) (sym e) (subst (λ (l : List Known). Contains l (known (place_number (settings_of b) f.place) f.about)) (sym q) h.1)),
+  λ h. (subst (λ (s : HubSettings). IsPlace s f.place) e h.0, subst (λ (s : HubSettings). Contains (all_that_is_known (view_of b)) (known (place_number s f.place) f.about)) e (subst (λ (l : List Known). Contains l (known (place_number (settings_of c) f.place) f.about)) q h.1)),
+  λ h. (subst (λ (s : HubSettings). IsPlace s f.place) (sym e) h.0, subst (λ (s : HubSettings). Contains (all_that_is_known (view_of c)) (known (place_number s f.place) f.about)) (sym e) (subst (λ (l : List Known). Contains l (known (place_number (settings_of b) f.place) f.about)) (sym q) h.1)),
 )
 
-pub facts_noted : (v w : View) (x n : ℕ) → w ≡ with_note v x n → all_of w ≡ all_of v
-facts_noted v w x n e = ap all_of e
+pub facts_noted : (v w : View) (x n : ℕ) → w ≡ with_note v x n → all_that_is_known w ≡ all_that_is_known v
+facts_noted v w x n e = ap all_that_is_known e
 
 pub wants_at : (m n : ℕ) (wish : Wish) (d at : ℕ) (o : Option Outcome) → m ≡ n → wanted m wish d at ≡ o → wanted n wish d at ≡ o
 wants_at m n wish d at o e h = subst (λ (x : ℕ). wanted x wish d at ≡ o) e h

@@ -12,7 +12,7 @@ use Rattle.inst_board.specs.declared.about.About.TheVariants.{Opened, HasTerms, 
 use Rattle.inst_board.specs.Standing.{Standing, unused, pending, decided, Says}
 use Rattle.inst_cell.specs.declared.view.Known.{Known}
 use Rattle.inst_cell.specs.declared.view.View.{View}
-use Rattle.inst_cell.specs.View.{known, all_of, first_of, terms_in, due_in, outcome_about, moment_in, standing_with, known_standing, KnowsOne}
+use Rattle.inst_cell.specs.View.{known, all_that_is_known, first_of, terms_in, due_in, outcome_about, moment_in, standing_with, known_standing, KnowsOne}
 
 in_rest : {A : Type 0} (a b : A) (l : List A) → Contains (a ∷ l) b → (a ≡ b) ⊎ Contains l b
 in_rest a b l (zero, below, is) = inl is
@@ -117,36 +117,36 @@ same_moment unused m n h g = absurd h
 same_moment (pending t d) m n h g = absurd h
 same_moment (decided t d o x) m n h g = h ∙ sym g
 
-module _ (v : View) (k : ℕ) (p : Standing) (honest : (a : About) → Contains (all_of v) (known k a) → Says p a) where
+module _ (v : View) (k : ℕ) (p : Standing) (honest : (a : About) → Contains (all_that_is_known v) (known k a) → Says p a) where
   abbrev T : Terms
-  T = unwrap_or (first_of terms_in k (all_of v)) (record { to = 0; cents = 0; id = [] })
+  T = unwrap_or (first_of terms_in k (all_that_is_known v)) (record { to = 0; cents = 0; id = [] })
 
   abbrev D : ℕ
-  D = unwrap_or (first_of due_in k (all_of v)) 0
+  D = unwrap_or (first_of due_in k (all_that_is_known v)) 0
 
   abbrev O : Option Outcome
-  O = first_of outcome_about k (all_of v)
+  O = first_of outcome_about k (all_that_is_known v)
 
   abbrev M : Option ℕ
-  M = first_of moment_in k (all_of v)
+  M = first_of moment_in k (all_that_is_known v)
 
-  pub one_by : (a : About) → Contains (all_of v) (known k a) → Says (known_standing v k) a
+  pub one_by : (a : About) → Contains (all_that_is_known v) (known k a) → Says (known_standing v k) a
   one_by Opened h = standing_opened T D O M
   one_by (HasTerms t) h =
-      let f = found terms_in HasTerms (λ u. refl) terms_named k (all_of v) t h in
+      let f = found terms_in HasTerms (λ u. refl) terms_named k (all_that_is_known v) t h in
       let is : t ≡ T = same_terms p t f.0 (honest (HasTerms t) h) (honest (HasTerms f.0) f.2) ∙ sym (ap (λ (o : Option Terms). unwrap_or o (record { to = 0; cents = 0; id = [] })) f.1) in
       subst (λ (u : Terms). Says (known_standing v k) (HasTerms u)) (sym is) (standing_terms T D O M)
   one_by (Due d) h =
-      let f = found due_in Due (λ u. refl) due_named k (all_of v) d h in
+      let f = found due_in Due (λ u. refl) due_named k (all_that_is_known v) d h in
       let is : d ≡ D = same_due p d f.0 (honest (Due d) h) (honest (Due f.0) f.2) ∙ sym (ap (λ (o : Option ℕ). unwrap_or o 0) f.1) in
       subst (λ (u : ℕ). Says (known_standing v k) (Due u)) (sym is) (standing_due T D O M)
   one_by (Decided o) h =
-      let f = found outcome_about Decided (λ u. refl) outcome_named k (all_of v) o h in
+      let f = found outcome_about Decided (λ u. refl) outcome_named k (all_that_is_known v) o h in
       standing_outcome T D O M o (f.1 ∙ ap Some (sym (same_decided p o f.0 (honest (Decided o) h) (honest (Decided f.0) f.2))))
   one_by (DecidedAt m) h =
-      let f = found moment_in DecidedAt (λ u. refl) moment_named k (all_of v) m h in
+      let f = found moment_in DecidedAt (λ u. refl) moment_named k (all_that_is_known v) m h in
       standing_moment T D O M m (f.1 ∙ ap Some (sym (same_moment p m f.0 (honest (DecidedAt m) h) (honest (DecidedAt f.0) f.2))))
 
 -- what is true of a world is true of one standing a place
-pub one_from : (world : ℕ → Standing) (v : View) → ((f : Known) → Contains (all_of v) f → Says (world f.place) f.about) → KnowsOne v
+pub one_from : (world : ℕ → Standing) (v : View) → ((f : Known) → Contains (all_that_is_known v) f → Says (world f.place) f.about) → KnowsOne v
 one_from world v honest = λ k a h. one_by v k (world k) (λ b g. honest (known k b) g) a h

@@ -6,9 +6,9 @@ use Rattle.inst_command.specs.declared.place.Place.{Place}
 use Rattle.inst_board.specs.Standing.{IsPlace}
 use Rattle.inst_board.specs.Plain.{place_number}
 use Rattle.inst_board.proofs.Places.{inside, number_below}
-use Rattle.inst_cell.specs.Rule.{total}
+use Rattle.inst_cell.specs.Rule.{count_of_places}
 
-pub below : (s : HubSettings) (k : Place) → IsPlace s k → place_number s k < total s
+pub below : (s : HubSettings) (k : Place) → IsPlace s k → place_number s k < count_of_places s
 below s k h = number_below s k h
 
 pub owner_is : (s : HubSettings) (k : Place) → IsPlace s k → place_number s k / s.places ≡ k.owner
@@ -21,4 +21,4 @@ times x y h = omega arith
 pub room : (s : HubSettings) (k : Place) (n m : ℕ) → IsPlace s k → n ≡ participants s → m ≡ s.places → (k.owner * m + k.index) * 6 + 6 ≤ m * n * 6
 room s k n m h en em =
     subst (λ y. (k.owner * y + k.index) * 6 + 6 ≤ y * n * 6) (sym em)
-    (subst (λ z. (k.owner * s.places + k.index) * 6 + 6 ≤ s.places * z * 6) (sym en) (times (place_number s k) (total s) (below s k h)))
+    (subst (λ z. (k.owner * s.places + k.index) * 6 + 6 ≤ s.places * z * 6) (sym en) (times (place_number s k) (count_of_places s) (below s k h)))

@@ -18,8 +18,8 @@ use Rattle.inst_board.specs.Standing.{Standing, unused, pending, decided, Says}
 use Rattle.inst_board.specs.Learning.{IsOfOpening, IsAnswer}
 use Rattle.inst_cell.specs.declared.view.Known.{Known}
 use Rattle.inst_cell.specs.declared.view.View.{View}
-use Rattle.inst_cell.specs.View.{known, facts_of, all_of, count, note, view_after_learning, with_note, united_view}
-use Rattle.inst_cell.specs.Rule.{encode, IsShowable, total, AllLearnt, KeepsBoard}
+use Rattle.inst_cell.specs.View.{known, facts_of, all_that_is_known, count, note, view_after_learning, with_note, united_view}
+use Rattle.inst_cell.specs.Rule.{encode, IsShowable, count_of_places, AllLearnt, KeepsBoard}
 use Rattle.inst_cell.proofs.Tally.{held-set, held_two, noted_then}
 
 pub get_or-set_else : (l : List ℕ) (i j n : ℕ) → j ≢ i → get_or (set l i n) j 0 ≡ get_or l j 0
@@ -130,29 +130,29 @@ moment_unread k j (decided t d o m) n (suc (suc zero), b, e) = another_fact j k 
 moment_unread k j (decided t d o m) n (suc (suc (suc zero)), b, e) = another_fact j k n (Decided o) refl e
 moment_unread k j (decided t d o m) n (suc (suc (suc (suc i))), b, e) = absurd (omega arith)
 
-pub all_left : (v : View) (k : ℕ) (q : Standing) (mine : Bool) (f : Known) → Contains (all_of v) f → Contains (all_of (view_after_learning v k q mine)) f
+pub all_left : (v : View) (k : ℕ) (q : Standing) (mine : Bool) (f : Known) → Contains (all_that_is_known v) f → Contains (all_that_is_known (view_after_learning v k q mine)) f
 all_left v k q mine f c = ⊎_elim
     (λ l. Contains-append_left (v.facts ++ facts_of k q mine) v.heard f (Contains-append_left v.facts (facts_of k q mine) f l))
     (λ r. Contains-append_right (v.facts ++ facts_of k q mine) v.heard f r)
     (Contains-append_cases v.facts v.heard f c)
 
-pub all_right : (v : View) (k : ℕ) (q : Standing) (mine : Bool) (f : Known) → Contains (facts_of k q mine) f → Contains (all_of (view_after_learning v k q mine)) f
+pub all_right : (v : View) (k : ℕ) (q : Standing) (mine : Bool) (f : Known) → Contains (facts_of k q mine) f → Contains (all_that_is_known (view_after_learning v k q mine)) f
 all_right v k q mine f c = Contains-append_left (v.facts ++ facts_of k q mine) v.heard f (Contains-append_right v.facts (facts_of k q mine) f c)
 
-pub all_cases : (v : View) (k : ℕ) (q : Standing) (mine : Bool) (f : Known) → Contains (all_of (view_after_learning v k q mine)) f → Contains (all_of v) f ⊎ Contains (facts_of k q mine) f
+pub all_cases : (v : View) (k : ℕ) (q : Standing) (mine : Bool) (f : Known) → Contains (all_that_is_known (view_after_learning v k q mine)) f → Contains (all_that_is_known v) f ⊎ Contains (facts_of k q mine) f
 all_cases v k q mine f c = ⊎_elim
     (λ l. ⊎_elim (λ a. inl (Contains-append_left v.facts v.heard f a)) (λ b. inr b) (Contains-append_cases v.facts (facts_of k q mine) f l))
     (λ r. inl (Contains-append_right v.facts v.heard f r))
     (Contains-append_cases (v.facts ++ facts_of k q mine) v.heard f c)
 
 -- all that both knew
-pub united_cases : (v w : View) (f : Known) → Contains (all_of (united_view v w)) f → Contains (all_of v) f ⊎ Contains (all_of w) f
+pub united_cases : (v w : View) (f : Known) → Contains (all_that_is_known (united_view v w)) f → Contains (all_that_is_known v) f ⊎ Contains (all_that_is_known w) f
 united_cases v w f c = ⊎_elim
     (λ l. ⊎_elim (λ x. inl (Contains-append_left v.facts v.heard f x)) (λ y. inr (Contains-append_left w.facts w.heard f y)) (Contains-append_cases v.facts w.facts f l))
     (λ r. ⊎_elim (λ x. inl (Contains-append_right v.facts v.heard f x)) (λ y. inr (Contains-append_right w.facts w.heard f y)) (Contains-append_cases v.heard w.heard f r))
     (Contains-append_cases (v.facts ++ w.facts) (v.heard ++ w.heard) f c)
 
-pub united_all : (v w : View) (f : Known) → Contains (all_of v) f ⊎ Contains (all_of w) f → Contains (all_of (united_view v w)) f
+pub united_all : (v w : View) (f : Known) → Contains (all_that_is_known v) f ⊎ Contains (all_that_is_known w) f → Contains (all_that_is_known (united_view v w)) f
 united_all v w f c = ⊎_elim
     (λ l. ⊎_elim
     (λ x. Contains-append_left (v.facts ++ w.facts) (v.heard ++ w.heard) f (Contains-append_left v.facts w.facts f x))
@@ -164,7 +164,7 @@ united_all v w f c = ⊎_elim
     (Contains-append_cases w.facts w.heard f r))
     c
 
-pub itself : (v : View) (f : Known) → Contains v.facts f → Contains (all_of v) f
+pub itself : (v : View) (f : Known) → Contains v.facts f → Contains (all_that_is_known v) f
 itself v f c = Contains-append_left v.facts v.heard f c
 
 each_set : (l : List View) (id : ℕ) (w : View) (P : View → Type 0) → P w → ((i : ℕ) (v : View) → get_elem? l i ≡ some v → i ≢ id → P v) → (i : ℕ) (v : View) → get_elem? (set l id w) i ≡ some v → P v
@@ -172,7 +172,7 @@ each_set l id w P here there i v e = ⊎_elim (λ t. subst P t.1 here) (λ t. th
 
 module _ (s : HubSettings) (words : List ℕ) (views : List View) (r : KeepsBoard s words views) (id : ℕ) (v : View) (at : get_elem? views id ≡ some v) where
   -- the seat that has the role of an unused place writes one of its terms words
-  pub writes : (k i n : ℕ) → k < total s → i < 5 → 0 < count (k / s.places) v.roles → ¬ Says (r.world k) Opened
+  pub writes : (k i n : ℕ) → k < count_of_places s → i < 5 → 0 < count (k / s.places) v.roles → ¬ Says (r.world k) Opened
       → KeepsBoard s (set words (k * 6 + i) n) (set views id (with_note v (k * 6 + i) n))
   writes k i n within small role free =
       let x : ℕ = k * 6 + i in
@@ -187,7 +187,7 @@ module _ (s : HubSettings) (words : List ℕ) (views : List View) (r : KeepsBoar
             (λ e. absurd (free (subst (λ y. Says (r.world y) Opened) e (opened_of (r.world j) (HasTerms t) says))))
             (λ ne. get_or-set_else words x (j * 6 + h) n (λ e. ne (one_place j k i h small under e).0) ∙ r.written j h t below under says);
         showable = r.showable;
-        honest = each_set views id w (λ u. (f : Known) → Contains (all_of u) f → Says (r.world f.place) f.about) (r.honest id v at) (λ i u e ne. r.honest i u e);
+        honest = each_set views id w (λ u. (f : Known) → Contains (all_that_is_known u) f → Says (r.world f.place) f.about) (r.honest id v at) (λ i u e ne. r.honest i u e);
         whole = each_set views id w (λ u. (j : ℕ) → 0 < count (j / s.places) u.roles → (a : About) → IsOfOpening a → Says (r.world j) a → Contains u.facts (known j a))
             (r.whole id v at) (λ i u e ne. r.whole i u e);
         answered = each_set views id w (λ u. (j : ℕ) (t : Terms) → Says (r.world j) (HasTerms t) → 0 < count t.to u.roles → (o : Outcome) → IsAnswer o → Says (r.world j) (Decided o) → Contains u.facts (known j (HasTerms t)) × Contains u.facts (known j (Decided o)))
@@ -200,7 +200,7 @@ module _ (s : HubSettings) (words : List ℕ) (views : List View) (r : KeepsBoar
             (λ own. inl (each_set views id w (λ u. 0 < count (j / s.places) u.roles → Contains u.facts (known j (DecidedAt m))) (own id v at) (λ i u e ne. own i u e)))
             (λ its. inr (each_set views id w (λ u. 0 < count t.to u.roles → Contains u.facts (known j (DecidedAt m))) (its id v at) (λ i u e ne. its i u e)))
             (r.decided j t m has says);
-        noted = each_set views id w (λ u. (j h m : ℕ) → j < total s → h < 5 → note u.notes (j * 6 + h) ≡ Some m → (0 < count (j / s.places) u.roles) × (¬ Says (r.world j) Opened → get_or (set words x n) (j * 6 + h) 0 ≡ m))
+        noted = each_set views id w (λ u. (j h m : ℕ) → j < count_of_places s → h < 5 → note u.notes (j * 6 + h) ≡ Some m → (0 < count (j / s.places) u.roles) × (¬ Says (r.world j) Opened → get_or (set words x n) (j * 6 + h) 0 ≡ m))
             (λ j h m below under nt. ⊎_elim
             (λ mine. (
               subst (λ y. 0 < count (y / s.places) v.roles) (sym (one_place j k i h small under mine.0).0) role,
@@ -226,7 +226,7 @@ module _ (s : HubSettings) (words : List ℕ) (views : List View) (r : KeepsBoar
       opened_of (decided t d o m) a h = tt
 
   -- the outcome word of the place k changes, or is read
-  module _ (k : ℕ) (within : k < total s) (q : Standing) (mine : Bool) (showable : IsShowable s.margin q) (follows : (a : About) → Says (r.world k) a → Says q a)
+  module _ (k : ℕ) (within : k < count_of_places s) (q : Standing) (mine : Bool) (showable : IsShowable s.margin q) (follows : (a : About) → Says (r.world k) a → Says q a)
       (terms : (i : ℕ) (t : Terms) → i < 5 → Says q (HasTerms t) → get_or words (k * 6 + i) 0 ≡ get_or (words_of t) i 0)
       (backed : ((a : About) → IsOfOpening a → Says q a → Says (r.world k) a) ⊎ (0 < count (k / s.places) v.roles))
       (replied : ((o : Outcome) → IsAnswer o → Says q (Decided o) → Says (r.world k) (Decided o) × ((t : Terms) → Says q (HasTerms t) → Says (r.world k) (HasTerms t)))
@@ -278,7 +278,7 @@ module _ (s : HubSettings) (words : List ℕ) (views : List View) (r : KeepsBoar
           (λ ne says. r.written j h t below under says)
           says;
       showable = λ j. after_by r.world k q (IsShowable s.margin) j (λ e. showable) (λ ne. r.showable j);
-      honest = each_set views id w (λ u. (f : Known) → Contains (all_of u) f → Says (W f.place) f.about)
+      honest = each_set views id w (λ u. (f : Known) → Contains (all_that_is_known u) f → Says (W f.place) f.about)
           (λ f c. ⊎_elim (λ old. lasts f.place f.about (r.honest id v at f old))
           (λ new. let t = read_true k q mine f new in after_by r.world k q (λ p. Says p f.about) f.place (λ e. t.1) (λ ne. absurd (ne t.0)))
           (all_cases v k q mine f c))
@@ -338,7 +338,7 @@ module _ (s : HubSettings) (words : List ℕ) (views : List View) (r : KeepsBoar
           dated)
           (λ there. still j t (known j (DecidedAt m)) (r.decided j t m there.1.0 there.1.1))
           (before (λ p. Says p (HasTerms t) × Says p (DecidedAt m)) j (has, says));
-      noted = each_set views id w (λ u. (j h m : ℕ) → j < total s → h < 5 → note u.notes (j * 6 + h) ≡ Some m → (0 < count (j / s.places) u.roles) × (¬ Says (W j) Opened → get_or (set words X (encode q)) (j * 6 + h) 0 ≡ m))
+      noted = each_set views id w (λ u. (j h m : ℕ) → j < count_of_places s → h < 5 → note u.notes (j * 6 + h) ≡ Some m → (0 < count (j / s.places) u.roles) × (¬ Says (W j) Opened → get_or (set words X (encode q)) (j * 6 + h) 0 ≡ m))
           (λ j h m below under nt. let was = r.noted id v at j h m below under nt in (was.0, λ closed. get_or-set_else words X (j * 6 + h) (encode q) (no_term j k h under) ∙ was.1 (λ old. closed (lasts j Opened old))))
           (λ i u e ne j h m below under nt. let was = r.noted i u e j h m below under nt in (was.0, λ closed. get_or-set_else words X (j * 6 + h) (encode q) (no_term j k h under) ∙ was.1 (λ old. closed (lasts j Opened old))));
       alone = λ p. let one = r.alone p in let same = held-set p views id v w at in omega arith;

@@ -26,9 +26,9 @@ use Rattle.inst_board.specs.Standing.{Standing, unused, pending, decided, Says}
 use Rattle.inst_board.specs.Learning.{IsOfOpening, IsAnswer}
 use Rattle.inst_cell.specs.declared.view.Known.{Known}
 use Rattle.inst_cell.specs.declared.view.View.{View}
-use Rattle.inst_cell.specs.View.{known, all_of, count, note, first_view, view_after_learning, with_note, HasNoted, KnowsOne, without_role, with_role, informed_view, united_view, nobody}
-use Rattle.inst_cell.specs.Rule.{encode, IsShowable, total, AllLearnt, KeepsBoard, IsKeptBoard}
-use Rattle.inst_cell.specs.Steps.{SeatedView, Vouched, KnewOpening, KnewAnswer, KnewEnd, Shows, vouches, loads, opens, decides, loads_term, notes_term}
+use Rattle.inst_cell.specs.View.{known, all_that_is_known, count, note, first_view, view_after_learning, with_note, HasNoted, KnowsOne, without_role, with_role, informed_view, united_view, nobody}
+use Rattle.inst_cell.specs.Rule.{encode, IsShowable, count_of_places, AllLearnt, KeepsBoard, IsKeptBoard}
+use Rattle.inst_cell.specs.Steps.{SeatedView, Vouched, KnewOpening, KnewAnswer, KnewEnd, ShowsWord, vouches, loads, opens, decides_word, loads_term, notes_term}
 use Rattle.inst_cell.proofs.Tally.{held-set, held-snoc, count-cut, count-from, count-append, note_cases, count_cases, count_left, count_right, set_here}
 use Rattle.inst_cell.proofs.RuleAfterStep.{writes, moved, no_fact, one_place, itself, united_cases}
 use Rattle.inst_cell.proofs.KnowledgeOfOneStanding.{one_from}
@@ -113,7 +113,7 @@ module _ (s : HubSettings) where
   knows_one : (words : List ℕ) (views : List View) (id : ℕ) (v w : View) → get_elem? views id ≡ some v → KeepsBoard s words (set views id w) → KnowsOne w
   knows_one words views id v w at r = one_from r.world w (r.honest id w (set_here views id v w at))
 
-  module _ (slots id : ℕ) (me : SeatedView) (k : ℕ) (within : k < total s) (places : me.0.places ≡ s.places) (margin : me.0.margin ≡ s.margin) where
+  module _ (slots id : ℕ) (me : SeatedView) (k : ℕ) (within : k < count_of_places s) (places : me.0.places ≡ s.places) (margin : me.0.margin ≡ s.margin) where
     stays : (st : St) (r : IsKeptBoard s st) → get_elem? st.views id ≡ some me.0 → Rows id (view_after_learning me.0 k (r.world k) false) st (k * 6 + 5) (get_or st.words (k * 6 + 5) 0)
     stays st r at = subst (λ n. Rows id (view_after_learning me.0 k (r.world k) false) st (k * 6 + 5) n) (sym (r.shown k within))
         (moved s st.words st.views r id me.0 at k within (r.world k) false (r.showable k) (λ a h. h)
@@ -140,7 +140,7 @@ module _ (s : HubSettings) where
       λ own t has its o says. end_known st r at own t has its o says,
     )
 
-    shows : (own : Type 0) (st : St) (r : IsKeptBoard s st) → get_elem? st.views id ≡ some me.0 → Shows own k me.0 (get_or st.words (k * 6 + 5) 0) (view_after_learning me.0 k (r.world k) false)
+    shows : (own : Type 0) (st : St) (r : IsKeptBoard s st) → get_elem? st.views id ≡ some me.0 → ShowsWord own k me.0 (get_or st.words (k * 6 + 5) 0) (view_after_learning me.0 k (r.world k) false)
     shows own st r at = record {
       standing = r.world k;
       is = r.shown k within;
@@ -161,7 +161,7 @@ module _ (s : HubSettings) where
       keeps,
       tt,
       stays st r at,
-      ((λ j e. subst (λ y. Shows ⊥ y me.0 (get_or st.words (k * 6 + 5) 0) (view_after_learning me.0 k (r.world k) false)) (same_place j e) (shows ⊥ st r at)), refl),
+      ((λ j e. subst (λ y. ShowsWord ⊥ y me.0 (get_or st.words (k * 6 + 5) 0) (view_after_learning me.0 k (r.world k) false)) (same_place j e) (shows ⊥ st r at)), refl),
     )
 
     pub allows_loads_term : (i : ℕ) → i < 5 → Allows (IsKeptBoard s) slots id me (k * 6 + i) (λ n. n) (loads_term (step slots (k * 6 + i) 0 0 none) me)
@@ -202,7 +202,7 @@ module _ (s : HubSettings) where
           (vouched st r at, refl),
         )
 
-    pub allows_notes : (i n : ℕ) → i < 5 → 0 < count (k / s.places) me.0.roles → ¬ Contains (all_of me.0) (known k Opened)
+    pub allows_notes : (i n : ℕ) → i < 5 → 0 < count (k / s.places) me.0.roles → ¬ Contains (all_that_is_known me.0) (known k Opened)
         → Allows (IsKeptBoard s) slots id me (k * 6 + i) (λ _. n) (λ _. notes_term (step slots (k * 6 + i) n 0 none) me n)
     allows_notes i n small role new st r _ at _ = (
       with_note me.0 (k * 6 + i) n,
@@ -213,7 +213,7 @@ module _ (s : HubSettings) where
     )
 
     -- the terms words that were noted are those of the opened place
-    pub allows_opens : (t : Terms) (d word : ℕ) → word ≡ number d 0 0 → IsTerms t → IsWord (Pending d) → HasNoted me.0 k t → 0 < count (k / s.places) me.0.roles → ¬ Contains (all_of me.0) (known k Opened)
+    pub allows_opens : (t : Terms) (d word : ℕ) → word ≡ number d 0 0 → IsTerms t → IsWord (Pending d) → HasNoted me.0 k t → 0 < count (k / s.places) me.0.roles → ¬ Contains (all_that_is_known me.0) (known k Opened)
         → Allows (IsKeptBoard s) slots id me (k * 6 + 5) (λ _. word) (λ _. opens (step slots (k * 6 + 5) word 0 none) me word)
     allows_opens t d word is lawful moment noted role new st r _ at _ =
         let closed : ¬ Says (r.world k) Opened = λ h. new (itself me.0 (known k Opened) (r.whole id me.0 at k role Opened tt h)) in
@@ -238,7 +238,7 @@ module _ (s : HubSettings) where
                 let d_is : d ≡ c = omega arith in (
                   subst (λ y. w ≡ view_after_learning me.0 y (pending u c) false) j_is (ap (λ (p : Standing). view_after_learning me.0 k p false) (same_pending t u d c t_is d_is)),
                   knows_one _ st.views id me.0 w at row,
-                  λ a c'. free a (r.honest id me.0 at (known k a) (subst (λ y. Contains (all_of me.0) (known y a)) (sym j_is) c')),
+                  λ a c'. free a (r.honest id me.0 at (known k a) (subst (λ y. Contains (all_that_is_known me.0) (known y a)) (sym j_is) c')),
                 )),
             refl,
           ),
@@ -246,9 +246,9 @@ module _ (s : HubSettings) where
 
     -- who answers has the role of the beneficiary; anyone may find a place timed out
     pub allows_decides : (t : Terms) (d old new : ℕ) (o : Outcome) (m : ℕ) → old ≡ number d 0 0 → new ≡ outcome_number o m → IsWord (DecidedWord o m) → InTime s.margin o d m
-        → Contains (all_of me.0) (known k (Due d)) → Contains (all_of me.0) (known k (HasTerms t)) → (IsAnswer o → 0 < count t.to me.0.roles)
+        → Contains (all_that_is_known me.0) (known k (Due d)) → Contains (all_that_is_known me.0) (known k (HasTerms t)) → (IsAnswer o → 0 < count t.to me.0.roles)
         → (0 < count (k / s.places) me.0.roles) ⊎ (0 < count t.to me.0.roles)
-        → Allows (IsKeptBoard s) slots id me (k * 6 + 5) (λ n. either (eqb n old) new n) (decides (step slots (k * 6 + 5) old new none) me)
+        → Allows (IsKeptBoard s) slots id me (k * 6 + 5) (λ n. either (eqb n old) new n) (decides_word (step slots (k * 6 + 5) old new none) me)
     allows_decides t d old new o m is will word in_time due has role party st r _ at _ = let x : ℕ = get_or st.words (k * 6 + 5) 0 in dite (ℕ_discrete x old)
         (λ hit.
         let due' : Says (r.world k) (Due d) = r.honest id me.0 at (known k (Due d)) due in
@@ -273,8 +273,8 @@ module _ (s : HubSettings) where
           tt,
           subst (λ b. Rows id w st (k * 6 + 5) (either b new x)) (sym e) (subst (λ n. Rows id w st (k * 6 + 5) n) (sym will) row),
           (
-            (λ j f. subst (λ y. Shows (x ≡ old) y me.0 (either (eqb x old) new x) w) (same_place j f)
-                (subst (λ b. Shows (x ≡ old) k me.0 (either b new x) w) (sym e) (record {
+            (λ j f. subst (λ y. ShowsWord (x ≡ old) y me.0 (either (eqb x old) new x) w) (same_place j f)
+                (subst (λ b. ShowsWord (x ≡ old) k me.0 (either b new x) w) (sym e) (record {
                   standing = q;
                   is = will;
                   showable = subst (λ n. IsShowable n q) (sym margin) can;
@@ -293,8 +293,8 @@ module _ (s : HubSettings) where
           tt,
           subst (λ b. Rows id w st (k * 6 + 5) (either b new x)) (sym e) (stays st r at),
           (
-            (λ j f. subst (λ y. Shows (x ≡ old) y me.0 (either (eqb x old) new x) w) (same_place j f)
-                (subst (λ b. Shows (x ≡ old) k me.0 (either b new x) w) (sym e) (shows (x ≡ old) st r at))),
+            (λ j f. subst (λ y. ShowsWord (x ≡ old) y me.0 (either (eqb x old) new x) w) (same_place j f)
+                (subst (λ b. ShowsWord (x ≡ old) k me.0 (either b new x) w) (sym e) (shows (x ≡ old) st r at))),
             refl,
           ),
         ))
@@ -327,7 +327,7 @@ module _ (s : HubSettings) where
         shown = r.shown;
         written = r.written;
         showable = r.showable;
-        honest = each (λ w. (f : Known) → Contains (all_of w) f → Says (r.world f.place) f.about) (r.honest id v at) (r.honest id v at) r.honest;
+        honest = each (λ w. (f : Known) → Contains (all_that_is_known w) f → Says (r.world f.place) f.about) (r.honest id v at) (r.honest id v at) r.honest;
         whole = each (λ w. (k : ℕ) → 0 < count (k / s.places) w.roles → (a : About) → IsOfOpening a → Says (r.world k) a → Contains w.facts (known k a))
             (λ k role a of says. r.whole id v at k (role_left (k / s.places) role) a of says)
             (λ k role a of says. r.whole id v at k (role_right (k / s.places) role) a of says)
@@ -344,7 +344,7 @@ module _ (s : HubSettings) where
             (λ own. inl (each (λ w. 0 < count (k / s.places) w.roles → Contains w.facts (known k (DecidedAt m))) (λ role. own id v at (role_left (k / s.places) role)) (λ role. own id v at (role_right (k / s.places) role)) own))
             (λ its. inr (each (λ w. 0 < count t.to w.roles → Contains w.facts (known k (DecidedAt m))) (λ role. its id v at (role_left t.to role)) (λ role. its id v at (role_right t.to role)) its))
             (r.decided k t m has says);
-        noted = each (λ w. (k i n : ℕ) → k < total s → i < 5 → note w.notes (k * 6 + i) ≡ Some n → (0 < count (k / s.places) w.roles) × (¬ Says (r.world k) Opened → get_or st.words (k * 6 + i) 0 ≡ n))
+        noted = each (λ w. (k i n : ℕ) → k < count_of_places s → i < 5 → note w.notes (k * 6 + i) ≡ Some n → (0 < count (k / s.places) w.roles) × (¬ Says (r.world k) Opened → get_or st.words (k * 6 + i) 0 ≡ n))
             (λ k i n below under nt. absurd (nothing_noted (k * 6 + i) n nt))
             (λ k i n below under nt. absurd (nothing_noted (k * 6 + i) n nt))
             r.noted;
@@ -366,7 +366,7 @@ module _ (s : HubSettings) where
         shown = r.shown;
         written = r.written;
         showable = r.showable;
-        honest = each (λ w. (f : Known) → Contains (all_of w) f → Says (r.world f.place) f.about) (r.honest id v at) (r.honest id v at) r.honest;
+        honest = each (λ w. (f : Known) → Contains (all_that_is_known w) f → Says (r.world f.place) f.about) (r.honest id v at) (r.honest id v at) r.honest;
         whole = each (λ w. (k : ℕ) → 0 < count (k / s.places) w.roles → (a : About) → IsOfOpening a → Says (r.world k) a → Contains w.facts (known k a)) (r.whole id v at) (λ k role a of says. absurd (omega arith)) r.whole;
         answered = each (λ w. (k : ℕ) (t : Terms) → Says (r.world k) (HasTerms t) → 0 < count t.to w.roles → (o : Outcome) → IsAnswer o → Says (r.world k) (Decided o) → Contains w.facts (known k (HasTerms t)) × Contains w.facts (known k (Decided o))) (r.answered id v at) (λ k t has role o ans says. absurd (omega arith)) r.answered;
         ended = λ k t has done. ⊎_elim
@@ -377,7 +377,7 @@ module _ (s : HubSettings) where
             (λ own. inl (each (λ w. 0 < count (k / s.places) w.roles → Contains w.facts (known k (DecidedAt m))) (own id v at) (λ role. absurd (omega arith)) own))
             (λ its. inr (each (λ w. 0 < count t.to w.roles → Contains w.facts (known k (DecidedAt m))) (its id v at) (λ role. absurd (omega arith)) its))
             (r.decided k t m has says);
-        noted = each (λ w. (k i n : ℕ) → k < total s → i < 5 → note w.notes (k * 6 + i) ≡ Some n → (0 < count (k / s.places) w.roles) × (¬ Says (r.world k) Opened → get_or st.words (k * 6 + i) 0 ≡ n)) (r.noted id v at) (λ k i n below under nt. absurd (nothing_noted (k * 6 + i) n nt)) r.noted;
+        noted = each (λ w. (k i n : ℕ) → k < count_of_places s → i < 5 → note w.notes (k * 6 + i) ≡ Some n → (0 < count (k / s.places) w.roles) × (¬ Says (r.world k) Opened → get_or st.words (k * 6 + i) 0 ≡ n)) (r.noted id v at) (λ k i n below under nt. absurd (nothing_noted (k * 6 + i) n nt)) r.noted;
         alone = λ p. let one = r.alone p in let x = held-set p st.views id v v at in let y = held-snoc p (set st.views id v) right in omega arith;
       }
 
@@ -408,7 +408,7 @@ module _ (s : HubSettings) where
         shown = r.shown;
         written = r.written;
         showable = r.showable;
-        honest = each (λ u. (f : Known) → Contains (all_of u) f → Says (r.world f.place) f.about)
+        honest = each (λ u. (f : Known) → Contains (all_that_is_known u) f → Says (r.world f.place) f.about)
             (λ f c. ⊎_elim (λ x. r.honest id v at f x) (λ y. r.honest other w there f y) (united_cases v w f c))
             (λ f c. absurd (no_fact f c))
             r.honest;
@@ -428,7 +428,7 @@ module _ (s : HubSettings) where
             r.answered;
         ended = λ k t has done. both_told k t (known k (Decided TimedOut)) (r.ended k t has done);
         decided = λ k t m has says. both_told k t (known k (DecidedAt m)) (r.decided k t m has says);
-        noted = each (λ u. (k i n : ℕ) → k < total s → i < 5 → note u.notes (k * 6 + i) ≡ Some n → (0 < count (k / s.places) u.roles) × (¬ Says (r.world k) Opened → get_or st.words (k * 6 + i) 0 ≡ n))
+        noted = each (λ u. (k i n : ℕ) → k < count_of_places s → i < 5 → note u.notes (k * 6 + i) ≡ Some n → (0 < count (k / s.places) u.roles) × (¬ Says (r.world k) Opened → get_or st.words (k * 6 + i) 0 ≡ n))
             (λ k i n below under nt. ⊎_elim
             (λ x. let was = r.noted id v at k i n below under x in (count_left (k / s.places) v.roles w.roles was.0, was.1))
             (λ y. let was = r.noted other w there k i n below under y in (count_right (k / s.places) v.roles w.roles was.0, was.1))
@@ -445,14 +445,14 @@ only_one x y (suc i) e = absurd (some-ne-none y (sym e))
 none_noted : (x n : ℕ) → note [] x ≡ Some n → ⊥
 none_noted x n e = cc
 
-pub starts : (s : HubSettings) (words : List ℕ) → length words ≡ total s * 6 → ((x : ℕ) → get_or words x 0 ≡ 0) → IsKeptBoard s (opening words [] (first_view s))
+pub starts : (s : HubSettings) (words : List ℕ) → length words ≡ count_of_places s * 6 → ((x : ℕ) → get_or words x 0 ≡ 0) → IsKeptBoard s (opening words [] (first_view s))
 starts s words sized zeros = record {
   world = λ k. unused;
   sized = sized;
   shown = λ k below. zeros (k * 6 + 5);
   written = λ k i t below small says. absurd says;
   showable = λ k. tt;
-  honest = λ i v e f c. absurd (no_fact f (subst (λ (u : View). Contains (all_of u) f) (sym (only_one (first_view s) v i e)) c));
+  honest = λ i v e f c. absurd (no_fact f (subst (λ (u : View). Contains (all_that_is_known u) f) (sym (only_one (first_view s) v i e)) c));
   whole = λ i v e k role a of says. absurd says;
   answered = λ i v e k t says role o ans done. absurd says;
   ended = λ k t says done. absurd says;

@@ -7,7 +7,7 @@ use lib.ListN.{get_elem?}
 use Rattle.atomic_table.proofs.Lists.{set_else}
 use Rattle.inst_cell.specs.declared.view.View.{View}
 use Rattle.inst_cell.specs.View.{count, note, roles_from}
-use Rattle.inst_cell.specs.Rule.{held}
+use Rattle.inst_cell.specs.Rule.{seats_with_role}
 
 abbrev pub is_at : ℕ → ℕ → ℕ
 is_at p q = cond (eqb p q) 1 0
@@ -23,19 +23,19 @@ pub count-cut : (p : ℕ) (xs : List ℕ) → count p (take 1 xs) + count p (dro
 count-cut p [] = refl
 count-cut p (x ∷ xs) = let n : ℕ = is_at x p in omega arith
 
-pub held-set : (p : ℕ) (l : List View) (i : ℕ) (v w : View) → get_elem? l i ≡ some v → held p (set l i w) + count p v.roles ≡ held p l + count p w.roles
+pub held-set : (p : ℕ) (l : List View) (i : ℕ) (v w : View) → get_elem? l i ≡ some v → seats_with_role p (set l i w) + count p v.roles ≡ seats_with_role p l + count p w.roles
 held-set p [] i v w e = absurd (some-ne-none v (sym e))
 held-set p (x ∷ xs) zero v w e = let is : count p x.roles ≡ count p v.roles = ap (λ (u : View). count p u.roles) (some-injective x v e) in omega arith
 held-set p (x ∷ xs) (suc i) v w e = let r = held-set p xs i v w e in omega arith
 
-pub held-snoc : (p : ℕ) (l : List View) (v : View) → held p (l ++ v ∷ []) ≡ held p l + count p v.roles
+pub held-snoc : (p : ℕ) (l : List View) (v : View) → seats_with_role p (l ++ v ∷ []) ≡ seats_with_role p l + count p v.roles
 held-snoc p [] v = omega arith
 held-snoc p (x ∷ xs) v = let r = held-snoc p xs v in omega arith
 
-pub held_one : (p : ℕ) (l : List View) (i : ℕ) (v : View) → get_elem? l i ≡ some v → count p v.roles ≤ held p l
+pub held_one : (p : ℕ) (l : List View) (i : ℕ) (v : View) → get_elem? l i ≡ some v → count p v.roles ≤ seats_with_role p l
 held_one p l i v e = let r = held-set p l i v nobody e in omega arith
 
-pub held_two : (p : ℕ) (l : List View) (i j : ℕ) (v w : View) → get_elem? l i ≡ some v → get_elem? l j ≡ some w → j ≢ i → count p v.roles + count p w.roles ≤ held p l
+pub held_two : (p : ℕ) (l : List View) (i j : ℕ) (v w : View) → get_elem? l i ≡ some v → get_elem? l j ≡ some w → j ≢ i → count p v.roles + count p w.roles ≤ seats_with_role p l
 held_two p l i j v w e f ne =
     let r = held-set p l i v nobody e in
     let s = held_one p (set l i nobody) j w (set_else l i j nobody ne ∙ f) in

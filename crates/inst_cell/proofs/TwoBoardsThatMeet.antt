@@ -12,7 +12,7 @@ use Rattle.inst_board.specs.Plain.{place_number}
 use Rattle.inst_cell.specs.declared.view.Known.{Known}
 use Rattle.inst_cell.specs.declared.view.View.{View}
 use Rattle.inst_cell.specs.declared.shared_board.SharedBoard.{SharedBoard}
-use Rattle.inst_cell.specs.View.{known, all_of, count, informed_view, united_view, KnowsOne}
+use Rattle.inst_cell.specs.View.{known, all_that_is_known, count, informed_view, united_view, KnowsOne}
 use Rattle.inst_cell.specs.Steps.{SeatedView, Vouched}
 use Rattle.inst_cell.specs.Held.{settings_of, view_of, roles_of, knows_at, knows, has_role, AtOneTable, Stays}
 use Rattle.inst_cell.specs.Meeting.{KnowsBoth, KnowsTruth, Vouches}
@@ -24,7 +24,7 @@ use Rattle.inst_cell.proofs.KnowledgeOfOneStanding.{one_from}
 
 -- what is known of the first two and by the view, where it has all that they have
 pub both_of : (a b : SharedBoard) (s : HubSettings) (u : View) → AtOneTable a b → s ≡ settings_of b
-    → ((f : Known) → Contains (all_of u) f ↔ (Contains (all_of (view_of a)) f ⊎ Contains (all_of (view_of b)) f)) → (f : Fact) → knows_at s u f ↔ (knows a f ⊎ knows b f)
+    → ((f : Known) → Contains (all_that_is_known u) f ↔ (Contains (all_that_is_known (view_of a)) f ⊎ Contains (all_that_is_known (view_of b)) f)) → (f : Fact) → knows_at s u f ↔ (knows a f ⊎ knows b f)
 both_of a b s u one same all f = (
   λ h. ⊎_elim
       (λ x. inl (knows_as s (settings_of a) (view_of a) (view_of a) f (sym (same ∙ one.1)) refl (h.0, x)))
@@ -48,10 +48,10 @@ pub vouched_one : (m n : SeatedView) → n ≡ m → Vouched m.0 → KnowsOne n.
 vouched_one m n e r = subst (λ (x : SeatedView). KnowsOne x.0) (sym e) (one_from r.world m.0 r.honest)
 
 -- one is told what another knows
-pub told_both : (v w u : View) → u ≡ united_view w (informed_view v) → (f : Known) → Contains (all_of u) f ↔ (Contains (all_of v) f ⊎ Contains (all_of w) f)
+pub told_both : (v w u : View) → u ≡ united_view w (informed_view v) → (f : Known) → Contains (all_that_is_known u) f ↔ (Contains (all_that_is_known v) f ⊎ Contains (all_that_is_known w) f)
 told_both v w u e f = (
-  λ h. ⊎_elim (λ x. inr x) (λ y. inl y) (united_cases w (informed_view v) f (subst (λ (x : View). Contains (all_of x) f) e h)),
-  λ h. subst (λ (x : View). Contains (all_of x) f) (sym e) (united_all w (informed_view v) f (⊎_elim (λ x. inr x) (λ y. inl y) h)),
+  λ h. ⊎_elim (λ x. inr x) (λ y. inl y) (united_cases w (informed_view v) f (subst (λ (x : View). Contains (all_that_is_known x) f) e h)),
+  λ h. subst (λ (x : View). Contains (all_that_is_known x) f) (sym e) (united_all w (informed_view v) f (⊎_elim (λ x. inr x) (λ y. inl y) h)),
 )
 
 module _ (v w u : View) (e : u ≡ united_view w (informed_view v)) where
@@ -81,7 +81,7 @@ vouches_for a b u one e r = record {
   answer = λ k t o role ans has h.
       let s = settings_of b in
       let n = place_number s k in
-      let heard : (x : About) → knows b (about k x) ⊎ knows a (about k x) → IsPlace s k × Contains (all_of u) (known n x) = λ x.
+      let heard : (x : About) → knows b (about k x) ⊎ knows a (about k x) → IsPlace s k × Contains (all_that_is_known u) (known n x) = λ x.
       ⊎_elim
       (λ mine. (mine.0, (told_both (view_of a) (view_of b) u e (known n x)).1 (inr mine.1)))
       (λ theirs. let theirs' = knows_as (settings_of a) s (view_of a) (view_of a) (about k x) one.1 refl theirs in
@@ -90,7 +90,7 @@ vouches_for a b u one e r = record {
       let h' = heard (Decided o) h in
       let role' : 0 < count t.to u.roles = subst (λ (l : List ℕ). 0 < count t.to l) (sym (told_roles (view_of a) (view_of b) u e)) role in
       let got = r.answered n t o role' ans has'.1 h'.1 in
-      let back : (f : Known) → Contains u.facts f → Contains (all_of (view_of b)) f = λ f g. itself (view_of b) f (subst (λ (l : List Known). Contains l f) (told_facts (view_of a) (view_of b) u e) g) in
+      let back : (f : Known) → Contains u.facts f → Contains (all_that_is_known (view_of b)) f = λ f g. itself (view_of b) f (subst (λ (l : List Known). Contains l f) (told_facts (view_of a) (view_of b) u e) g) in
       ((has'.0, back (known n (HasTerms t)) got.0), (has'.0, back (known n (Decided o)) got.1));
 }
 
@@ -101,7 +101,7 @@ truth_of s u w e bounded r k =
     let m : u.margin ≡ s.margin = ap (λ (x : View). x.margin) (sym e) ∙ bounded in (
       r.world n,
       subst (λ (x : ℕ). IsLawful x (r.world n)) m (lawful_of u.margin (r.world n) (r.showable n)),
-      λ a h. r.honest (known n a) (subst (λ (x : View). Contains (all_of x) (known n a)) e h.1),
+      λ a h. r.honest (known n a) (subst (λ (x : View). Contains (all_that_is_known x) (known n a)) e h.1),
     )
 
 -- a board with the same knowledge
@@ -141,10 +141,10 @@ vouches_met a b a' b' e v one r = record {
     role_too p h = subst (λ (x : View). 0 < count p x.roles) (sym v) h
 
 -- two seats become one
-pub united_both : (v w u : View) → u ≡ united_view v w → (f : Known) → Contains (all_of u) f ↔ (Contains (all_of v) f ⊎ Contains (all_of w) f)
+pub united_both : (v w u : View) → u ≡ united_view v w → (f : Known) → Contains (all_that_is_known u) f ↔ (Contains (all_that_is_known v) f ⊎ Contains (all_that_is_known w) f)
 united_both v w u e f = (
-  λ h. united_cases v w f (subst (λ (x : View). Contains (all_of x) f) e h),
-  λ h. subst (λ (x : View). Contains (all_of x) f) (sym e) (united_all v w f h),
+  λ h. united_cases v w f (subst (λ (x : View). Contains (all_that_is_known x) f) e h),
+  λ h. subst (λ (x : View). Contains (all_that_is_known x) f) (sym e) (united_all v w f h),
 )
 
 module _ (a b a' b' : SharedBoard) (one : AtOneTable a b) (first : Stays a a') (second : Stays b b') (u : View) (e : u ≡ united_view (view_of a') (view_of b')) where

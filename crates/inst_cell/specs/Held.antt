@@ -16,7 +16,7 @@ use Rattle.inst_board.specs.Standing.{IsPlace, about}
 use Rattle.inst_board.specs.Plain.{place_number}
 use Rattle.inst_cell.specs.declared.view.View.{View}
 use Rattle.inst_cell.specs.declared.shared_board.SharedBoard.{SharedBoard}
-use Rattle.inst_cell.specs.View.{known, all_of, count, HasNoted}
+use Rattle.inst_cell.specs.View.{known, all_that_is_known, count, HasNoted}
 
 -- the settings of the hub
 abbrev pub settings_of : SharedBoard → HubSettings
@@ -34,7 +34,7 @@ abbrev pub roles_of : SharedBoard → List ℕ
 roles_of b = (view_of b).roles
 
 abbrev pub knows_at : HubSettings → View → Fact → Type 0
-knows_at s v f = IsPlace s f.place × Contains (all_of v) (known (place_number s f.place) f.about)
+knows_at s v f = IsPlace s f.place × Contains (all_that_is_known v) (known (place_number s f.place) f.about)
 
 abbrev pub knows : SharedBoard → Fact → Type 0
 knows b f = knows_at (settings_of b) (view_of b) f

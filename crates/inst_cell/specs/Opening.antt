@@ -9,7 +9,7 @@ use Rattle.inst_cell.specs.declared.shared_board.SharedBoard.{SharedBoard}
 use Rattle.inst_cell.specs.declared.sight.Sight.{Sight}
 use Rattle.inst_cell.specs.View.{roles_from}
 use Rattle.inst_cell.specs.Held.{settings_of, table_of, roles_of, has_role, knows}
-use Rattle.inst_cell.specs.Seen.{board_of, sees}
+use Rattle.inst_cell.specs.Seen.{board_of_sight, sight_knows}
 use Rattle.inst_cell.specs.declared.shared_board.opening.TheConstants.{MOST_TELLERS}
 
 -- how many tellers a hub may open with
@@ -40,10 +40,10 @@ IsOpened s id p b = IsDealt s id (λ f. ⊥) p b
 
 -- the sight of a teller as the hub opens
 pub record IsAdmitted (s : HubSettings) (id : TableId) (t : Sight) : Type 0 where
-  pub settings : settings_of (board_of t) ≡ s
-  pub table : table_of (board_of t) ≡ id
-  pub roles : roles_of (board_of t) ≡ []
-  pub nothing : (f : Fact) → ¬ sees t f
+  pub settings : settings_of (board_of_sight t) ≡ s
+  pub table : table_of (board_of_sight t) ≡ id
+  pub roles : roles_of (board_of_sight t) ≡ []
+  pub nothing : (f : Fact) → ¬ sight_knows t f
 
 -- the boards of the participants, by number, each of which knows what `all` knew
 pub record AreDealt (all : SharedBoard) (boards : List SharedBoard) : Type 0 where

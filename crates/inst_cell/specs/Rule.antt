@@ -22,7 +22,7 @@ use Rattle.inst_board.specs.Standing.{Standing, unused, pending, decided, Says, 
 use Rattle.inst_board.specs.Learning.{IsOfOpening, IsAnswer}
 use Rattle.inst_cell.specs.declared.view.Known.{Known}
 use Rattle.inst_cell.specs.declared.view.View.{View}
-use Rattle.inst_cell.specs.View.{known, all_of, count, note}
+use Rattle.inst_cell.specs.View.{known, all_that_is_known, count, note}
 
 -- the outcome word of a place as a number
 abbrev pub encode : Standing → ℕ
@@ -37,13 +37,13 @@ IsShowable margin (decided terms deadline outcome at) =
     × IsWord (DecidedWord outcome at)
 
 -- how often all seats have the role of p
-abbrev pub held : ℕ → List View → ℕ
-held p [] = 0
-held p (v ∷ vs) = count p v.roles + held p vs
+abbrev pub seats_with_role : ℕ → List View → ℕ
+seats_with_role p [] = 0
+seats_with_role p (v ∷ vs) = count p v.roles + seats_with_role p vs
 
 -- how many places there are
-abbrev pub total : HubSettings → ℕ
-total s = s.places * participants s
+abbrev pub count_of_places : HubSettings → ℕ
+count_of_places s = s.places * participants s
 
 -- each seat with this role learnt it by a step of its own
 abbrev pub AllLearnt : List View → ℕ → Known → Type 0
@@ -60,13 +60,13 @@ AllLearnt views p f =
 -- while the place is unused the word is as noted alone: no two seats have one role
 pub record KeepsBoard (s : HubSettings) (words : List ℕ) (views : List View) : Type 0 where
   pub world : ℕ → Standing
-  pub sized : length words ≡ total s * 6
-  pub shown : (k : ℕ) → k < total s → slice_index words (k * 6 + 5) ≡ encode (world k)
-  pub written : (k i : ℕ) (t : Terms) → k < total s → i < 5 → Says (world k) (HasTerms t) →
+  pub sized : length words ≡ count_of_places s * 6
+  pub shown : (k : ℕ) → k < count_of_places s → slice_index words (k * 6 + 5) ≡ encode (world k)
+  pub written : (k i : ℕ) (t : Terms) → k < count_of_places s → i < 5 → Says (world k) (HasTerms t) →
       slice_index words (k * 6 + i) ≡ slice_index (words_of t) i
   pub showable : (k : ℕ) → IsShowable s.margin (world k)
   pub honest : (id : ℕ) (v : View) → get_elem? views id ≡ some v → (f : Known) →
-      Contains (all_of v) f →
+      Contains (all_that_is_known v) f →
       Says (world f.place) f.about
   pub whole : (id : ℕ) (v : View) → get_elem? views id ≡ some v → (k : ℕ) →
       0 < count (k / s.places) v.roles →
@@ -83,12 +83,12 @@ pub record KeepsBoard (s : HubSettings) (words : List ℕ) (views : List View) :
       Says (world k) (DecidedAt at) →
       AllLearnt views (k / s.places) (known k (DecidedAt at))
       ⊎ AllLearnt views t.to (known k (DecidedAt at))
-  pub noted : (id : ℕ) (v : View) → get_elem? views id ≡ some v → (k i n : ℕ) → k < total s →
+  pub noted : (id : ℕ) (v : View) → get_elem? views id ≡ some v → (k i n : ℕ) → k < count_of_places s →
       i < 5 →
       note v.notes (k * 6 + i) ≡ Some n →
       (0 < count (k / s.places) v.roles)
       × (¬ Says (world k) Opened → slice_index words (k * 6 + i) ≡ n)
-  pub alone : (p : ℕ) → held p views ≤ 1
+  pub alone : (p : ℕ) → seats_with_role p views ≤ 1
 
 abbrev pub IsKeptBoard : HubSettings → State (Unit {0}) View → Type 0
 IsKeptBoard s st = KeepsBoard s st.words st.views

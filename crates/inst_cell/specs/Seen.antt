@@ -12,11 +12,11 @@ use Rattle.inst_cell.specs.declared.sight.Sight.{Sight}
 use Rattle.inst_cell.specs.Held.{knows, settings_of}
 
 -- the seat that it sees with
-abbrev pub board_of : Sight → SharedBoard
-board_of t = t.board
+abbrev pub board_of_sight : Sight → SharedBoard
+board_of_sight t = t.board
 
-abbrev pub sees : Sight → Fact → Type 0
-sees t f = knows (board_of t) f
+abbrev pub sight_knows : Sight → Fact → Type 0
+sight_knows t f = knows (board_of_sight t) f
 
 abbrev pub state_of : Standing → State
 state_of unused = Unused
@@ -26,4 +26,4 @@ state_of (decided terms deadline outcome at) = Decided outcome
 -- what the teller learns of the place as it peeks, and what it answers of that
 abbrev pub Peeks : Sight → Place → State → Sight → Type 0
 Peeks t k found u =
-    (p : Standing) × Learns (settings_of (board_of t)).margin sees t k p u × (found ≡ state_of p)
+    (p : Standing) × Learns (settings_of (board_of_sight t)).margin sight_knows t k p u × (found ≡ state_of p)

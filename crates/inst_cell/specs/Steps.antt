@@ -16,7 +16,7 @@ use Rattle.inst_board.specs.Standing.{Standing, pending, Says}
 use Rattle.inst_board.specs.Learning.{IsOfOpening, IsAnswer}
 use Rattle.inst_cell.specs.declared.view.Known.{Known}
 use Rattle.inst_cell.specs.declared.view.View.{View}
-use Rattle.inst_cell.specs.View.{known, all_of, count, view_after_learning, with_note, HasNoted}
+use Rattle.inst_cell.specs.View.{known, all_that_is_known, count, view_after_learning, with_note, HasNoted}
 use Rattle.inst_cell.specs.View.{KnowsOne}
 use Rattle.inst_cell.specs.Rule.{encode, IsShowable}
 
@@ -47,11 +47,11 @@ KnewEnd k v p =
 -- all is true of it that was known mine, learns: then the seat knows what is true of it, and at
 -- which reading it was decided where this step decided it one: and what it knows agrees before:
 -- this step changed the word (`own`), or what only the seat itself can have done it knew
-pub record Shows (own : Type 0) (k : ℕ) (v : View) (n : ℕ) (w : View) : Type 0 where
+pub record ShowsWord (own : Type 0) (k : ℕ) (v : View) (n : ℕ) (w : View) : Type 0 where
   pub standing : Standing
   pub is : n ≡ encode standing
   pub showable : IsShowable v.margin standing
-  pub agrees : (a : About) → Contains (all_of v) (known k a) → Says standing a
+  pub agrees : (a : About) → Contains (all_that_is_known v) (known k a) → Says standing a
   pub mine : Bool
   pub learns : w ≡ view_after_learning v k standing mine
   pub one : KnowsOne w
@@ -66,22 +66,22 @@ pub record Shows (own : Type 0) (k : ℕ) (v : View) (n : ℕ) (w : View) : Type
 pub record Vouched (v : View) : Type 0 where
   pub world : ℕ → Standing
   pub showable : (k : ℕ) → IsShowable v.margin (world k)
-  pub honest : (f : Known) → Contains (all_of v) f → Says (world f.place) f.about
+  pub honest : (f : Known) → Contains (all_that_is_known v) f → Says (world f.place) f.about
   pub own : (k : ℕ) → 0 < count (k / v.places) v.roles → (a : About) → IsOfOpening a →
-      Contains (all_of v) (known k a) → Contains v.facts (known k a)
+      Contains (all_that_is_known v) (known k a) → Contains v.facts (known k a)
   pub answered : (k : ℕ) (t : Terms) (o : Outcome) → 0 < count t.to v.roles → IsAnswer o →
-      Contains (all_of v) (known k (HasTerms t)) → Contains (all_of v) (known k (Decided o)) →
+      Contains (all_that_is_known v) (known k (HasTerms t)) → Contains (all_that_is_known v) (known k (Decided o)) →
       Contains v.facts (known k (HasTerms t)) × Contains v.facts (known k (Decided o))
 
 -- a load of an outcome word
 abbrev pub loads : Step (Unit {0}) → SeatedView → ℕ → SeatedView → Type 0
-loads st m n m' = ((k : ℕ) → st.word ≡ k * 6 + 5 → Shows ⊥ k m.0 n m'.0) × (m'.1 ≡ m.1)
+loads st m n m' = ((k : ℕ) → st.word ≡ k * 6 + 5 → ShowsWord ⊥ k m.0 n m'.0) × (m'.1 ≡ m.1)
 
 -- a load of a terms word: of a place whose terms are known it is theirs
 abbrev pub loads_term : Step (Unit {0}) → SeatedView → ℕ → SeatedView → Type 0
 loads_term st m n m' =
     ((k i : ℕ) (t : Terms) → st.word ≡ k * 6 + i → i < 5 →
-    Contains (all_of m.0) (known k (HasTerms t)) →
+    Contains (all_that_is_known m.0) (known k (HasTerms t)) →
     IsTerms t × (n ≡ slice_index (words_of t) i)) × (m' ≡ m)
 
 -- a load that teaches nothing new
@@ -99,9 +99,9 @@ opens st m n m' =
     ((k : ℕ) (t : Terms) (d : ℕ) → st.word ≡ k * 6 + 5 → IsTerms t → HasNoted m.0 k t →
     n ≡ word_number (Pending d) →
     (m'.0 ≡ view_after_learning m.0 k (pending t d) false) × KnowsOne m'.0
-    × ((a : About) → ¬ Contains (all_of m.0) (known k a))) × (m'.1 ≡ m.1)
+    × ((a : About) → ¬ Contains (all_that_is_known m.0) (known k a))) × (m'.1 ≡ m.1)
 
 -- an exchange of the pending word for a decided one
-abbrev pub decides : Step (Unit {0}) → SeatedView → ℕ → SeatedView → Type 0
-decides st m n m' = ((k : ℕ) → st.word ≡ k * 6 + 5 →
-    Shows (n ≡ st.first) k m.0 (either (n == st.first) st.second n) m'.0) × (m'.1 ≡ m.1)
+abbrev pub decides_word : Step (Unit {0}) → SeatedView → ℕ → SeatedView → Type 0
+decides_word st m n m' = ((k : ℕ) → st.word ≡ k * 6 + 5 →
+    ShowsWord (n ≡ st.first) k m.0 (either (n == st.first) st.second n) m'.0) × (m'.1 ≡ m.1)

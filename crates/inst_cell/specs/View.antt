@@ -21,8 +21,8 @@ abbrev pub known : ℕ → About → Known
 known k a = record { place = k; about = a }
 
 -- all that a seat knows
-abbrev pub all_of : View → List Known
-all_of v = v.facts ++ v.heard
+abbrev pub all_that_is_known : View → List Known
+all_that_is_known v = v.facts ++ v.heard
 
 -- how often a number stands in a list
 abbrev pub count : ℕ → List ℕ → ℕ
@@ -92,18 +92,18 @@ standing_with terms deadline (Some outcome) moment =
 -- how the place stands, as far as it is known: what isn't known may be anything
 abbrev pub known_standing : View → ℕ → Standing
 known_standing v k =
-    standing_with (unwrap_or (first_of terms_in k (all_of v)) (record {
+    standing_with (unwrap_or (first_of terms_in k (all_that_is_known v)) (record {
       to = 0;
       cents = 0;
       id =
           [];
     }))
-    (unwrap_or (first_of due_in k (all_of v)) 0) (first_of outcome_about k (all_of v))
-    (first_of moment_in k (all_of v))
+    (unwrap_or (first_of due_in k (all_that_is_known v)) 0) (first_of outcome_about k (all_that_is_known v))
+    (first_of moment_in k (all_that_is_known v))
 
 -- all that a seat knows of a place is true of one standing
 abbrev pub KnowsOne : View → Type 0
-KnowsOne v = (k : ℕ) (a : About) → Contains (all_of v) (known k a) → Says (known_standing v k) a
+KnowsOne v = (k : ℕ) (a : About) → Contains (all_that_is_known v) (known k a) → Says (known_standing v k) a
 
 says_one : (p : Standing) (a : About) → IsProp (Says p a)
 says_one unused a = Prim.hlevel props
@@ -194,7 +194,7 @@ informed_view v = record {
   notes = [];
   facts = [];
   heard =
-      all_of v;
+      all_that_is_known v;
 }
 
 -- one seat that has and knows what two had and knew

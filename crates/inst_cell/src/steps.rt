@@ -51,9 +51,9 @@ impl Play<(), View> for PlaceOpening {
 pub struct Deciding;
 
 impl Play<(), View> for Deciding {
-    ghost use Rattle.inst_cell.specs.Steps.{decides};
+    ghost use Rattle.inst_cell.specs.Steps.{decides_word};
 
-    ghost then = { decides };
+    ghost then = { decides_word };
 }
 
 /// The first role goes to a new seat, which knows as much.

@@ -4,7 +4,7 @@ use Rattle.std.proofs.lemmas.List.{append-nil}
 use Rattle.inst_log.specs.Layout.{recovered_lines, blocks, IsShut}
 use Rattle.inst_log.proofs.Lines.{parts, blocks-append}
 use Rattle.inst_chain.specs.Chain.{is_mark, mark_of, front_of, chained_lines, HasNoMark, IsSealed, has_wanted}
-use Rattle.inst_chain.specs.Checking.{Digests, EndsMarked, Stands, IsWrongAt}
+use Rattle.inst_chain.specs.Checking.{Digests, EndsMarked, HasGoneThrough, IsWrongAt}
 use Rattle.std.specs.Prelude.{is_some, not, MatchResult}
 use Rattle.inst_log.specs.Pieces.{IsReading, has_more}
 use Rattle.inst_log.specs.declared.file_lines.FileLines.{FileLines}
@@ -46,7 +46,7 @@ fits file front rest split small =
     )
 
 -- damage behind the marks that are right
-module _ (file : List ℕ) (checker : Checker) (lines late : Lines) (s : Stands checker lines) (split : recovered_lines file ≡ lines ++ late) (small : length file < 2 ^ 64) where
+module _ (file : List ℕ) (checker : Checker) (lines late : Lines) (s : HasGoneThrough checker lines) (split : recovered_lines file ≡ lines ++ late) (small : length file < 2 ^ 64) where
   behind : recovered_lines file ≡ chained_lines s.older ++ (s.part ++ late)
   behind = split ∙ ap (λ (l : Lines). l ++ late) s.split ∙ append_assoc (chained_lines s.older) s.part late
 
@@ -67,7 +67,7 @@ module _ (file : List ℕ) (checker : Checker) (lines late : Lines) (s : Stands 
       }
 
 -- a mark among the lines that come next is wrong
-pub wrong_mark : (file : List ℕ) (checker : Checker) (lines later : Lines) (piece : List ℕ) (right : Prefix) → Stands checker lines → IsWrongAt checker piece right
+pub wrong_mark : (file : List ℕ) (checker : Checker) (lines later : Lines) (piece : List ℕ) (right : Prefix) → HasGoneThrough checker lines → IsWrongAt checker piece right
     → recovered_lines file ≡ (lines ++ recovered_lines piece) ++ later → length file < 2 ^ 64 → IsDamagedAfter file right
 wrong_mark file checker lines later piece right stands x split small =
     let s = x.stands lines stands in
@@ -87,17 +87,17 @@ wrong_mark file checker lines later piece right stands x split small =
     (λ sealed. x.wrong (lines ++ x.done) s (right_mark x.mid (lines ++ x.done) x.line more s x.mark (subst (Follows []) all (chain_follows (recovered_lines file) sealed.chain)))))
 
 -- the lines end behind the marks that are right
-pub wrong_end : (file : List ℕ) (checker : Checker) (lines : Lines) → Stands checker lines → recovered_lines file ≡ lines → length file < 2 ^ 64 → 0 < length lines
+pub wrong_end : (file : List ℕ) (checker : Checker) (lines : Lines) → HasGoneThrough checker lines → recovered_lines file ≡ lines → length file < 2 ^ 64 → 0 < length lines
     → (IsSealed file → ⊥) → IsDamagedAfter file checker.right
 wrong_end file checker lines s all small some not_sealed =
     damaged file checker lines [] s (all ∙ sym (append-nil lines)) small
     (λ batch more none same. no_mark_within s.part batch (mark_of (front_of s.older ++ blocks batch)) more s.plain (mark_is_mark (front_of s.older ++ blocks batch)) (sym (append-nil s.part) ∙ same))
     (subst (λ (l : Lines). 0 < length l) (sym all) some) not_sealed
 
-pub not_sealed_end : (file : List ℕ) (checker : Checker) (lines : Lines) → Stands checker lines → recovered_lines file ≡ lines → checker.sealed ≡ false → IsSealed file → ⊥
+pub not_sealed_end : (file : List ℕ) (checker : Checker) (lines : Lines) → HasGoneThrough checker lines → recovered_lines file ≡ lines → checker.sealed ≡ false → IsSealed file → ⊥
 not_sealed_end file checker lines s all unsealed sealed = s.open_end unsealed (subst EndsMarked all (chain_ends (recovered_lines file) sealed.chain))
 
-pub sealed_end : (file : List ℕ) (checker : Checker) (lines : Lines) → Stands checker lines → recovered_lines file ≡ lines → checker.sealed ≡ true → IsShut file → SealedBy file checker.marker
+pub sealed_end : (file : List ℕ) (checker : Checker) (lines : Lines) → HasGoneThrough checker lines → recovered_lines file ≡ lines → checker.sealed ≡ true → IsShut file → SealedBy file checker.marker
 sealed_end file checker lines s all sealed shut =
     let whole = s.whole sealed in
     let split : recovered_lines file ≡ chained_lines s.older = all ∙ s.split ∙ ap (λ (l : Lines). chained_lines s.older ++ l) whole.0 ∙ append-nil (chained_lines s.older) in
@@ -149,7 +149,7 @@ wanted_none None false is = absurd (cc is)
 wanted_none (Some digest) true is = absurd (cc is)
 wanted_none (Some digest) false is = refl
 
-pub checked : (file : List ℕ) (reader : FileLines) (checker : Checker) (done : Lines) → IsReading file reader done → Stands checker done → has_more reader ≡ false → reader.len < 2 ^ 64
+pub checked : (file : List ℕ) (reader : FileLines) (checker : Checker) (done : Lines) → IsReading file reader done → HasGoneThrough checker done → has_more reader ≡ false → reader.len < 2 ^ 64
     → IsChecked file reader checker
 checked file reader checker done reading stands ended small = record {
   done = done;

@@ -5,7 +5,7 @@ use Rattle.inst_base.specs.Newline.{newline}
 use Rattle.inst_log.specs.Layout.{recovered_lines, blocks}
 use Rattle.inst_log.proofs.Lines.{blocks-append}
 use Rattle.inst_chain.specs.Chain.{is_mark, mark_of, front_of, chained_lines, HasNoMark, HaveNoMark, IsChain}
-use Rattle.inst_chain.specs.Checking.{Digests, Counts, EndsMarked, Stands, IsWrongAt}
+use Rattle.inst_chain.specs.Checking.{Digests, Counts, EndsMarked, HasGoneThrough, IsWrongAt}
 use Rattle.inst_chain.specs.declared.prefix.Prefix.{Prefix}
 use Rattle.inst_chain.specs.declared.checker.Checker.{Checker}
 use Rattle.inst_chain.proofs.Digests.{mark_is_mark}
@@ -22,7 +22,7 @@ last_same lines before line m same = elim (where_it_is lines (line ∷ []) befor
 pub plain_stands : (old new : Checker) (lines : Lines) (line : List ℕ) → is_mark line ≡ false → new.sealed ≡ false → new.right ≡ old.right
     → ((ls : Lines) → Counts old.came ls → Counts new.came (ls ++ line ∷ []))
     → ((text : List ℕ) → Digests old.marker text → Digests new.marker ((text ++ line) ++ newline ∷ []))
-    → Stands old lines → Stands new (lines ++ line ∷ [])
+    → HasGoneThrough old lines → HasGoneThrough new (lines ++ line ∷ [])
 plain_stands old new lines line plain unsealed same counts goes s = record {
   older = s.older;
   part = s.part ++ line ∷ [];
@@ -44,9 +44,9 @@ plain_stands old new lines line plain unsealed same counts goes s = record {
 -- a mark that is right
 pub mark_stands : (old new : Checker) (lines : Lines) (line : List ℕ) → new.sealed ≡ true → new.right ≡ new.came
     → ((ls : Lines) → Counts old.came ls → Counts new.came (ls ++ line ∷ []))
-    → (s : Stands old lines) → line ≡ mark_of (front_of s.older ++ blocks s.part)
+    → (s : HasGoneThrough old lines) → line ≡ mark_of (front_of s.older ++ blocks s.part)
     → Digests new.marker (mark_of (front_of s.older ++ blocks s.part) ++ newline ∷ [])
-    → Stands new (lines ++ line ∷ [])
+    → HasGoneThrough new (lines ++ line ∷ [])
 mark_stands old new lines line sealed same counts s is digests =
     let split : lines ++ line ∷ [] ≡ chained_lines (s.part ∷ s.older) ++ [] =
     (λ i. s.split i ++ is i ∷ [])
@@ -131,7 +131,7 @@ pub chain_ends : (lines : Lines) → IsChain lines → EndsMarked lines
 chain_ends lines chain = subst EndsMarked (sym chain.split) (ends_marked chain.batches chain.some)
 
 -- at a mark that is wrong
-pub right_mark : (checker : Checker) (lines : Lines) (line : List ℕ) (more : Lines) (s : Stands checker lines) → is_mark line ≡ true → Follows [] (lines ++ line ∷ more)
+pub right_mark : (checker : Checker) (lines : Lines) (line : List ℕ) (more : Lines) (s : HasGoneThrough checker lines) → is_mark line ≡ true → Follows [] (lines ++ line ∷ more)
     → line ≡ mark_of (front_of s.older ++ blocks s.part)
 right_mark checker lines line more s is follows =
     let same : lines ++ line ∷ more ≡ chained_lines s.older ++ (s.part ++ line ∷ more) =
@@ -139,7 +139,7 @@ right_mark checker lines line more s is follows =
     ((through_part (front_of s.older) s.part (line ∷ more) s.plain (through s.older (s.part ++ line ∷ more) s.unmarked (subst (Follows []) same follows))).0 is).0
 
 -- lines that all came are a chain where the checker is sealed
-pub sealed_chain : (checker : Checker) (lines : Lines) → Stands checker lines → checker.sealed ≡ true → IsChain lines
+pub sealed_chain : (checker : Checker) (lines : Lines) → HasGoneThrough checker lines → checker.sealed ≡ true → IsChain lines
 sealed_chain checker lines s is =
     let whole = s.whole is in
     record {
@@ -153,21 +153,21 @@ sealed_chain checker lines s is =
 pub record Takes (old new : Checker) (bytes rest : List ℕ) : Type 0 where
   pub done : Lines
   pub split : recovered_lines bytes ≡ done ++ recovered_lines rest
-  pub stands : (lines : Lines) → Stands old lines → Stands new (lines ++ done)
+  pub stands : (lines : Lines) → HasGoneThrough old lines → HasGoneThrough new (lines ++ done)
 
 pub takes_none : (checker : Checker) (bytes : List ℕ) → Takes checker checker bytes bytes
-takes_none checker bytes = record { done = []; split = refl; stands = λ lines s. subst (Stands checker) (sym (append-nil lines)) s }
+takes_none checker bytes = record { done = []; split = refl; stands = λ lines s. subst (HasGoneThrough checker) (sym (append-nil lines)) s }
 
 pub takes_one : (old mid new : Checker) (bytes rest behind line : List ℕ) → Takes old mid bytes rest → recovered_lines rest ≡ line ∷ recovered_lines behind
-    → ((lines : Lines) → Stands mid lines → Stands new (lines ++ line ∷ [])) → Takes old new bytes behind
+    → ((lines : Lines) → HasGoneThrough mid lines → HasGoneThrough new (lines ++ line ∷ [])) → Takes old new bytes behind
 takes_one old mid new bytes rest behind line t first goes = record {
   done = t.done ++ line ∷ [];
   split = t.split ∙ ap (λ (l : Lines). t.done ++ l) first ∙ sym (append_assoc t.done (line ∷ []) (recovered_lines behind));
-  stands = λ lines s. subst (Stands new) (append_assoc lines t.done (line ∷ [])) (goes (lines ++ t.done) (t.stands lines s));
+  stands = λ lines s. subst (HasGoneThrough new) (append_assoc lines t.done (line ∷ [])) (goes (lines ++ t.done) (t.stands lines s));
 }
 
 pub takes_wrong : (old mid : Checker) (bytes rest behind line : List ℕ) → Takes old mid bytes rest → recovered_lines rest ≡ line ∷ recovered_lines behind → is_mark line ≡ true
-    → ((lines : Lines) → (s : Stands mid lines) → line ≡ mark_of (front_of s.older ++ blocks s.part) → ⊥) → IsWrongAt old bytes mid.right
+    → ((lines : Lines) → (s : HasGoneThrough mid lines) → line ≡ mark_of (front_of s.older ++ blocks s.part) → ⊥) → IsWrongAt old bytes mid.right
 takes_wrong old mid bytes rest behind line t first mark wrong = record {
   mid = mid;
   done = t.done;
@@ -180,6 +180,6 @@ takes_wrong old mid bytes rest behind line t first mark wrong = record {
   same = refl;
 }
 
-pub takes_all : (old new : Checker) (bytes rest : List ℕ) → Takes old new bytes rest → recovered_lines rest ≡ [] → (lines : Lines) → Stands old lines → Stands new (lines ++ recovered_lines bytes)
+pub takes_all : (old new : Checker) (bytes rest : List ℕ) → Takes old new bytes rest → recovered_lines rest ≡ [] → (lines : Lines) → HasGoneThrough old lines → HasGoneThrough new (lines ++ recovered_lines bytes)
 takes_all old new bytes rest t none lines s =
-    subst (λ (l : Lines). Stands new (lines ++ l)) (sym (t.split ∙ ap (λ (l : Lines). t.done ++ l) none ∙ append-nil t.done)) (t.stands lines s)
+    subst (λ (l : Lines). HasGoneThrough new (lines ++ l)) (sym (t.split ∙ ap (λ (l : Lines). t.done ++ l) none ∙ append-nil t.done)) (t.stands lines s)

@@ -15,10 +15,10 @@ use Rattle.inst_log.specs.declared.line_cutter.LineCutter.{LineCutter}
 use Rattle.inst_log.proofs.Lines.{blocks-append}
 use Rattle.inst_log.proofs.Pieces.{all_cut, blocks_long, cut_end}
 use Rattle.inst_chain.specs.Chain.{is_mark, mark_of, mark_with, front_of, chained_lines, said}
-use Rattle.inst_chain.specs.Checking.{Stands, IsWrongAt}
+use Rattle.inst_chain.specs.Checking.{HasGoneThrough, IsWrongAt}
 use Rattle.inst_chain.specs.Verifying.{IsDamagedAfter}
 use Rattle.inst_chain.specs.Summing.{HasFirst, EndsBy, IsSealedBy, IsUnsealed, IsSummary}
-use Rattle.inst_chain.specs.inner.Summing.{IsFirst, Sees, Tallies, AreWrong, IsChain, HasRead, HasReadAll}
+use Rattle.inst_chain.specs.inner.Summing.{IsFirstOf, Sees, Tallies, AreDamaged, IsChain, HasRead, HasReadAll}
 use Rattle.inst_chain.specs.declared.digest.Digest.{Digest}
 use Rattle.inst_chain.specs.declared.prefix.Prefix.{Prefix}
 use Rattle.inst_chain.specs.declared.checker.Checker.{Checker}
@@ -51,7 +51,7 @@ said_few (line ∷ lines) = count (is_mark line) (said_few lines)
     count true few = omega (arith, few)
     count false few = omega (arith, few)
 
-module _ (old new : Seen) (lines : Lines) (line : List ℕ) (s : Sees old lines) (first : IsFirst new.first (lines ++ line ∷ [])) where
+module _ (old new : Seen) (lines : Lines) (line : List ℕ) (s : Sees old lines) (first : IsFirstOf new.first (lines ++ line ∷ [])) where
   -- a mark
   pub sees_mark : is_mark line ≡ true → new.lines ≡ old.lines → (length line ≡ 67 → line ≡ mark_with new.digest.text) → Sees new (lines ++ line ∷ [])
   sees_mark is same digest = record {
@@ -96,11 +96,11 @@ went_all old new bytes rest t none lines s =
 -- ---- lines with their marks
 
 -- a mark was wrong before these lines
-pub wrong_longer : (lines more : Lines) (right : Prefix) → AreWrong lines right → AreWrong (lines ++ more) right
+pub wrong_longer : (lines more : Lines) (right : Prefix) → AreDamaged lines right → AreDamaged (lines ++ more) right
 wrong_longer lines more right wrong file later split small = wrong file (more ++ later) (split ∙ append_assoc lines more later) small
 
 -- one of these lines is a mark that is wrong
-pub wrong_now : (checker : Checker) (lines : Lines) (bytes : List ℕ) (right : Prefix) → Stands checker lines → IsWrongAt checker bytes right → AreWrong (lines ++ recovered_lines bytes) right
+pub wrong_now : (checker : Checker) (lines : Lines) (bytes : List ℕ) (right : Prefix) → HasGoneThrough checker lines → IsWrongAt checker bytes right → AreDamaged (lines ++ recovered_lines bytes) right
 wrong_now checker lines bytes right stands x file later split small = wrong_mark file checker lines later bytes right stands x split small
 
 -- ---- the last mark
@@ -154,7 +154,7 @@ module _ (file : List ℕ) (cutter : LineCutter) (done : Lines) (cut : HasCut fi
     some : 0 < length done
     some = omega (arith, ap length has.split)
 
-    chain_by : (w : Option Prefix) (r : Result Digest Prefix) (b : Bool) → MatchOption w (Stands checker done) (AreWrong done)
+    chain_by : (w : Option Prefix) (r : Result Digest Prefix) (b : Bool) → MatchOption w (HasGoneThrough checker done) (AreDamaged done)
         → MatchOption w
         (MatchResult r (λ digest. (b ≡ true) × (checker.sealed ≡ true) × (digest ≡ seen.digest)) (λ right. (right ≡ checker.right) × (b ≡ true → checker.sealed ≡ false)))
         (λ right. MatchResult r (λ digest. ⊥) (λ p. p ≡ right))
@@ -179,7 +179,7 @@ pub summed : (file : List ℕ) (reading : Reading) (h : HasReadAll reading file)
     → (first : Vec ℕ Global) (seen : Seen) → seen ≡ reading.tally.seen → seen.first ≡ Some first → IsSummary file (record { first = first; lines = seen.lines; chain = r })
 summed file reading h b shut r chain first seen same is =
     let has : HasFirst h.done first.items =
-    subst (λ (f : Option (Vec ℕ Global)). IsFirst f h.done) (ap (λ (x : Seen). x.first) (sym same) ∙ is) h.tallies.sees.first in
+    subst (λ (f : Option (Vec ℕ Global)). IsFirstOf f h.done) (ap (λ (x : Seen). x.first) (sym same) ∙ is) h.tallies.sees.first in
     let lines = all file reading.cutter h.done h.cut h.ended in
     record {
       first = subst (λ (ls : Lines). HasFirst ls first.items) (sym lines) has;
@@ -195,16 +195,16 @@ summed file reading h b shut r chain first seen same is =
 pub no_line : (file : List ℕ) (reading : Reading) (h : HasReadAll reading file) (seen : Seen) → seen ≡ reading.tally.seen → seen.first ≡ None → recovered_lines file ≡ []
 no_line file reading h seen same is =
     all file reading.cutter h.done h.cut h.ended
-    ∙ subst (λ (f : Option (Vec ℕ Global)). IsFirst f h.done) (ap (λ (x : Seen). x.first) (sym same) ∙ is) h.tallies.sees.first
+    ∙ subst (λ (f : Option (Vec ℕ Global)). IsFirstOf f h.done) (ap (λ (x : Seen). x.first) (sym same) ∙ is) h.tallies.sees.first
 
 -- ---- marks that were wrong before, or weren't
 
-pub longer_wrong : (w : Option Prefix) (old new : Checker) (lines more : Lines) → is_some w ≡ true → MatchOption w (Stands old lines) (AreWrong lines)
-    → MatchOption w (Stands new (lines ++ more)) (AreWrong (lines ++ more))
+pub longer_wrong : (w : Option Prefix) (old new : Checker) (lines more : Lines) → is_some w ≡ true → MatchOption w (HasGoneThrough old lines) (AreDamaged lines)
+    → MatchOption w (HasGoneThrough new (lines ++ more)) (AreDamaged (lines ++ more))
 longer_wrong None old new lines more is checked = absurd (cc is)
 longer_wrong (Some right) old new lines more is checked = wrong_longer lines more right checked
 
-pub none_wrong : (w : Option Prefix) (checker : Checker) (lines : Lines) → is_some w ≡ false → MatchOption w (Stands checker lines) (AreWrong lines) → Stands checker lines
+pub none_wrong : (w : Option Prefix) (checker : Checker) (lines : Lines) → is_some w ≡ false → MatchOption w (HasGoneThrough checker lines) (AreDamaged lines) → HasGoneThrough checker lines
 none_wrong None checker lines is checked = checked
 none_wrong (Some right) checker lines is checked = absurd (cc is)
 

@@ -6,7 +6,7 @@ use Rattle.std.specs.Prelude.{◌==◌, ◌&&◌, ◌||◌, not, bytes_eq, if◌
 use Rattle.inst_base.specs.Newline.{newline}
 use Rattle.inst_log.specs.Layout.{gate, recovered_lines, blocks, IsShut}
 use Rattle.inst_log.specs.Escape.{escape}
-use Rattle.inst_log.specs.Opening.{kept}
+use Rattle.inst_log.specs.Opening.{lines_after_settings}
 use Rattle.sha2.specs.Sha256.{sha256}
 use Rattle.hex.specs.Hex.{encode_lower}
 use Rattle.inst_chain.specs.declared.digest.Digest.{Digest}
@@ -88,7 +88,7 @@ lines_said file = said (recovered_lines file)
 
 -- the lines that a log has behind its settings, without its marks
 abbrev pub kept_said : List ℕ → List ℕ → List (List ℕ)
-kept_said settings file = said (kept settings file)
+kept_said settings file = said (lines_after_settings settings file)
 
 -- the mark that has this text for its digest
 abbrev pub mark_with : List ℕ → List ℕ

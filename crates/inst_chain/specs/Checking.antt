@@ -26,7 +26,7 @@ pub record EndsMarked (lines : List (List ℕ)) : Type 0 where
 
 -- these lines came so far: batches with their right marks, the newest first, and the lines behind
 -- the last mark
-pub record Stands (checker : Checker) (lines : List (List ℕ)) : Type 0 where
+pub record HasGoneThrough (checker : Checker) (lines : List (List ℕ)) : Type 0 where
   pub older : List (List (List ℕ))
   pub part : List (List ℕ)
   pub unmarked : HaveNoMark older
@@ -46,8 +46,8 @@ pub record IsWrongAt (checker : Checker) (bytes : List ℕ) (right : Prefix) : T
   pub line : List ℕ
   pub rest : List (List ℕ)
   pub split : recovered_lines bytes ≡ done ++ line ∷ rest
-  pub stands : (lines : List (List ℕ)) → Stands checker lines → Stands mid (lines ++ done)
+  pub stands : (lines : List (List ℕ)) → HasGoneThrough checker lines → HasGoneThrough mid (lines ++ done)
   pub mark : is_mark line ≡ true
-  pub wrong : (lines : List (List ℕ)) → (s : Stands mid lines) →
+  pub wrong : (lines : List (List ℕ)) → (s : HasGoneThrough mid lines) →
       line ≡ mark_of (front_of s.older ++ blocks s.part) → ⊥
   pub same : right ≡ mid.right

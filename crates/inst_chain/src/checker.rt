@@ -19,11 +19,11 @@ pub struct Checker {
 }
 
 impl Checker {
-    ghost use Rattle.inst_chain.specs.Checking.{Stands, IsWrongAt};
+    ghost use Rattle.inst_chain.specs.Checking.{HasGoneThrough, IsWrongAt};
 
     /// No line has come.
     pub fn new() -> Checker
-        ensures { Stands result [] }
+        ensures { HasGoneThrough result [] }
     {
         Checker {
             marker: Marker::new(),
@@ -36,10 +36,10 @@ impl Checker {
     /// Takes the next line, without its newline. Returns `false` if it is a mark that is wrong;
     /// then drop the checker.
     fn check(&mut self, line: &[u8]) -> bool
-        ensures right { result ≡ true → (lines : List (List ℕ)) → Stands self.old lines →
-            Stands self.new (lines ++ line.now ∷ []) }
+        ensures right { result ≡ true → (lines : List (List ℕ)) → HasGoneThrough self.old lines →
+            HasGoneThrough self.new (lines ++ line.now ∷ []) }
         ensures mark { result ≡ false → is_mark line.now ≡ true }
-        ensures wrong { result ≡ false → (lines : List (List ℕ)) → (s : Stands self.old lines)
+        ensures wrong { result ≡ false → (lines : List (List ℕ)) → (s : HasGoneThrough self.old lines)
             → line.now ≡ mark_of (front_of s.older ++ blocks s.part) → ⊥ }
     {
         self.came.add(line);
@@ -64,8 +64,8 @@ impl Checker {
     ///
     /// A mark among them is wrong: the lines up to the mark before it. Then drop the checker.
     pub fn check_lines(&mut self, bytes: &[u8]) -> Result<(), Prefix>
-        ensures right { OnOk result ((lines : List (List ℕ)) → Stands self.old lines
-            → Stands self.new (lines ++ recovered_lines bytes.now)) }
+        ensures right { OnOk result ((lines : List (List ℕ)) → HasGoneThrough self.old lines
+            → HasGoneThrough self.new (lines ++ recovered_lines bytes.now)) }
         ensures wrong { IfErr result (λ right. IsWrongAt self.old bytes.now right) }
     {
         let mut rest = bytes;

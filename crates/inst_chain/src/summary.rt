@@ -6,7 +6,7 @@ ghost use Rattle.std.specs.Io.KnownBytes.{ReadConsumes};
 ghost use Rattle.inst_log.specs.Layout.{recovered_lines};
 ghost use Rattle.inst_chain.specs.Chain.{is_mark, mark_with};
 ghost use Rattle.inst_chain.specs.Summing.{IsSummary, Unsummed};
-ghost use Rattle.inst_chain.specs.inner.Summing.{IsFirst, Sees, Tallies, HasRead, HasReadAll};
+ghost use Rattle.inst_chain.specs.inner.Summing.{IsFirstOf, Sees, Tallies, HasRead, HasReadAll};
 ghost use Rattle.inst_chain.specs.inner.Summing.{IsChain, IsReadFault};
 
 use crate::checker::Checker;
@@ -232,8 +232,8 @@ impl Seen {
 
     /// Keeps the next line, if it is the first one.
     fn keep_first(&mut self, alloc: Global, line: &[u8]) -> Result<(), AllocError>
-        ensures first { OnOk result ((done : List (List ℕ)) → IsFirst self.old.first done →
-            IsFirst self.new.first (done ++ line.now ∷ [])) }
+        ensures first { OnOk result ((done : List (List ℕ)) → IsFirstOf self.old.first done →
+            IsFirstOf self.new.first (done ++ line.now ∷ [])) }
         ensures rest { (self.new.lines ≡ self.old.lines) × (self.new.digest ≡ self.old.digest) }
     {
         if self.first.is_some() {

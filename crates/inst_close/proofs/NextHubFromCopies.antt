@@ -21,7 +21,7 @@ use Rattle.inst_row.specs.Row.{row_id, key_of}
 use Rattle.inst_hub.specs.declared.hub.Hub.{Hub}
 use Rattle.inst_hub.specs.declared.teller.Teller.{Teller}
 use Rattle.inst_hub.specs.Calls.{AreOf}
-use Rattle.inst_hub.specs.Founding.{HasOpened}
+use Rattle.inst_hub.specs.Founding.{HasOpenedHub}
 use Rattle.inst_hub.specs.NextOpening.{histories_from}
 use Rattle.inst_hub.specs.Opening.{AreNew, HaveAllParts, first_fronts}
 use Rattle.inst_close.specs.ClosedHub.{ClosedHub, IsClosed}
@@ -47,7 +47,7 @@ can_open_as closed codes s n journals copies s_is n_is journals_are is_closed fe
     subst (λ (t : HubSettings). CanOpenFrom t journals) (sym s_is) (subst (λ (l : List History). CanOpenFrom (widened closed.settings codes) l) (sym journals_are) can)
 
 pub next_is : (books : List Book) (journals : List History) (s : HubSettings) (h : Hub) → CanOpenFrom s journals → ((p : ℕ) → books_of journals p ≡ histories books p)
-    → h.settings ≡ s → HasOpened (FromBooks (books_of journals)) h → IsNextOf books h
+    → h.settings ≡ s → HasOpenedHub (FromBooks (books_of journals)) h → IsNextOf books h
 next_is books journals s h can same settings_are opened = record {
   from = books_of journals;
   same = same;

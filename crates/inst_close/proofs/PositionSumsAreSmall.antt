@@ -18,7 +18,7 @@ use Rattle.inst_journal.specs.Sound.{Fits, IsSound}
 use Rattle.inst_journal.proofs.CountsOfEvents.{fundings_at_most, most_times}
 use Rattle.inst_journal.proofs.OneMoreElement.{sum_by_push}
 use Rattle.inst_journal.proofs.Soundness.{sound_induction}
-use Rattle.inst_model.specs.Untold.{sum_below, signed_sum_below, total, signed_total}
+use Rattle.inst_model.specs.Untold.{sum_below, signed_sum_below, sum_over_participants, signed_total}
 use Rattle.inst_model.proofs.ClosedBooksSumToNet.{closed_books_sum_to_the_net}
 use Rattle.inst_model.proofs.Totals.{signed_sum_is}
 use Rattle.inst_slot.specs.Book.{events_of, Book}
@@ -82,12 +82,12 @@ less_what_went : (x f d : ℕ) → pos x ≡ (pos f -ℤ pos d) → x ≤ f
 less_what_went x f d e = omega (arith, ints, e)
 
 -- all positions of closed books
-pub total_small : (s : HubSettings) (books : List Book) → IsClosed s books → total s (λ p. position (histories books p)) ≤ 13133414399868665856
+pub total_small : (s : HubSettings) (books : List Book) → IsClosed s books → sum_over_participants s (λ p. position (histories books p)) ≤ 13133414399868665856
 total_small s books closed =
     let J : ℕ → List Event = histories books in
     let is_net = closed_books_sum_to_the_net s J closed.closed.sound closed.closed.closed in
     let split = signed_sum_is (participants s) (λ p. funded (J p)) (λ p. defunded (J p)) in
-    let most = less_what_went (total s (λ p. position (J p))) (sum_below (participants s) (λ p. funded (J p))) (sum_below (participants s) (λ p. defunded (J p))) (is_net ∙ split) in
+    let most = less_what_went (sum_over_participants s (λ p. position (J p))) (sum_below (participants s) (λ p. funded (J p))) (sum_below (participants s) (λ p. defunded (J p))) (is_net ∙ split) in
     omega (arith, most, sum_small (participants s) (λ p. funded (J p)) (λ p. funded_small s p (J p) closed.lawful (closed.closed.sound p)), closed.lawful.participants_most)
 
 -- the sum of the first positions, and of one more
@@ -134,7 +134,7 @@ netted_small s books n sum closed below so =
     }
 
 -- the net funding of all is not below 0
-pub net_is_positions : (s : HubSettings) (books : List Book) → IsClosed s books → signed_total s (λ p. net (histories books p)) ≡ pos (total s (λ p. position (histories books p)))
+pub net_is_positions : (s : HubSettings) (books : List Book) → IsClosed s books → signed_total s (λ p. net (histories books p)) ≡ pos (sum_over_participants s (λ p. position (histories books p)))
 net_is_positions s books closed = sym (closed_books_sum_to_the_net s (histories books) closed.closed.sound closed.closed.closed)
 
 -- such a number comes back from its bits

@@ -8,12 +8,12 @@ use Rattle.inst_model.specs.Opening.Opening.{FromBooks}
 use Rattle.inst_slot.specs.Book.{Book}
 use Rattle.inst_world.specs.NextOpening.{books_of, opening_from}
 use Rattle.inst_participant.specs.Together.{histories}
-use Rattle.inst_order.specs.Order.{Explains, ExplainsJournals}
+use Rattle.inst_order.specs.Order.{ExplainsBooks, ExplainsJournals}
 use Rattle.inst_order.proofs.StepsExplainJournals.{same_books, nobody_else}
 use Rattle.inst_close.specs.inner.NextOpening.{AreCopies, AreCopiesAnd}
 
 pub of_copies : (s seen_settings : HubSettings) (O : Opening) (steps : List Step) (books : List Book) (journals seen : List History) → seen_settings ≡ s → seen ≡ journals → AreCopies books journals
-    → ExplainsJournals seen_settings O steps seen → Explains s O steps (histories books)
+    → ExplainsJournals seen_settings O steps seen → ExplainsBooks s O steps (histories books)
 of_copies s seen_settings O steps books journals seen same is are saw =
     let explains : ExplainsJournals s O steps journals =
     subst (λ (l : List History). ExplainsJournals s O steps l) is (subst (λ (t : HubSettings). ExplainsJournals t O steps seen) same saw) in

@@ -31,7 +31,7 @@ use Rattle.inst_hub.specs.declared.teller.Teller.{Teller}
 use Rattle.inst_hub.specs.Calls.{knows_of, AreOf}
 use Rattle.inst_hub.specs.Closing.{OneHasSeen}
 use Rattle.inst_hub.specs.Opening.{HaveAllParts, AreNew, first_fronts}
-use Rattle.inst_hub.specs.Founding.{HasOpened}
+use Rattle.inst_hub.specs.Founding.{HasOpenedHub}
 use Rattle.inst_close.specs.declared.closing.Rest.{Rest}
 use Rattle.inst_close.specs.declared.closing.Rest.TheVariants.{Whole, Apart}
 use Rattle.inst_close.specs.declared.closing.CloseFault.{CloseFault}
@@ -40,7 +40,7 @@ use Rattle.inst_close.specs.ClosedHub.{ClosedHub}
 
 -- the hub was opened in this way, from books that can be opened from
 abbrev pub IsOpenedSo : Opening → Hub → Type 0
-IsOpenedSo O h = IsOpening h.settings O × HasOpened O h
+IsOpenedSo O h = IsOpening h.settings O × HasOpenedHub O h
 
 -- the books were opened in this way, and not since
 abbrev pub HaveOpened : Opening → ClosedHub → Type 0

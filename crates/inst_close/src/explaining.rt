@@ -2,7 +2,7 @@
 ghost use Rattle.std.specs.Prelude.{IfOk, IfSome};
 ghost use Rattle.inst_model.specs.Opening.{Opening};
 ghost use Rattle.inst_participant.specs.Together.{histories};
-ghost use Rattle.inst_order.specs.Order.{Explains};
+ghost use Rattle.inst_order.specs.Order.{ExplainsBooks};
 
 use crate::Books;
 use inst_books::can_open;
@@ -24,7 +24,7 @@ impl Books {
     pub fn interleaving(&self, alloc: Global) -> Result<Option<Vec<Step>>, AllocError>
         ensures headline { IfOk result (λ found.
             IfSome found (λ steps.
-            Explains self.now.settings Opening.First steps.items (histories self.now.books))) }
+            ExplainsBooks self.now.settings Opening.First steps.items (histories self.now.books))) }
     {
         let journals = self.copies(alloc)?;
         interleaving(alloc, self.settings(), &journals)
@@ -44,7 +44,7 @@ impl Books {
     ) -> Result<Option<Vec<Step>>, AllocError>
         ensures headline { IfOk result (λ found.
             IfSome found (λ steps.
-            Explains self.now.settings (Opening.FromBooks (histories before.now.books)) steps.items
+            ExplainsBooks self.now.settings (Opening.FromBooks (histories before.now.books)) steps.items
             (histories self.now.books))) }
     {
         let joined = self.slots.len().saturating_sub(before.slots.len());

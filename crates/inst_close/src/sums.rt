@@ -2,7 +2,7 @@
 ghost use Rattle.std.specs.Prelude.{◌≡◌, pos};
 ghost use Rattle.inst_journal.specs.Money.{position};
 ghost use Rattle.inst_journal.specs.Sums.{net};
-ghost use Rattle.inst_model.specs.Untold.{total, signed_total};
+ghost use Rattle.inst_model.specs.Untold.{sum_over_participants, signed_total};
 ghost use Rattle.inst_participant.specs.Together.{histories};
 
 use crate::Books;
@@ -23,7 +23,7 @@ impl Books {
 
     /// All positions, in cents. They are the net funding of all, since the books are closed.
     pub fn sum(&self) -> u128
-        ensures sum { result ≡ total self.now.settings (λ p.
+        ensures sum { result ≡ sum_over_participants self.now.settings (λ p.
             position (histories self.now.books p)) }
         ensures net { pos result
             ≡ signed_total self.now.settings (λ p. net (histories self.now.books p)) }

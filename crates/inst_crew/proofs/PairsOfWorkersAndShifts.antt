@@ -6,19 +6,19 @@ use Rattle.inst_command.specs.declared.place.Place.{Place}
 use Rattle.inst_command.specs.declared.outcome.State.{State}
 use Rattle.inst_desk.specs.declared.desk.Desk.{Desk}
 use Rattle.inst_desk.specs.declared.hand.Hand.{Hand}
-use Rattle.inst_desk.specs.Desk.{IsHandOf, AreHandsOf, parts_of, taken_of, taken_together}
+use Rattle.inst_desk.specs.Desk.{IsHandOf, AreHandsOf, hand_parts, jobs_taken, taken_together}
 use Rattle.inst_hub.specs.declared.hub.Hub.{Hub}
 use Rattle.inst_hub.specs.declared.teller.Teller.{Teller}
 use Rattle.inst_hub.specs.Calls.{IsTellerOf, AreOf}
-use Rattle.inst_hub.specs.Opening.{parts_of as parts_of_tellers}
+use Rattle.inst_hub.specs.Opening.{hand_parts as parts_of_tellers}
 use Rattle.inst_row.specs.Seated.{view_of}
 use Rattle.inst_crew.specs.declared.shift.Shift.{Shift}
 use Rattle.inst_crew.specs.declared.worker.Worker.{Worker}
 use Rattle.inst_crew.specs.Crew.{fitting, answered_between}
 use Rattle.inst_crew.specs.Later.{Pairs, IsLaterHand, IsLaterTeller}
-use Rattle.inst_crew.specs.Seen.{IsSeen, AreSeenByOne}
+use Rattle.inst_crew.specs.Seen.{IsOutcomeSeen, AreSeenByOne}
 use Rattle.inst_crew.specs.Served.{AreServed}
-use Rattle.inst_crew.specs.inner.Workers.{hands_of, tellers_of, states_of, HasHandAndTeller, AreReady, Works, HasEnded, AllWork}
+use Rattle.inst_crew.specs.inner.Workers.{hands_of, workers_tellers, states_of, HasHandAndTeller, AreReady, Works, HasEndedShift, AllWork}
 use Rattle.inst_crew.proofs.OneMoreTakenJob.{fitting_both, fitting_prefix}
 
 pub first_is : {X : Type 0} (xs : List X) (x y : X) → slice_get (x ∷ xs) 0 ≡ Some y → x ≡ y
@@ -37,13 +37,13 @@ pairs_both R (x ∷ xs) xs' [] ys' p q = absurd p
 pairs_both R (x ∷ xs) xs' (y ∷ ys) ys' p q = (p.0, pairs_both R xs xs' ys ys' p.1 q)
 
 -- workers with hands of the desk and tellers of the hub are ready
-pub all_ready : (hub : Hub) (d : Desk) (ws : List Worker) → AreHandsOf d (hands_of ws) → AreOf hub (tellers_of ws) → AreReady hub d ws
+pub all_ready : (hub : Hub) (d : Desk) (ws : List Worker) → AreHandsOf d (hands_of ws) → AreOf hub (workers_tellers ws) → AreReady hub d ws
 all_ready hub d [] hands tellers i w at = absurd (nothing_at i w at)
 all_ready hub d (x ∷ xs) hands tellers zero w at = subst (λ (y : Worker). HasHandAndTeller hub d y) (first_is xs x w at) record { hand = hands 0 x.hand refl; teller = tellers 0 x.teller refl }
 all_ready hub d (x ∷ xs) hands tellers (suc i) w at = all_ready hub d xs (λ j h e. hands (suc j) h e) (λ j t e. tellers (suc j) t e) i w at
 
 -- the results of workers that all came to their end
-pub pairs_from : (hub : Hub) (d : Desk) (ws : List Worker) (ss : List Shift) → AllWork hub d ws (map Ok ss) → Pairs (HasEnded hub d) ws ss
+pub pairs_from : (hub : Hub) (d : Desk) (ws : List Worker) (ss : List Shift) → AllWork hub d ws (map Ok ss) → Pairs (HasEndedShift hub d) ws ss
 pairs_from hub d [] [] all = tt
 pairs_from hub d [] (s ∷ ss) all = let e = all.enough in absurd (omega arith)
 pairs_from hub d (w ∷ ws) [] all = let e = all.enough in absurd (omega arith)
@@ -53,15 +53,15 @@ pairs_from hub d (w ∷ ws) (s ∷ ss) all = (
 )
 
 -- what they did until their end
-pub pairs_work : (hub : Hub) (d : Desk) (ws : List Worker) (ss : List Shift) → Pairs (HasEnded hub d) ws ss → Pairs (Works hub d) ws ss
+pub pairs_work : (hub : Hub) (d : Desk) (ws : List Worker) (ss : List Shift) → Pairs (HasEndedShift hub d) ws ss → Pairs (Works hub d) ws ss
 pairs_work hub d [] [] p = tt
 pairs_work hub d [] (s ∷ ss) p = absurd p
 pairs_work hub d (w ∷ ws) [] p = absurd p
 pairs_work hub d (w ∷ ws) (s ∷ ss) p = (p.0.works, pairs_work hub d ws ss p.1)
 
 -- the jobs that they served, where there may be more tellers
-pub all_served : (hub : Hub) (d : Desk) (ws : List Worker) (ss : List Shift) (more : List Teller) → Pairs (HasEnded hub d) ws ss
-    → AreServed hub (hands_of ws) (map (λ s. s.hand) ss) (tellers_of ws) (map (λ s. s.teller) ss ++ more) (states_of ss)
+pub all_served : (hub : Hub) (d : Desk) (ws : List Worker) (ss : List Shift) (more : List Teller) → Pairs (HasEndedShift hub d) ws ss
+    → AreServed hub (hands_of ws) (map (λ s. s.hand) ss) (workers_tellers ws) (map (λ s. s.teller) ss ++ more) (states_of ss)
 all_served hub d [] [] more p = refl
 all_served hub d [] (s ∷ ss) more p = absurd p
 all_served hub d (w ∷ ws) [] more p = absurd p
@@ -80,7 +80,7 @@ pairs_hands hub d [] (s ∷ ss) p = absurd p
 pairs_hands hub d (w ∷ ws) [] p = absurd p
 pairs_hands hub d (w ∷ ws) (s ∷ ss) p = (p.0.hand, pairs_hands hub d ws ss p.1)
 
-pub pairs_tellers : (hub : Hub) (d : Desk) (ws : List Worker) (ss : List Shift) → Pairs (Works hub d) ws ss → Pairs (IsLaterTeller hub) (tellers_of ws) (map (λ s. s.teller) ss)
+pub pairs_tellers : (hub : Hub) (d : Desk) (ws : List Worker) (ss : List Shift) → Pairs (Works hub d) ws ss → Pairs (IsLaterTeller hub) (workers_tellers ws) (map (λ s. s.teller) ss)
 pairs_tellers hub d [] [] p = tt
 pairs_tellers hub d [] (s ∷ ss) p = absurd p
 pairs_tellers hub d (w ∷ ws) [] p = absurd p
@@ -100,13 +100,13 @@ are_tellers hub (t ∷ ts) [] p i u at = absurd p
 are_tellers hub (t ∷ ts) (u ∷ us) p zero v at = subst (λ (x : Teller). IsTellerOf hub x) (first_is us u v at) p.0.of
 are_tellers hub (t ∷ ts) (u ∷ us) p (suc i) v at = are_tellers hub ts us p.1 i v at
 
-pub same_parts : (d : Desk) (gs hs : List Hand) → Pairs (IsLaterHand d) gs hs → sum_by parts_of hs ≡ sum_by parts_of gs
+pub same_parts : (d : Desk) (gs hs : List Hand) → Pairs (IsLaterHand d) gs hs → sum_by hand_parts hs ≡ sum_by hand_parts gs
 same_parts d [] [] p = refl
 same_parts d [] (h ∷ hs) p = absurd p
 same_parts d (g ∷ gs) [] p = absurd p
 same_parts d (g ∷ gs) (h ∷ hs) p =
     let r = same_parts d gs hs p.1 in let e = p.0.same.parts in
-    let a = sum_by-cons parts_of h hs in let b = sum_by-cons parts_of g gs in omega arith
+    let a = sum_by-cons hand_parts h hs in let b = sum_by-cons hand_parts g gs in omega arith
 
 pub same_row : (hub : Hub) (ts us : List Teller) → Pairs (IsLaterTeller hub) ts us → parts_of_tellers us ≡ parts_of_tellers ts
 same_row hub [] [] p = refl
@@ -129,11 +129,11 @@ all_answered hub d [] (s ∷ ss) p = absurd p
 all_answered hub d (w ∷ ws) [] p = absurd p
 all_answered hub d (w ∷ ws) (s ∷ ss) p =
     let r = all_answered hub d ws ss p.1 in
-    let prefix = fitting_prefix hub.settings (taken_of w.hand) (taken_of s.hand) p.0.hand.taken in
-    let a = fitting_both hub.settings (taken_of w.hand) (taken_together (hands_of ws)) in
-    let b = fitting_both hub.settings (taken_of s.hand) (taken_together (map (λ (x : Shift). x.hand) ss)) in
+    let prefix = fitting_prefix hub.settings (jobs_taken w.hand) (jobs_taken s.hand) p.0.hand.taken in
+    let a = fitting_both hub.settings (jobs_taken w.hand) (taken_together (hands_of ws)) in
+    let b = fitting_both hub.settings (jobs_taken s.hand) (taken_together (map (λ (x : Shift). x.hand) ss)) in
     let c = sum_by-cons (λ (x : Shift). x.answered) s ss in (
-      counted_one (fitting hub.settings (taken_of w.hand)) (fitting hub.settings (taken_of s.hand)) (fitting hub.settings (taken_together (hands_of ws))) (fitting hub.settings (taken_together (map (λ (x : Shift). x.hand) ss)))
+      counted_one (fitting hub.settings (jobs_taken w.hand)) (fitting hub.settings (jobs_taken s.hand)) (fitting hub.settings (taken_together (hands_of ws))) (fitting hub.settings (taken_together (map (λ (x : Shift). x.hand) ss)))
           s.answered (sum_by (λ (x : Shift). x.answered) ss) (sum_by (λ (x : Shift). x.answered) (s ∷ ss))
           (fitting hub.settings (taken_together (hands_of (w ∷ ws)))) (fitting hub.settings (taken_together (map (λ (x : Shift). x.hand) (s ∷ ss))))
           p.0.answered prefix r.0 r.1 c a b,
@@ -150,7 +150,7 @@ all_seen hub d [] [] p i x at = absurd (nothing_at i x at)
 all_seen hub d [] (s ∷ ss) p i x at = absurd p
 all_seen hub d (w ∷ ws) [] p i x at = absurd p
 all_seen hub d (w ∷ ws) (s ∷ ss) p i x at =
-    either_side s.states.items (states_of ss) x i ((j : ℕ) × (t : Teller) × (slice_get (map (λ (y : Shift). y.teller) (s ∷ ss)) j ≡ Some t) × IsSeen t x)
+    either_side s.states.items (states_of ss) x i ((j : ℕ) × (t : Teller) × (slice_get (map (λ (y : Shift). y.teller) (s ∷ ss)) j ≡ Some t) × IsOutcomeSeen t x)
     (λ j e. (0, s.teller, refl, p.0.states j x e))
     (λ j e. (let r = all_seen hub d ws ss p.1 j x e in (suc r.0, r.1, r.2, r.3)))
     at

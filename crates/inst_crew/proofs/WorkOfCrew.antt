@@ -15,7 +15,7 @@ use Rattle.inst_crew.specs.declared.sweep.Sweep.{Sweep}
 use Rattle.inst_crew.specs.Crew.{answered_between, sweeper_of, IsSwept, HasWorked}
 use Rattle.inst_crew.specs.Later.{Pairs, IsLaterHand, IsLaterTeller}
 use Rattle.inst_crew.specs.Seen.{AreSeenByOne}
-use Rattle.inst_crew.specs.inner.Workers.{hands_of, tellers_of, states_of, HasEnded, AllWork, IsGathered}
+use Rattle.inst_crew.specs.inner.Workers.{hands_of, workers_tellers, states_of, HasEndedShift, AllWork, IsGathered}
 use Rattle.inst_crew.proofs.PairsOfWorkersAndShifts.{pairs_both, pairs_from, pairs_work, pairs_hands, pairs_tellers, pairs_length, all_answered, all_served, all_seen, seen_with}
 
 -- what a crew promises
@@ -41,23 +41,23 @@ last_at [] (Some u) = refl
 last_at (u ∷ us) after = last_at us after
 
 pub ran : (hub : Hub) (d : Desk) (hands : List Hand) (tellers : List Teller) (sweep : Option Sweep) (after : Option Teller) (ws : List Worker) (rs : List (Result Shift AllocError)) (first crew : Crew) (ss : List Shift)
-    → hands_of ws ≡ hands → tellers_of ws ≡ tellers → AllWork hub d ws rs → rs ≡ map Ok ss → IsGathered ss first → IsSwept hub sweep after
+    → hands_of ws ≡ hands → workers_tellers ws ≡ tellers → AllWork hub d ws rs → rs ≡ map Ok ss → IsGathered ss first → IsSwept hub sweep after
     → crew.hands.items ≡ first.hands.items → crew.tellers.items ≡ first.tellers.items ++ option_to_list after → crew.answered ≡ first.answered → crew.states.items ≡ first.states.items
     → Ran hub d hands tellers sweep crew
 ran hub d hands tellers sweep after ws rs first crew ss h t all ok g swept ch ct ca cs =
-    let ended : Pairs (HasEnded hub d) ws ss = pairs_from hub d ws ss (subst (λ (l : List (Result Shift AllocError)). AllWork hub d ws l) ok all) in
+    let ended : Pairs (HasEndedShift hub d) ws ss = pairs_from hub d ws ss (subst (λ (l : List (Result Shift AllocError)). AllWork hub d ws l) ok all) in
     let pairs = pairs_work hub d ws ss ended in
     let mine : List Hand = map (λ (s : Shift). s.hand) ss in
     let theirs : List Teller = map (λ (s : Shift). s.teller) ss in
     let hs : crew.hands.items ≡ mine = ch ∙ g.hands in
     let ts : crew.tellers.items ≡ theirs ++ option_to_list after = ct ∙ ap (λ (l : List Teller). l ++ option_to_list after) g.tellers in
     let counts = all_answered hub d ws ss pairs in
-    let as_many : length theirs ≡ length tellers = pairs_length (IsLaterTeller hub) (tellers_of ws) theirs (pairs_tellers hub d ws ss pairs) ∙ ap length t in
+    let as_many : length theirs ≡ length tellers = pairs_length (IsLaterTeller hub) (workers_tellers ws) theirs (pairs_tellers hub d ws ss pairs) ∙ ap length t in
     record {
       hands = subst (λ (l : List Hand). Pairs (IsLaterHand d) l crew.hands.items) h (subst (λ (l : List Hand). Pairs (IsLaterHand d) (hands_of ws) l) (sym hs) (pairs_hands hub d ws ss pairs));
       tellers = subst (λ (l : List Teller). Pairs (IsLaterTeller hub) (l ++ sweeper_of sweep) crew.tellers.items) t
-          (subst (λ (l : List Teller). Pairs (IsLaterTeller hub) (tellers_of ws ++ sweeper_of sweep) l) (sym ts)
-          (pairs_both (IsLaterTeller hub) (tellers_of ws) (sweeper_of sweep) theirs (option_to_list after) (pairs_tellers hub d ws ss pairs) (swept_later hub sweep after swept)));
+          (subst (λ (l : List Teller). Pairs (IsLaterTeller hub) (workers_tellers ws ++ sweeper_of sweep) l) (sym ts)
+          (pairs_both (IsLaterTeller hub) (workers_tellers ws) (sweeper_of sweep) theirs (option_to_list after) (pairs_tellers hub d ws ss pairs) (swept_later hub sweep after swept)));
       worked = record {
         answered = ca ∙ (g.answered ∙ (counts.0 ∙ (ap (λ (l : List Hand). answered_between hub.settings l mine) h ∙ ap (λ (l : List Hand). answered_between hub.settings hands l) (sym hs))));
         served = rw (hs, ts, cs, g.states, sym h, sym t) (all_served hub d ws ss (option_to_list after) ended);

@@ -10,7 +10,7 @@ use Rattle.inst_hub.specs.declared.teller.Teller.{Teller}
 use Rattle.inst_hub.specs.Calls.{knows_of}
 
 -- the teller knows the place opened, with this outcome if the state has one
-pub record IsSeen (t : Teller) (pair : Place × State) : Type 0 where
+pub record IsOutcomeSeen (t : Teller) (pair : Place × State) : Type 0 where
   pub opened : knows_of t (about pair.0 Opened)
   pub used : pair.1 ≢ Unused
   pub outcome : (o : Outcome) → pair.1 ≡ IsDecided o → knows_of t (about pair.0 (Decided o))
@@ -18,4 +18,4 @@ pub record IsSeen (t : Teller) (pair : Place × State) : Type 0 where
 -- each is seen by one of these tellers
 abbrev pub AreSeenByOne : List Teller → List (Place × State) → Type 0
 AreSeenByOne tellers states = (i : ℕ) (pair : Place × State) → slice_get states i ≡ Some pair →
-    (j : ℕ) × (t : Teller) × (slice_get tellers j ≡ Some t) × IsSeen t pair
+    (j : ℕ) × (t : Teller) × (slice_get tellers j ≡ Some t) × IsOutcomeSeen t pair

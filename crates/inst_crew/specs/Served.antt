@@ -8,10 +8,10 @@ use Rattle.inst_command.specs.declared.reply.Reply.{Reply}
 use Rattle.inst_command.specs.Ask.{ask_fits}
 use Rattle.inst_desk.specs.declared.hand.Hand.{Hand}
 use Rattle.inst_desk.specs.declared.job.Job.{Job}
-use Rattle.inst_desk.specs.Desk.{taken_of, WasEmpty}
+use Rattle.inst_desk.specs.Desk.{jobs_taken, WasEmpty}
 use Rattle.inst_hub.specs.declared.hub.Hub.{Hub}
 use Rattle.inst_hub.specs.declared.teller.Teller.{Teller}
-use Rattle.inst_hub.specs.Calls.{Calls, KnowsMore}
+use Rattle.inst_hub.specs.Calls.{Calls, TellerKnowsMore}
 use Rattle.std.specs.Prelude.{Option}
 
 -- From the teller t to u the hub was called with this ask
@@ -23,18 +23,18 @@ pub record IsServed (hub : Hub) (ask : Ask) (t u : Teller) (states : List (Place
   pub answer : Reply × Option Place
   pub after : Teller
   pub call : Calls hub t ask answer after
-  pub knows : KnowsMore after u
+  pub knows : TellerKnowsMore after u
   pub noted : map (λ pair. pair.0) states ≡ option_to_list answer.1
 
 -- from the teller t to u each of these jobs was served that fits, in order, and nothing was done
 -- for the others
-abbrev pub Serves : Hub → List Job → Teller → Teller → List (Place × State) → Type 0
-Serves hub [] t u states = (u ≡ t) × (states ≡ [])
-Serves hub (job ∷ jobs) t u states =
+abbrev pub ServesJob : Hub → List Job → Teller → Teller → List (Place × State) → Type 0
+ServesJob hub [] t u states = (u ≡ t) × (states ≡ [])
+ServesJob hub (job ∷ jobs) t u states =
     (v : Teller) × (first : List (Place × State)) × (rest : List (Place × State))
     × (states ≡ first ++ rest)
     × MatchBool (ask_fits hub.settings job.ask) (IsServed hub job.ask t v first) ((v ≡ t)
-    × (first ≡ [])) × Serves hub jobs v u rest
+    × (first ≡ [])) × ServesJob hub jobs v u rest
 
 -- From the hand g to h and the teller t to u
 -- taken, serves: the jobs that the hand took more were served
@@ -42,8 +42,8 @@ Serves hub (job ∷ jobs) t u states =
 pub record HasServed (hub : Hub) (g h : Hand) (t u : Teller) (states : List (Place
     × State)) : Type 0 where
   pub jobs : List Job
-  pub taken : taken_of h ≡ taken_of g ++ jobs
-  pub serves : Serves hub jobs t u states
+  pub taken : jobs_taken h ≡ jobs_taken g ++ jobs
+  pub serves : ServesJob hub jobs t u states
   pub emptied : WasEmpty h
 
 -- each hand has served with the teller at its place, and these are the states that they kept, one

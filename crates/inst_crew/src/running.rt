@@ -1,12 +1,12 @@
 //! A crew, with its threads.
 ghost use Rattle.std.specs.Prelude.{◌≡◌, ◌<◌, ◌+◌, ◌++◌, length, IfOk, IfSome, option_to_list};
 ghost use Rattle.std.specs.Prelude.{sum_by};
-ghost use Rattle.inst_desk.specs.Desk.{AreHandsOf, parts_of};
+ghost use Rattle.inst_desk.specs.Desk.{AreHandsOf, hand_parts};
 ghost use Rattle.inst_hub.specs.Calls.{AreOf};
-ghost use Rattle.inst_hub.specs.Opening.{parts_of as parts_of_tellers};
+ghost use Rattle.inst_hub.specs.Opening.{row_parts as parts_of_tellers};
 ghost use Rattle.inst_crew.specs.Later.{Pairs, IsLaterHand, IsLaterTeller};
 ghost use Rattle.inst_crew.specs.Crew.{MaySweep, sweeper_of, IsSwept, HasWorked};
-ghost use Rattle.inst_crew.specs.inner.Workers.{HasHandAndTeller, AreReady, HasEnded, AllWork};
+ghost use Rattle.inst_crew.specs.inner.Workers.{HasHandAndTeller, AreReady, HasEndedShift, AllWork};
 
 use crate::crew::Crew;
 use crate::gathering::gather;
@@ -38,7 +38,7 @@ fn work_all<R: Threads + Wait + Sync, G: Gate + Sync>(
         workers,
         &|worker: Worker| -> Result<Shift, AllocError>
             requires { HasHandAndTeller hub.now desk.now worker }
-            ensures { IfOk result (HasEnded hub.entry.now desk.entry.now worker) }
+            ensures { IfOk result (HasEndedShift hub.entry.now desk.entry.now worker) }
         { work(rt, alloc, hub, desk, gate, meeting, worker) },
     )
 }
@@ -121,7 +121,7 @@ pub fn run_crew<R: Threads + Wait + Sync, G: Gate + Sync>(
     ensures enough { IfOk result (λ crew. (length crew.hands.items ≡ length hands.items)
         × (length crew.tellers.items ≡ length tellers.items + length (sweeper_of sweep))) }
     ensures parts { IfOk result (λ crew.
-        (sum_by parts_of crew.hands.items ≡ sum_by parts_of hands.items)
+        (sum_by hand_parts crew.hands.items ≡ sum_by hand_parts hands.items)
         × (parts_of_tellers crew.tellers.items
         ≡ parts_of_tellers (tellers.items ++ sweeper_of sweep))) }
     ensures worked { IfOk result (HasWorked hub.now hands.items tellers.items sweep) }

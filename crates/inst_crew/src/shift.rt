@@ -6,10 +6,10 @@ ghost use Rattle.inst_board.specs.declared.about.About.TheVariants.{Opened};
 ghost use Rattle.inst_board.specs.Standing.{about};
 ghost use Rattle.inst_command.specs.declared.outcome.State.{State as SomeState};
 ghost use Rattle.inst_desk.specs.Desk.{IsHandOf, WasEmpty};
-ghost use Rattle.inst_hub.specs.Calls.{IsTellerOf, KnowsMore, knows_of};
+ghost use Rattle.inst_hub.specs.Calls.{IsTellerOf, TellerKnowsMore, knows_of};
 ghost use Rattle.inst_crew.specs.declared.worker.Worker.{Worker};
 ghost use Rattle.inst_crew.specs.inner.Seen.{AreSeen};
-ghost use Rattle.inst_crew.specs.inner.Workers.{HasHandAndTeller, Works, HasEnded, ServesOne};
+ghost use Rattle.inst_crew.specs.inner.Workers.{HasHandAndTeller, Works, HasEndedShift, ServesOne};
 
 use crate::meeting::Meeting;
 use crate::worker::Worker;
@@ -52,7 +52,7 @@ impl Shift {
         requires seen { AreSeen self.old.teller self.old.states.items }
         ensures hand { self.new.hand ≡ self.old.hand }
         ensures of { (hub : Hub) → IsTellerOf hub self.old.teller → IsTellerOf hub self.new.teller }
-        ensures knows { KnowsMore self.old.teller self.new.teller }
+        ensures knows { TellerKnowsMore self.old.teller self.new.teller }
         ensures answered { self.new.answered ≡ self.old.answered }
         ensures seen { OnOk result (AreSeen self.new.teller self.new.states.items) }
         ensures noted { OnOk result ((state : SomeState)
@@ -76,7 +76,7 @@ impl Shift {
         requires seen { AreSeen self.old.teller self.old.states.items }
         ensures hand { self.new.hand ≡ self.old.hand }
         ensures of { IsTellerOf hub.now self.new.teller }
-        ensures knows { KnowsMore self.old.teller self.new.teller }
+        ensures knows { TellerKnowsMore self.old.teller self.new.teller }
         ensures answered { OnOk result (self.new.answered
             ≡ min (self.old.answered + 1) (2 ^ 64 - 1)) }
         ensures seen { OnOk result (AreSeen self.new.teller self.new.states.items) }
@@ -131,7 +131,7 @@ pub(crate) fn work<R: Wait, G: Gate>(
     worker: Worker,
 ) -> Result<Shift, AllocError>
     requires { HasHandAndTeller hub.now desk.now worker }
-    ensures { IfOk result (HasEnded hub.now desk.now worker) }
+    ensures { IfOk result (HasEndedShift hub.now desk.now worker) }
 {
     let mut shift = Shift::begin(alloc, worker);
     for _ in rt.forever() {

@@ -1,6 +1,6 @@
 //! What the threads of a crew begin with.
 ghost use Rattle.std.specs.Prelude.{◌≡◌, length, IfOk};
-ghost use Rattle.inst_crew.specs.inner.Workers.{hands_of, tellers_of};
+ghost use Rattle.inst_crew.specs.inner.Workers.{hands_of, workers_tellers};
 
 use inst_desk::Hand;
 use inst_hub::Teller;

@@ -20,16 +20,16 @@ abbrev pub put_of : Hand → List Job
 put_of h = (account_of h).put
 
 -- the jobs that it took, the oldest first
-abbrev pub taken_of : Hand → List Job
-taken_of h = (account_of h).taken
+abbrev pub jobs_taken : Hand → List Job
+jobs_taken h = (account_of h).taken
 
-abbrev pub parts_of : Hand → ℕ
-parts_of h = (account_of h).parts
+abbrev pub hand_parts : Hand → ℕ
+hand_parts h = (account_of h).parts
 
 -- the hand is one of this desk
 pub record IsHandOf (d : Desk) (h : Hand) : Type 0 where
   pub on : IsPassOf d.queue h.seat
-  pub some_part : 0 < parts_of h
+  pub some_part : 0 < hand_parts h
 
 abbrev pub AreHandsOf : Desk → List Hand → Type 0
 AreHandsOf d hands = (i : ℕ) (h : Hand) → slice_get hands i ≡ Some h → IsHandOf d h
@@ -38,23 +38,23 @@ AreHandsOf d hands = (i : ℕ) (h : Hand) → slice_get hands i ≡ Some h → I
 pub record IsSameHand (g h : Hand) : Type 0 where
   pub desk : h.seat.table_id ≡ g.seat.table_id
   pub number : h.seat.id ≡ g.seat.id
-  pub parts : parts_of h ≡ parts_of g
+  pub parts : hand_parts h ≡ hand_parts g
 
 -- the jobs that these hands put, and those that they took
 abbrev pub put_together : List Hand → List Job
 put_together hands = all_of put_of hands
 
 abbrev pub taken_together : List Hand → List Job
-taken_together hands = all_of taken_of hands
+taken_together hands = all_of jobs_taken hands
 
 -- all hands of the desk
 pub record AreAllHandsOf (d : Desk) (hands : List Hand) : Type 0 where
   pub of : AreHandsOf d hands
-  pub all : sum_by parts_of hands ≡ MOST_HANDS
+  pub all : sum_by hand_parts hands ≡ MOST_HANDS
 
 -- a hand that neither put nor took
 abbrev pub IsNewHand : Hand → Type 0
-IsNewHand h = (put_of h ≡ []) × (taken_of h ≡ [])
+IsNewHand h = (put_of h ≡ []) × (jobs_taken h ≡ [])
 
 -- the desk was full at a moment, by what this hand did until then
 abbrev pub WasFull : Desk → Hand → Type 0
@@ -65,7 +65,7 @@ abbrev pub WasEmpty : Hand → Type 0
 WasEmpty h = MayLie (account_of h) []
 
 -- how many jobs a desk may hold, and how many hands it may have
-pub record MayOpen (capacity hands : ℕ) : Type 0 where
+pub record MayOpenDesk (capacity hands : ℕ) : Type 0 where
   pub some_room : 0 < capacity
   pub most_room : capacity ≤ MOST_ROOM
   pub some_hand : 0 < hands

@@ -10,7 +10,7 @@ use Rattle.inst_participant.specs.Together.{histories}
 use Rattle.inst_close.specs.ClosedHub.{ClosedHub}
 use Rattle.inst_drill.specs.declared.report.Report.{Report}
 use Rattle.inst_drill.specs.inner.Chain.{IsAfter, AreAfter, opening_of}
-use Rattle.inst_drill.specs.Drilled.{DrillOpening, IsDrilled, AreDrilled, IsLastBooks, drill_opening, last_of, opening_after, openings_text}
+use Rattle.inst_drill.specs.Drilled.{DrillOpening, IsDrilled, AreDrilled, IsLastBooks, drill_opening, last_of, opening_after_drill, openings_text}
 use Rattle.inst_drill.specs.Report.{report_text}
 
 -- the books, if there are some, are those of the last opening, and the steps those of the first
@@ -23,7 +23,7 @@ pub record DrilledSoFar (s : HubSettings) (held held' : Option (List ℕ)) (n : 
   pub done : List DrillOpening
   pub counted : length done ≡ n
   pub drilled : AreDrilled s First done
-  pub next : opening_after First done ≡ opening_of books
+  pub next : opening_after_drill First done ≡ opening_of books
   pub left : AreLeft done books steps
   pub written : Appends held held' (openings_text done)
   pub after : AreAfter s n books
@@ -43,11 +43,11 @@ texts_push : (done : List DrillOpening) (x : DrillOpening) → openings_text (do
 texts_push [] x = append-nil (report_text x.report)
 texts_push (y ∷ done) x = ap (λ (t : List ℕ). report_text y.report ++ t) (texts_push done x) ∙ sym (append_assoc (report_text y.report) (openings_text done) (report_text x.report))
 
-drilled_push : (s : HubSettings) (O : Opening) (done : List DrillOpening) (x : DrillOpening) → AreDrilled s O done → x.from ≡ opening_after O done → IsDrilled s x → AreDrilled s O (done ++ x ∷ [])
+drilled_push : (s : HubSettings) (O : Opening) (done : List DrillOpening) (x : DrillOpening) → AreDrilled s O done → x.from ≡ opening_after_drill O done → IsDrilled s x → AreDrilled s O (done ++ x ∷ [])
 drilled_push s O [] x all from is = (from, is, tt)
 drilled_push s O (y ∷ done) x all from is = (all.0, all.1, drilled_push s (FromBooks (histories y.closed.books)) done x all.2 from is)
 
-next_push : (O : Opening) (done : List DrillOpening) (x : DrillOpening) → opening_after O (done ++ x ∷ []) ≡ FromBooks (histories x.closed.books)
+next_push : (O : Opening) (done : List DrillOpening) (x : DrillOpening) → opening_after_drill O (done ++ x ∷ []) ≡ FromBooks (histories x.closed.books)
 next_push O [] x = refl
 next_push O (y ∷ done) x = next_push (FromBooks (histories y.closed.books)) done x
 

@@ -6,7 +6,7 @@ use Rattle.inst_command.specs.declared.outcome.State.{State}
 use Rattle.inst_journal.specs.declared.event.Event.{Event}
 use Rattle.inst_hub.specs.declared.hub.Hub.{Hub}
 use Rattle.inst_hub.specs.declared.teller.Teller.{Teller}
-use Rattle.inst_hub.specs.Calls.{KnowsMore}
+use Rattle.inst_hub.specs.Calls.{TellerKnowsMore}
 use Rattle.inst_crew.specs.Later.{Pairs, IsLaterTeller}
 use Rattle.inst_crew.specs.Seen.{AreSeenByOne}
 use Rattle.inst_crew.proofs.StatesSeenByWorker.{seen_more}
@@ -16,11 +16,11 @@ use Rattle.inst_drill.specs.inner.Report.{NoneContradicts}
 
 -- the teller at this place later
 later_at : (hub : Hub) (ts us : List Teller) (j : ℕ) (t : Teller) → Pairs (IsLaterTeller hub) ts us → slice_get ts j ≡ Some t
-    → (u : Teller) × (slice_get us j ≡ Some u) × KnowsMore t u
+    → (u : Teller) × (slice_get us j ≡ Some u) × TellerKnowsMore t u
 later_at hub [] us j t pairs at = absurd (nothing_at j t at)
 later_at hub (x ∷ ts) [] j t pairs at = absurd pairs
 later_at hub (x ∷ ts) (u ∷ us) zero t pairs at =
-    (u, refl, subst (λ (y : Teller). KnowsMore y u) (first_is ts x t at) pairs.0.knows)
+    (u, refl, subst (λ (y : Teller). TellerKnowsMore y u) (first_is ts x t at) pairs.0.knows)
 later_at hub (x ∷ ts) (u ∷ us) (suc j) t pairs at = later_at hub ts us j t pairs.1 at
 
 pub seen_later : (hub : Hub) (ts us : List Teller) (states : List (Place × State)) → Pairs (IsLaterTeller hub) ts us → AreSeenByOne ts states → AreSeenByOne us states

@@ -7,10 +7,10 @@ use Rattle.inst_base.specs.declared.fault.Fault.TheVariants.{Memory, BadSettings
 use Rattle.std.proofs.lemmas.List.Sums.{sum_by-cons, sum_by-append}
 use Rattle.inst_desk.specs.declared.desk.Desk.{Desk}
 use Rattle.inst_desk.specs.declared.hand.Hand.{Hand}
-use Rattle.inst_desk.specs.Desk.{IsHandOf, AreHandsOf, AreAllHandsOf, parts_of as parts_of_hand}
+use Rattle.inst_desk.specs.Desk.{IsHandOf, AreHandsOf, AreAllHandsOf, hand_parts as parts_of_hand}
 use Rattle.inst_hub.specs.declared.hub.Hub.{Hub}
 use Rattle.inst_hub.specs.declared.teller.Teller.{Teller}
-use Rattle.inst_hub.specs.Calls.{IsTellerOf, AreOf, KnowsMore}
+use Rattle.inst_hub.specs.Calls.{IsTellerOf, AreOf, TellerKnowsMore}
 use Rattle.inst_crew.specs.Later.{Pairs, IsLaterTeller}
 use Rattle.inst_desk.proofs.Hands.{one_more}
 use Rattle.inst_crew.proofs.LastHand.{at_front, last_hand}
@@ -44,12 +44,12 @@ tellers_apart hub all front t is are three =
     (last, (others, long_front all front t is three))
 
 -- the sweeper knows more
-pub sweeper_later : (hub : Hub) (tellers : List Teller) (t u : Teller) → AreOf hub tellers → IsTellerOf hub u → KnowsMore t u
+pub sweeper_later : (hub : Hub) (tellers : List Teller) (t u : Teller) → AreOf hub tellers → IsTellerOf hub u → TellerKnowsMore t u
     → Pairs (IsLaterTeller hub) (tellers ++ t ∷ []) (tellers ++ u ∷ [])
 sweeper_later hub tellers t u are of more =
     pairs_both (IsLaterTeller hub) tellers (t ∷ []) tellers (u ∷ []) (same_tellers hub tellers are) (record { of = of; knows = more }, tt)
 
-pub more_and_more : (t u v : Teller) → KnowsMore t u → KnowsMore u v → KnowsMore t v
+pub more_and_more : (t u v : Teller) → TellerKnowsMore t u → TellerKnowsMore u v → TellerKnowsMore t v
 more_and_more t u v first then = record {
   facts = λ f known. then.facts f (first.facts f known);
   fronts = λ p J seen. then.fronts p J (first.fronts p J seen);

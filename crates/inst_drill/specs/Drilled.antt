@@ -8,7 +8,7 @@ use Rattle.inst_base.specs.declared.fault.Fault.TheVariants.{BadSettings, Memory
 use Rattle.inst_settings.specs.Settings.{HubSettings}
 use Rattle.inst_command.specs.declared.step.Step.{Step}
 use Rattle.inst_model.specs.Opening.{Opening, First, FromBooks}
-use Rattle.inst_order.specs.Order.{Explains}
+use Rattle.inst_order.specs.Order.{ExplainsBooks}
 use Rattle.inst_participant.specs.Together.{histories}
 use Rattle.inst_close.specs.ClosedHub.{ClosedHub}
 use Rattle.inst_close.specs.Closing.{HaveOpened}
@@ -34,13 +34,13 @@ drill_opening from closed steps report =
 pub record IsDrilled (s : HubSettings) (x : DrillOpening) : Type 0 where
   pub settings : x.closed.settings ≡ s
   pub opened : HaveOpened x.from x.closed
-  pub explained : Explains s x.from x.steps (histories x.closed.books)
+  pub explained : ExplainsBooks s x.from x.steps (histories x.closed.books)
   pub report : IsReportOf x.closed x.report
 
 -- what the opening after these begins from, where they began from `O`
-abbrev pub opening_after : Opening → List DrillOpening → Opening
-opening_after O [] = O
-opening_after O (x ∷ xs) = opening_after (FromBooks (histories x.closed.books)) xs
+abbrev pub opening_after_drill : Opening → List DrillOpening → Opening
+opening_after_drill O [] = O
+opening_after_drill O (x ∷ xs) = opening_after_drill (FromBooks (histories x.closed.books)) xs
 
 -- each opening is from the books of the one before, and the first is from `O`
 abbrev pub AreDrilled : HubSettings → Opening → List DrillOpening → Type 0

@@ -10,7 +10,7 @@ use Rattle.inst_journal.specs.declared.event.Event.TheVariants.{Booked}
 use Rattle.inst_journal.specs.Money.{position}
 use Rattle.inst_journal.specs.Opened.{current}
 use Rattle.inst_journal.specs.Sums.{net}
-use Rattle.inst_model.specs.Untold.{total, signed_total}
+use Rattle.inst_model.specs.Untold.{sum_over_participants, signed_total}
 use Rattle.inst_participant.specs.Together.{histories}
 use Rattle.inst_close.specs.ClosedHub.{ClosedHub}
 use Rattle.inst_drill.specs.declared.report.Report.{Report}
@@ -35,7 +35,7 @@ ended outcome J = count_by (books_end outcome) (current J)
 -- accepted and so many timed out
 pub record IsReportOf (closed : ClosedHub) (report : Report) : Type 0 where
   pub disagree : report.disagree ≡ 0
-  pub sum : report.sum ≡ total closed.settings (λ p. position (histories closed.books p))
+  pub sum : report.sum ≡ sum_over_participants closed.settings (λ p. position (histories closed.books p))
   pub net : pos report.net ≡ signed_total closed.settings (λ p. net (histories closed.books p))
   pub balanced : report.sum ≡ report.net
   pub accepted : report.accepted ≡ ended Accepted (histories closed.books 0)

@@ -1,6 +1,6 @@
 //! Steps of the hub in one thread that explain what the threads did.
 ghost use Rattle.std.specs.Prelude.{IfOk, IfSome};
-ghost use Rattle.inst_order.specs.Order.{Explains};
+ghost use Rattle.inst_order.specs.Order.{ExplainsBooks};
 ghost use Rattle.inst_participant.specs.Together.{histories};
 ghost use Rattle.inst_drill.specs.inner.Chain.{opening_of};
 
@@ -27,7 +27,7 @@ pub(crate) fn explain(
 ) -> Result<Option<Vec<Step>>, AllocError>
     ensures { IfOk result (λ found.
         IfSome found (λ steps.
-        Explains books.now.settings (opening_of before.now) steps.items
+        ExplainsBooks books.now.settings (opening_of before.now) steps.items
         (histories books.now.books))) }
 {
     match before {

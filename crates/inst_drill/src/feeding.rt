@@ -1,6 +1,6 @@
 //! How jobs come onto the desk.
 ghost use Rattle.std.specs.Prelude.{◌≡◌, OnOk};
-ghost use Rattle.inst_desk.specs.Desk.{IsHandOf, parts_of};
+ghost use Rattle.inst_desk.specs.Desk.{IsHandOf, hand_parts};
 
 use crate::plan::Plan;
 use inst_command::Ask;
@@ -36,7 +36,7 @@ pub(crate) fn feed<R: Wait>(
     opening: u8,
 ) -> Result<(), AllocError>
     requires { IsHandOf desk.now hand.old }
-    ensures { OnOk result (IsHandOf desk.now hand.new × (parts_of hand.new ≡ parts_of hand.old)) }
+    ensures { OnOk result (IsHandOf desk.now hand.new × (hand_parts hand.new ≡ hand_parts hand.old)) }
 {
     let before = u32::from(opening.saturating_sub(1)) * u32::from(plan.transfers);
     for index in 1..=u32::from(plan.transfers) {

@@ -15,7 +15,7 @@ use Rattle.std.proofs.lemmas.List.Edits.{length-insert, get_or-insert_below, get
 use Rattle.std.proofs.lemmas.List.Folds.{Any-from_list_any, list_any_at, list_any_none}
 use Rattle.inst_base.specs.TimeLimit.{is_due}
 use Rattle.inst_due.specs.Due.{is_of, has, comes_before, Adds, TakesOut, IsFirst, IsLeast}
-use Rattle.inst_due.specs.inner.Due.{IsRising, IsPlace}
+use Rattle.inst_due.specs.inner.Due.{IsRising, IsRankOf}
 
 -- how two pairs compare
 abbrev pub pair_cmp : ℕ × ℕ → ℕ × ℕ → Ordering
@@ -140,7 +140,7 @@ partitioned pairs pair rising i j d le below passes = elim (cases_lt i j) [
     kept one other before passes = grind (arith, nat_tests, before, passes)
 
 -- where a pair stands or would
-pub at_end : (pairs : List (ℕ × ℕ)) (n : ℕ) (last pair : ℕ × ℕ) → IsRising pairs → n ≡ length pairs → slice_get pairs (n - 1) ≡ Some last → comes_before last pair ≡ true → IsPlace pairs pair (Err n)
+pub at_end : (pairs : List (ℕ × ℕ)) (n : ℕ) (last pair : ℕ × ℕ) → IsRising pairs → n ≡ length pairs → slice_get pairs (n - 1) ≡ Some last → comes_before last pair ≡ true → IsRankOf pairs pair (Err n)
 at_end pairs n last pair rising end at before = (omega arith, (λ k d from under. under_it k d under, λ k d over under. absurd (omega arith)))
   where
     here : (d : ℕ × ℕ) → get_or pairs (n - 1) d ≡ last
@@ -161,14 +161,14 @@ searchable pairs pair rising i j d le below = elim (cases_lt i j) [
   | inr over ↦ let is : i ≡ j = omega arith in omega (arith, ap (λ (k : ℕ). ordering_index (pair_cmp (get_or pairs k d) pair)) is)
 ]
 
-pub found_place : (pairs : List (ℕ × ℕ)) (pair : ℕ × ℕ) (r : Result ℕ ℕ) → IsRising pairs → IsSearchInRange r (length pairs) → IsBinarySearchResult (λ other. pair_cmp other pair) pairs r → IsPlace pairs pair r
+pub found_place : (pairs : List (ℕ × ℕ)) (pair : ℕ × ℕ) (r : Result ℕ ℕ) → IsRising pairs → IsSearchInRange r (length pairs) → IsBinarySearchResult (λ other. pair_cmp other pair) pairs r → IsRankOf pairs pair r
 found_place pairs pair (Ok n) rising within found = slice_get-get_or pairs n pair within ∙ ap (λ (other : ℕ × ℕ). Some other) (same_if_equal (get_or pairs n pair) pair (found pair))
 found_place pairs pair (Err n) rising within found =
     let parts = found (searchable pairs pair rising) in
     (within, (λ k d from under. before_if_less (get_or pairs k d) pair (parts.0 k d from under), λ k d over below. behind_if_greater (get_or pairs k d) pair (parts.1 k d over below)))
 
 -- a pair that has its place between others isn't there
-pub not_there : (pairs : List (ℕ × ℕ)) (pair : ℕ × ℕ) (n : ℕ) → IsPlace pairs pair (Err n) → has pairs pair.0 pair.1 ≡ false
+pub not_there : (pairs : List (ℕ × ℕ)) (pair : ℕ × ℕ) (n : ℕ) → IsRankOf pairs pair (Err n) → has pairs pair.0 pair.1 ≡ false
 not_there pairs pair n place = list_any_none (is_of pair.0 pair.1) pairs (λ k d below. elim (cases_lt k n) [
   | inl under ↦ (other_than (get_or pairs k d) pair (place.1.0 k d (omega arith) under)).0
   | inr over ↦ (other_than pair (get_or pairs k d) (place.1.1 k d over below)).1
@@ -200,7 +200,7 @@ turned d k e l = grind (arith, nat_tests)
 pub adds : (pairs : List (ℕ × ℕ)) (n d k : ℕ) → Adds pairs (insert pairs n (d, k)) d k
 adds pairs n d k e l = any_inserted (is_of e l) pairs n (d, k) ∙ ap (λ b. has pairs e l || b) (turned d k e l)
 
-pub rises_on : (pairs : List (ℕ × ℕ)) (n : ℕ) (pair : ℕ × ℕ) → IsRising pairs → IsPlace pairs pair (Err n) → IsRising (insert pairs n pair)
+pub rises_on : (pairs : List (ℕ × ℕ)) (n : ℕ) (pair : ℕ × ℕ) → IsRising pairs → IsRankOf pairs pair (Err n) → IsRising (insert pairs n pair)
 rises_on pairs n pair rising place i j d less below = elim (cases_order j n) [
   | inl is ↦ both i j (get_or pairs i d) pair (under i (omega arith)) (here j is) (place.1.0 i d (omega arith) (omega arith))
   | inr apart ↦ elim apart [

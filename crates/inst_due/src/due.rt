@@ -4,7 +4,7 @@ ghost use Rattle.std.specs.List.{insert};
 ghost use Rattle.std.specs.VecDeque.{deque_len};
 ghost use Rattle.inst_base.specs.TimeLimit.{is_due};
 ghost use Rattle.inst_due.specs.Due.{has, comes_before, comes_after, Adds, TakesOut, IsLeast};
-ghost use Rattle.inst_due.specs.inner.Due.{IsPlace};
+ghost use Rattle.inst_due.specs.inner.Due.{IsRankOf};
 
 use inst_base::Moment;
 use std::alloc::{AllocError, AllocFailed, Global};
@@ -113,7 +113,7 @@ impl Due {
     /// Where the pair stands, or else where it would. Most stand at an end, so those are looked at
     /// first.
     fn place_of(&self, pair: &(Moment, u16)) -> Result<usize, usize>
-        ensures { IsPlace self.now pair.now result }
+        ensures { IsRankOf self.now pair.now result }
     {
         let Some(last) = self.pairs.back() else {
             return Err(0);

@@ -18,7 +18,7 @@ use Rattle.inst_journal.proofs.EventsCarriedOverOpening.{carried_opened}
 use Rattle.inst_model.specs.Opening.{BooksCanOpen}
 use Rattle.inst_model.specs.Opening.Opening.{FromBooks}
 use Rattle.inst_slot.specs.Book.{Book}
-use Rattle.inst_slot.specs.Opening.{MayOpenAgain, IsOfOpening, OpensPlaces}
+use Rattle.inst_slot.specs.Opening.{MayOpenAgain, IsOfTakenSubmission, OpensPlaces}
 use Rattle.inst_slot.proofs.LiveTransfersAfterEvent.{slice_get_at}
 use Rattle.inst_slot.proofs.SlotOpensAgain.{may_open_first, others_may_open, lawful_moved}
 use Rattle.inst_cell.specs.declared.shared_board.SharedBoard.{SharedBoard}
@@ -35,7 +35,7 @@ use Rattle.inst_participant.specs.LockLaw.{IsBehind}
 use Rattle.inst_hub.specs.Opening.{IsBlank}
 use Rattle.inst_hub.specs.inner.Opening.{unboxed, AreBehind, AreBlank}
 use Rattle.inst_hub.proofs.BoardsAndTellersOfNewHub.{unboxed_push}
-use Rattle.inst_hub.specs.inner.NextOpening.{IsCarriedBook, AreCarried, pairs, seated}
+use Rattle.inst_hub.specs.inner.NextOpening.{IsCarriedBook, AreCarriedSlots, pairs, seated}
 
 -- From the first board to this one the places of the first n participants were opened, and nothing else was learnt
 pub record OpenedSoFar (s : HubSettings) (books : ℕ → List Event) (n : ℕ) (first b : SharedBoard) : Type 0 where
@@ -70,7 +70,7 @@ module _ (s : HubSettings) (books : ℕ → List Event) where
 
     back : (f : Fact) → IsOpenedBelow s books (n + 1) f → knows c f
     back f x = elim (cases_eq x.owner n) [
-      | inl same ↦ (opened.known f).1 (inr (subst (λ (q : ℕ). IsOfOpening s q (live_taken q (K q)) f) same x.opening))
+      | inl same ↦ (opened.known f).1 (inr (subst (λ (q : ℕ). IsOfTakenSubmission s q (live_taken q (K q)) f) same x.opening))
       | inr other ↦ (opened.known f).1 (inl ((was.known f).1 (record { owner = x.owner; below = less x.owner n x.below other; opening = x.opening })))
     ]
 
@@ -96,10 +96,10 @@ module _ (s : HubSettings) (books : ℕ → List Event) where
       (subst (λ (events : List Event). OpensPlaces knows book.settings book.who (live_taken book.who events) b c) is.events_are opens)))
 
 -- the book at this place of the slots
-pub carried_at : (s : HubSettings) (books : ℕ → List Event) (slots : List Book) (k : ℕ) (slot : Book) → AreCarried s books slots → k < length slots → slot ≡ get_or slots k slot → IsCarriedBook s books k slot
+pub carried_at : (s : HubSettings) (books : ℕ → List Event) (slots : List Book) (k : ℕ) (slot : Book) → AreCarriedSlots s books slots → k < length slots → slot ≡ get_or slots k slot → IsCarriedBook s books k slot
 carried_at s books slots k slot are below is = are.each k slot (slice_get-get_or slots k slot below ∙ ap (λ (x : Book). Some x) (sym is))
 
-pub few_carried : (s : HubSettings) (books : ℕ → List Event) (slots : List Book) (k : ℕ) → AreCarried s books slots → k < length slots → k < participants s
+pub few_carried : (s : HubSettings) (books : ℕ → List Event) (slots : List Book) (k : ℕ) → AreCarriedSlots s books slots → k < length slots → k < participants s
 few_carried s books slots k are below = subst (λ (n : ℕ). k < n) are.enough below
 
 pub carried_participant : (s : HubSettings) (books : ℕ → List Event) (p : ℕ) (book : Book) → IsCarriedBook s books p book → p < participants s → is_participant book.settings book.who ≡ true
@@ -144,7 +144,7 @@ one_less x y xs xs_left ys ys_left s t e =
     omega (arith, a, b, e)
 
 -- the slots of a world that begins are carried over an opening
-pub slots_carried : (s : HubSettings) (books : ℕ → List Event) (world : World) → world.board.settings ≡ s → IsWorld world → HasRun (FromBooks books) [] world → AreCarried s books world.books
+pub slots_carried : (s : HubSettings) (books : ℕ → List Event) (world : World) → world.board.settings ≡ s → IsWorld world → HasRun (FromBooks books) [] world → AreCarriedSlots s books world.books
 slots_carried s books world same hub ran = record {
   enough = hub.one_each ∙ ap participants same;
   each = λ p book there. let m = hub.member p book there in record { settings_are = m.settings_are ∙ same; who_is = m.who_is; events_are = ran.histories p book there };

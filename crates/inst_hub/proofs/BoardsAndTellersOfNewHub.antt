@@ -25,7 +25,7 @@ use Rattle.inst_hub.specs.declared.hub.Hub.{Hub}
 use Rattle.inst_participant.specs.LockLaw.{IsBehind}
 use Rattle.inst_hub.specs.Calls.{AreOf}
 use Rattle.inst_hub.specs.declared.teller.Teller.{Teller}
-use Rattle.inst_hub.specs.Opening.{IsBlank, fronts_from, first_fronts, IsNew, AreNew, parts_of}
+use Rattle.inst_hub.specs.Opening.{IsBlank, fronts_from, first_fronts, IsNew, AreNew, row_parts}
 use Rattle.inst_hub.specs.inner.Opening.{AreBoards, unboxed, AreBehind, AreParticipants, AreBlank}
 
 none_arrived : (x : Arrival) → Contains [] x → is_some x.index ≡ true
@@ -114,7 +114,7 @@ one_teller id key fronts tellers t are new i u e = ⊎_elim
     (λ last. subst (λ (x : Teller). IsNew id key fronts x) last.1 new)
     (snoc_cases tellers t u i e)
 
-pub parts_more : (tellers : List Teller) (t : Teller) → parts_of (tellers ++ t ∷ []) ≡ parts_of tellers + (view_of t.seat).parts
+pub parts_more : (tellers : List Teller) (t : Teller) → row_parts (tellers ++ t ∷ []) ≡ row_parts tellers + (view_of t.seat).parts
 parts_more tellers t = sum_by_push (λ (u : Teller). (view_of u.seat).parts) tellers t
 
 pub nothing_left : {A : Type 0} (l : List A) → length l ≡ 0 → l ≡ []

@@ -14,7 +14,7 @@ use Rattle.std.specs.Global.{Box}
 use Rattle.std.specs.declared.alloc.AllocError.{AllocError}
 use Rattle.inst_hub.specs.declared.initial_state.InitialState.{InitialState}
 use Rattle.inst_cell.specs.declared.sight.Sight.{Sight}
-use Rattle.inst_cell.specs.Seen.{sees}
+use Rattle.inst_cell.specs.Seen.{sight_knows}
 use Rattle.inst_journal.specs.declared.event.Event.{Event}
 use Rattle.inst_journal.specs.Sound.{IsSound}
 use Rattle.inst_row.specs.declared.view.Front.{Front}
@@ -30,7 +30,7 @@ use Rattle.inst_participant.specs.Answers.{Answered, IsSubmitted, IsTicket}
 use Rattle.inst_participant.specs.declared.follow_up.FollowUp.{FollowUp}
 use Rattle.inst_participant.specs.Following.{follow_up_of, Does}
 use Rattle.inst_participant.specs.Serving.{Serves}
-use Rattle.inst_hub.specs.Calls.{IsCall, Calls, IsLeftUnanswered, KnowsMore, IsFollowed, knows_of, fronts_seen}
+use Rattle.inst_hub.specs.Calls.{IsCall, Calls, IsLeftUnanswered, TellerKnowsMore, IsFollowed, knows_of, fronts_seen}
 use Rattle.inst_hub.specs.Founding.{IsSince}
 use Rattle.inst_hub.specs.inner.Calls.{Asks, Follows}
 
@@ -42,23 +42,23 @@ pub record IsFound (key : InitialState) (p : ℕ) (s mid : Seat) (x : Participan
   pub law : IsSince key p x
   pub goes_on : GoesOn p x.slot.events s
   pub has : Has p x.slot.events mid
-  pub sees : Sees p x.slot.events s mid
+  pub sight_knows : Sees p x.slot.events s mid
 
 -- the same out of its box
 pub out_of_box : (key : InitialState) (p : ℕ) (s mid : Seat) (b : Box Participant) (x : Participant) → x ≡ b.value → IsSince key p b.value → GoesOn p b.value.slot.events s
     → Has p b.value.slot.events mid → Sees p b.value.slot.events s mid → IsFound key p s mid x
 out_of_box key p s mid b x is law goes_on has sees =
-    let found : IsFound key p s mid b.value = record { law = law; goes_on = goes_on; has = has; sees = sees } in
+    let found : IsFound key p s mid b.value = record { law = law; goes_on = goes_on; has = has; sees = sight_knows } in
     subst (λ (y : Participant). IsFound key p s mid y) (sym is) found
 
 module _ {T E K : Type 0} where
   pub seen_still : (p q : ℕ) (h l : List E) (s t : RowSeat T E K) → Sees p h s t → HasSeen q l s → HasSeen q l t
-  seen_still p q h l s t sees c = subst (λ (fs : List (Front E)). Contains fs (front q l)) (sym sees.seen)
+  seen_still p q h l s t sight_knows c = subst (λ (fs : List (Front E)). Contains fs (front q l)) (sym sight_knows.seen)
       (Contains-append_left (view_of s).fronts (front p h ∷ []) (front q l) c)
 
 -- who took a lock and gave it back knows what it knew
-pub still_knows : (t : Teller) (mid : Seat) (sight : Sight) (last : Seat) (p : ℕ) (h l : List Event) → ((f : Fact) → sees t.sight f → sees sight f)
-    → Sees p h t.seat mid → Sees p l mid last → KnowsMore t record { sight = sight; seat = last }
+pub still_knows : (t : Teller) (mid : Seat) (sight : Sight) (last : Seat) (p : ℕ) (h l : List Event) → ((f : Fact) → sight_knows t.sight f → sight_knows sight f)
+    → Sees p h t.seat mid → Sees p l mid last → TellerKnowsMore t record { sight = sight; seat = last }
 still_knows t mid sight last p h l kept first second = record {
   facts = kept;
   fronts = λ q J seen. seen_still p q l J mid last second (seen_still p q h J t.seat mid first seen);
@@ -71,7 +71,7 @@ pub call_of : (h : Hub) (t u : Teller) (ask : Ask) (answer : Reply × Option Pla
     → IsSound x.slot.settings x.slot.who x.slot.events
     → Serves x ask (Ok answer.0) y
     → Answered x.slot.settings x.slot.who x.slot.events ask answer.0 y.slot.events
-    → IsTicket (sees u.sight) x.slot.settings x.slot.who ask.command y.slot.events answer.0 answer.1
+    → IsTicket (sight_knows u.sight) x.slot.settings x.slot.who ask.command y.slot.events answer.0 answer.1
     → IsCall h t ask answer [] u
 call_of h t u ask answer x y behind goes_on seen sound serves answered ticket =
     let settled : x.slot.settings ≡ h.settings = sym behind.behind.ready.lawful.same_settings ∙ (behind.behind.one.1 ∙ h.same) in record {
@@ -84,8 +84,8 @@ call_of h t u ask answer x y behind goes_on seen sound serves answered ticket =
       serves = serves;
       answered = subst (λ (s : HubSettings). Answered s ask.who x.slot.events ask answer.0 y.slot.events) settled
           (subst (λ (n : ℕ). Answered x.slot.settings n x.slot.events ask answer.0 y.slot.events) behind.behind.who answered);
-      ticket = subst (λ (s : HubSettings). IsTicket (sees u.sight) s ask.who ask.command y.slot.events answer.0 answer.1) settled
-          (subst (λ (n : ℕ). IsTicket (sees u.sight) x.slot.settings n ask.command y.slot.events answer.0 answer.1) behind.behind.who ticket);
+      ticket = subst (λ (s : HubSettings). IsTicket (sight_knows u.sight) s ask.who ask.command y.slot.events answer.0 answer.1) settled
+          (subst (λ (n : ℕ). IsTicket (sight_knows u.sight) x.slot.settings n ask.command y.slot.events answer.0 answer.1) behind.behind.who ticket);
     }
 
 -- the same at the lock p, which is the asker's
@@ -94,7 +94,7 @@ pub call_at : (h : Hub) (t u : Teller) (ask : Ask) (answer : Reply × Option Pla
     → IsSound x.slot.settings x.slot.who x.slot.events
     → Serves x ask (Ok answer.0) y
     → Answered x.slot.settings x.slot.who x.slot.events ask answer.0 y.slot.events
-    → IsTicket (sees u.sight) x.slot.settings x.slot.who ask.command y.slot.events answer.0 answer.1
+    → IsTicket (sight_knows u.sight) x.slot.settings x.slot.who ask.command y.slot.events answer.0 answer.1
     → IsCall h t ask answer [] u
 call_at h t u ask answer x y p is behind goes_on seen sound serves answered ticket =
     call_of h t u ask answer x y (subst (λ (n : ℕ). IsSince (key_of h.row) n x) is behind) (subst (λ (n : ℕ). GoesOn n x.slot.events t.seat) is goes_on)
@@ -106,7 +106,7 @@ pub asks_at : (h : Hub) (t u : Teller) (ask : Ask) (answer : Reply × Option Pla
     → IsSound x.slot.settings x.slot.who x.slot.events
     → Serves x ask (Ok answer.0) y
     → Answered x.slot.settings x.slot.who x.slot.events ask answer.0 y.slot.events
-    → IsTicket (sees u.sight) x.slot.settings x.slot.who ask.command y.slot.events answer.0 answer.1
+    → IsTicket (sight_knows u.sight) x.slot.settings x.slot.who ask.command y.slot.events answer.0 answer.1
     → f ≡ follow_up_of y.slot.events ask.command answer.0 answer.1 → Asks h t ask (answer, f) u
 unfolding call_at call_of
 asks_at h t u ask answer f x y p is behind goes_on seen sound serves answered ticket follows =
@@ -149,7 +149,7 @@ follows_one h f t mid last x y result behind goes_on first second does = record 
 }
 
 -- what followed goes on from what was seen before the call
-followed_from : (h : Hub) (f : Option FollowUp) (t u : Teller) (fronts : List (Front Event)) → KnowsMore t u → IsFollowed h f u fronts → IsFollowed h f t fronts
+followed_from : (h : Hub) (f : Option FollowUp) (t u : Teller) (fronts : List (Front Event)) → TellerKnowsMore t u → IsFollowed h f u fronts → IsFollowed h f t fronts
 followed_from h None t u fronts more done = done
 followed_from h (Some f) t u fronts more done = record {
   found = done.found;
@@ -165,7 +165,7 @@ on_err (Ok a) X x = tt
 on_err (Err b) X x = x
 
 -- what a teller knows stays known
-pub knows_twice : (t u v : Teller) → KnowsMore t u → KnowsMore u v → KnowsMore t v
+pub knows_twice : (t u v : Teller) → TellerKnowsMore t u → TellerKnowsMore u v → TellerKnowsMore t v
 knows_twice t u v first second = record {
   facts = λ f k. second.facts f (first.facts f k);
   fronts = λ p J k. second.fronts p J (first.fronts p J k);
@@ -205,7 +205,7 @@ ticket_more S S' more s who command K (StatementReply l) ticket h = h
 ticket_more S S' more s who command K (Refused f) ticket h = h
 
 -- a call, and what followed
-pub call_more : (h : Hub) (t u v : Teller) (ask : Ask) (r : (Reply × Option Place) × Option FollowUp) → Asks h t ask r u → KnowsMore t u → KnowsMore u v → Follows h r.1 u v → Calls h t ask r.0 v
+pub call_more : (h : Hub) (t u v : Teller) (ask : Ask) (r : (Reply × Option Place) × Option FollowUp) → Asks h t ask r u → TellerKnowsMore t u → TellerKnowsMore u v → Follows h r.1 u v → Calls h t ask r.0 v
 call_more h t u v ask r asks known more follows =
     let c = asks.0 in
     let call : IsCall h t ask r.0 follows.fronts v = record {

@@ -21,13 +21,13 @@ use Rattle.inst_hub.specs.declared.initial_state.InitialState.{InitialState}
 use Rattle.inst_participant.specs.declared.participant.Participant.{Participant}
 use Rattle.inst_participant.specs.Answers.{Answered}
 use Rattle.inst_participant.specs.LockLaw.{IsBehind}
-use Rattle.inst_participant.specs.Told.{IsTold, IsToldMore}
+use Rattle.inst_participant.specs.Told.{TellsOfTransfer, IsToldMore}
 use Rattle.inst_hub.specs.Founding.{IsSince, history_in, outset_of}
 use Rattle.inst_hub.specs.inner.Opening.{unboxed, AreBehind}
 use Rattle.inst_participant.specs.Told.{IsToldAll}
 use Rattle.inst_hub.proofs.BoardsAndTellersOfNewHub.{behind_values}
 
-told_is_none : (e : Event) → IsTold e → is_opening e ≡ false
+told_is_none : (e : Event) → TellsOfTransfer e → is_opening e ≡ false
 told_is_none (Forwarded from id cents deadline) t = refl
 told_is_none (Booked from id outcome) t = refl
 told_is_none (Funded funding) t = absurd t
@@ -42,7 +42,7 @@ told_carries J K told = ⊎_elim
     (λ more. ap carried more.2 ∙ carried_push J more.0 (told_is_none more.0 more.1))
     told
 
-more_carries : (J more : List Event) → ((e : Event) → Contains more e → IsTold e) → carried (J ++ more) ≡ carried J
+more_carries : (J more : List Event) → ((e : Event) → Contains more e → TellsOfTransfer e) → carried (J ++ more) ≡ carried J
 more_carries J [] told = ap carried (append-nil J)
 more_carries J (e ∷ more) told =
     ap carried (sym (append_assoc J (e ∷ []) more))

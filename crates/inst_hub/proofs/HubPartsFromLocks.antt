@@ -7,7 +7,7 @@ use Rattle.inst_settings.specs.Settings.{HubSettings, participants}
 use Rattle.inst_cell.specs.declared.shared_board.SharedBoard.{SharedBoard}
 use Rattle.inst_cell.specs.declared.sight.Sight.{Sight}
 use Rattle.inst_cell.specs.Held.{AtOneTable}
-use Rattle.inst_cell.specs.Seen.{board_of}
+use Rattle.inst_cell.specs.Seen.{board_of_sight}
 use Rattle.inst_journal.specs.declared.event.Event.{Event}
 use Rattle.inst_journal.specs.Sound.{IsSound}
 use Rattle.inst_model.specs.Opening.{Opening, IsOpening}
@@ -21,7 +21,7 @@ use Rattle.inst_hub.specs.declared.hub.Hub.{Hub}
 use Rattle.inst_hub.specs.declared.teller.Teller.{Teller}
 use Rattle.inst_hub.specs.Calls.{AreOf}
 use Rattle.inst_hub.specs.inner.Closing.{AreTakenOut}
-use Rattle.inst_hub.specs.Founding.{HasOpened}
+use Rattle.inst_hub.specs.Founding.{HasOpenedHub}
 use Rattle.inst_hub.proofs.JoinedSeatsOfTellers.{Seat, sight_of}
 
 pub got_map : {A B : Type 0} (f : A → B) (xs : List A) (i : ℕ) (y : B) → slice_get (map f xs) i ≡ Some y → (x : A) × (slice_get xs i ≡ Some x) × (f x ≡ y)
@@ -51,9 +51,9 @@ module _ (h : Hub) (seat : Seat) (slots : List Book) (boards : List SharedBoard)
   pub sights_of_words : (tellers : List Teller) (sights : List Sight) → AreOf h tellers → sights ≡ map sight_of tellers → AreSights words sights
   sights_of_words tellers sights of are i s at =
       let g = got_map sight_of tellers i s (ap (λ (l : List Sight). slice_get l i) (sym are) ∙ at) in
-      subst (λ (t : Sight). AtOneTable words (board_of t)) g.2 (of i g.0 g.1).one
+      subst (λ (t : Sight). AtOneTable words (board_of_sight t)) g.2 (of i g.0 g.1).one
 
-  pub separate : (O : Opening) → IsOpening h.settings O → HasOpened O h → AreSeparate words O h.settings slots boards
+  pub separate : (O : Opening) → IsOpening h.settings O → HasOpenedHub O h → AreSeparate words O h.settings slots boards
   separate O opened from = record {
     settings_are = h.same;
     opening = opened;

@@ -17,7 +17,7 @@ use Rattle.inst_participant.specs.declared.participant.Participant.{Participant}
 use Rattle.inst_hub.specs.declared.teller.Teller.{Teller}
 use Rattle.inst_hub.specs.Closing.{OneHasSeen}
 use Rattle.inst_hub.specs.inner.Closing.{IsSeated, AreSeated, IsTakenOut, AreTakenOut}
-use Rattle.inst_hub.specs.Opening.{parts_of}
+use Rattle.inst_hub.specs.Opening.{row_parts}
 use Rattle.inst_hub.proofs.BoardsAndTellersOfNewHub.{parts_more}
 use Rattle.inst_participant.proofs.BooksLawfulOverJoinedBoard.{got_last, got_more, got_only}
 
@@ -32,7 +32,7 @@ pub record Gathered (id : TableId) (key : InitialState) (all done rest : List Te
   pub split : done ++ rest ≡ all
   pub on : IsOn id key seat
   pub idle : IsIdle seat
-  pub parts : (view_of seat).parts ≡ parts_of done
+  pub parts : (view_of seat).parts ≡ row_parts done
   pub seen : (p : ℕ) (h : List Event) → HasSeen p h seat ↔ OneHasSeen done p h
   pub sights_are : sights ≡ map sight_of done
 
@@ -43,7 +43,7 @@ first_gathered id key all rest t sights new seated e none pushed =
       split = sym e;
       on = s.on;
       idle = s.free.idle;
-      parts = (let p = parts_more [] t in let none : parts_of [] ≡ 0 = refl in omega (arith, p, none));
+      parts = (let p = parts_more [] t in let none : row_parts [] ≡ 0 = refl in omega (arith, p, none));
       seen = λ p h. (
         λ seen. (0, t, refl, seen),
         λ one. subst (λ (v : Teller). HasSeen p h v.seat) (sym (got_only t one.1 one.0 one.2)) one.3,
@@ -78,9 +78,9 @@ more_gathered id key all done rest left t seat new sights more e so on idle part
 whole : (id : TableId) (key : InitialState) (all done rest : List Teller) (seat : Seat) (sights : List Sight) → rest ≡ [] → Gathered id key all done rest seat sights → done ≡ all
 whole id key all done rest seat sights none so = sym (append-nil done) ∙ (ap (λ (l : List Teller). done ++ l) (sym none) ∙ so.split)
 
-pub all_gathered : (id : TableId) (key : InitialState) (all done rest : List Teller) (seat : Seat) (sights : List Sight) → rest ≡ [] → parts_of all ≡ 16 → Gathered id key all done rest seat sights → HasAll seat
+pub all_gathered : (id : TableId) (key : InitialState) (all done rest : List Teller) (seat : Seat) (sights : List Sight) → rest ≡ [] → row_parts all ≡ 16 → Gathered id key all done rest seat sights → HasAll seat
 all_gathered id key all done rest seat sights none parts so =
-    let sixteen : (view_of seat).parts ≡ 16 = so.parts ∙ (ap parts_of (whole id key all done rest seat sights none so) ∙ parts) in
+    let sixteen : (view_of seat).parts ≡ 16 = so.parts ∙ (ap row_parts (whole id key all done rest seat sights none so) ∙ parts) in
     record { free = record { idle = so.idle; part = omega (arith, sixteen) }; parts = sixteen }
 
 pub all_seen : (id : TableId) (key : InitialState) (all done rest : List Teller) (seat : Seat) (sights : List Sight) → rest ≡ [] → Gathered id key all done rest seat sights

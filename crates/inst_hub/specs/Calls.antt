@@ -9,7 +9,7 @@ use Rattle.inst_command.specs.declared.reply.Reply.{Reply}
 use Rattle.inst_board.specs.declared.about.Fact.{Fact}
 use Rattle.inst_command.specs.declared.place.Place.{Place}
 use Rattle.inst_cell.specs.Held.{AtOneTable}
-use Rattle.inst_cell.specs.Seen.{board_of, sees}
+use Rattle.inst_cell.specs.Seen.{board_of_sight, sight_knows}
 use Rattle.inst_journal.specs.declared.event.Event.{Event}
 use Rattle.inst_journal.specs.Sound.{IsSound}
 use Rattle.inst_row.specs.declared.view.Front.{Front}
@@ -29,18 +29,18 @@ use Rattle.inst_participant.specs.Serving.{Serves}
 pub record IsTellerOf (h : Hub) (t : Teller) : Type 0 where
   pub on : IsOn (row_id h.row) (key_of h.row) t.seat
   pub free : IsFree t.seat
-  pub one : AtOneTable (key_of h.row).words.value (board_of t.sight)
+  pub one : AtOneTable (key_of h.row).words.value (board_of_sight t.sight)
 
 abbrev pub AreOf : Hub → List Teller → Type 0
 AreOf h tellers = (i : ℕ) (t : Teller) → slice_get tellers i ≡ Some t → IsTellerOf h t
 
 -- what the teller knows of places
 abbrev pub knows_of : Teller → Fact → Type 0
-knows_of t f = sees t.sight f
+knows_of t f = sight_knows t.sight f
 
 -- nothing that the teller knew is lost, of places and of histories, nor the parts of the row that
 -- it has
-pub record KnowsMore (t u : Teller) : Type 0 where
+pub record TellerKnowsMore (t u : Teller) : Type 0 where
   pub facts : (f : Fact) → knows_of t f → knows_of u f
   pub fronts : (p : ℕ) (J : List Event) → HasSeen p J t.seat → HasSeen p J u.seat
   pub parts : (view_of u.seat).parts ≡ (view_of t.seat).parts
@@ -119,6 +119,6 @@ pub record IsLeftUnanswered (h : Hub) (t : Teller) (ask : Ask) (u : Teller) : Ty
 pub record HasCalled (h : Hub) (t : Teller) (ask : Ask) (result : Result (Reply
     × Option Place) AllocError) (u : Teller) : Type 0 where
   pub of : IsTellerOf h u
-  pub knows : KnowsMore t u
+  pub knows : TellerKnowsMore t u
   pub call : IfOk result (λ answer. Calls h t ask answer u)
   pub left : OnErr result (IsLeftUnanswered h t ask u)

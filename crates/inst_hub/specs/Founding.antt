@@ -29,5 +29,5 @@ pub record IsSince (key : InitialState) (p : ℕ) (x : Participant) : Type 0 whe
   pub carries : carried x.slot.events ≡ outset_of key p
 
 -- the hub opened so: each history began as this opening says
-abbrev pub HasOpened : Opening → Hub → Type 0
-HasOpened O h = (p : ℕ) → p < participants h.settings → outset_of (key_of h.row) p ≡ beginning O p
+abbrev pub HasOpenedHub : Opening → Hub → Type 0
+HasOpenedHub O h = (p : ℕ) → p < participants h.settings → outset_of (key_of h.row) p ≡ beginning O p

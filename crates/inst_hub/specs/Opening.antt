@@ -7,7 +7,7 @@ use Rattle.inst_hub.specs.declared.initial_state.InitialState.{InitialState}
 use Rattle.inst_board.specs.declared.about.Fact.{Fact}
 use Rattle.inst_cell.specs.declared.sight.Sight.{Sight}
 use Rattle.inst_cell.specs.Held.{AtOneTable}
-use Rattle.inst_cell.specs.Seen.{board_of, sees}
+use Rattle.inst_cell.specs.Seen.{board_of_sight, sight_knows}
 use Rattle.inst_journal.specs.declared.event.Event.{Event}
 use Rattle.inst_row.specs.declared.view.Front.{Front}
 use Rattle.inst_row.specs.View.{front}
@@ -17,8 +17,8 @@ use Rattle.inst_row.specs.declared.row.TheConstants.{MOST_SEATS}
 
 -- what a teller sees with at first: over these words, and it knows of no place
 pub record IsBlank (words : SharedBoard) (t : Sight) : Type 0 where
-  pub one : AtOneTable words (board_of t)
-  pub nothing : (f : Fact) → ¬ sees t f
+  pub one : AtOneTable words (board_of_sight t)
+  pub nothing : (f : Fact) → ¬ sight_knows t f
 
 -- a history for each of n participants, from p on
 abbrev pub fronts_from : (ℕ → List Event) → ℕ → ℕ → List (Front Event)
@@ -42,9 +42,9 @@ AreNew id key fronts tellers =
     (i : ℕ) (t : Teller) → slice_get tellers i ≡ Some t → IsNew id key fronts t
 
 -- the parts of the row that they have
-abbrev pub parts_of : List Teller → ℕ
-parts_of tellers = sum_by (λ t. (view_of t.seat).parts) tellers
+abbrev pub row_parts : List Teller → ℕ
+row_parts tellers = sum_by (λ t. (view_of t.seat).parts) tellers
 
 -- they have all parts of the row
 abbrev pub HaveAllParts : List Teller → Type 0
-HaveAllParts tellers = parts_of tellers ≡ MOST_SEATS
+HaveAllParts tellers = row_parts tellers ≡ MOST_SEATS

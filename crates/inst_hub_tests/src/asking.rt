@@ -1,7 +1,7 @@
 //! What a teller asks a hub, what it is told, and scripts of both.
 ghost use Rattle.std.specs.Prelude.{◌≡◌, [], ◌∷◌};
 ghost use Rattle.inst_hub.specs.Calls.{IsTellerOf, AreOf};
-ghost use Rattle.inst_hub.specs.Opening.{HaveAllParts, parts_of};
+ghost use Rattle.inst_hub.specs.Opening.{HaveAllParts, row_parts};
 
 use crate::comparing::same;
 use inst_base::{Cents, Fault, Ident, Moment};
@@ -127,7 +127,7 @@ pub(crate) fn answer<R: Wait, G: Gate>(
 ) -> Result<(ExpectedCall, Option<Ticket>), Fault>
     requires { IsTellerOf hub.now teller.old }
     ensures of { IsTellerOf hub.now teller.new }
-    ensures parts { parts_of (teller.new ∷ []) ≡ parts_of (teller.old ∷ []) }
+    ensures parts { row_parts (teller.new ∷ []) ≡ row_parts (teller.old ∷ []) }
 {
     let ask = asked(who, deed, at)?;
     if !ask.fits(hub.settings()) {
@@ -146,7 +146,7 @@ pub(crate) fn answer<R: Wait, G: Gate>(
 fn swept<R: Wait>(rt: &R, hub: &Hub, teller: &mut Teller, who: u8, at: u64) -> Result<u32, Fault>
     requires { IsTellerOf hub.now teller.old }
     ensures of { IsTellerOf hub.now teller.new }
-    ensures parts { parts_of (teller.new ∷ []) ≡ parts_of (teller.old ∷ []) }
+    ensures parts { row_parts (teller.new ∷ []) ≡ row_parts (teller.old ∷ []) }
 {
     if !hub.settings().has_participant(who) {
         return Err(Fault::BadField);
@@ -167,7 +167,7 @@ pub(crate) fn play<R: Wait + Abort>(
 ) -> Result<Option<Ticket>, Fault>
     requires { IsTellerOf hub.now teller.old }
     ensures of { IsTellerOf hub.now teller.new }
-    ensures parts { parts_of (teller.new ∷ []) ≡ parts_of (teller.old ∷ []) }
+    ensures parts { row_parts (teller.new ∷ []) ≡ row_parts (teller.old ∷ []) }
 {
     let mut last = None;
     for Line(who, deed, at, wanted) in lines {

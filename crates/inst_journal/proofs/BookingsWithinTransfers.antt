@@ -10,7 +10,7 @@ use Rattle.inst_command.specs.declared.outcome.Outcome.{Outcome}
 use Rattle.inst_journal.specs.declared.event.Event.{Event}
 use Rattle.inst_journal.specs.declared.event.Event.TheVariants.{Funded, Defunded, Taken, Forwarded, Booked, Fetched, Opened}
 use Rattle.inst_journal.specs.Booked.{or_else, takes, is_taken, forwards, books, booked, own_booked, is_forwarding}
-use Rattle.inst_journal.specs.Sums.{if_unbooked}
+use Rattle.inst_journal.specs.Sums.{amount_unbooked}
 use Rattle.inst_journal.specs.Sound.{Fits, IsSound}
 use Rattle.inst_journal.proofs.OneMoreElement.{sum_by_push, first_some_push}
 use Rattle.inst_journal.proofs.Soundness.{sound_induction}
@@ -25,27 +25,27 @@ is_booking _ = false
 
 -- 1 for a transfer of the history with nothing booked
 abbrev open_at : List Event → Event → ℕ
-open_at J (Taken id to cents stamp) = if_unbooked (own_booked id J) 1
-open_at J (Forwarded from id cents deadline) = if_unbooked (booked from id J) 1
+open_at J (Taken id to cents stamp) = amount_unbooked (own_booked id J) 1
+open_at J (Forwarded from id cents deadline) = amount_unbooked (booked from id J) 1
 open_at J (Funded funding) = 0
 open_at J (Defunded funding) = 0
 open_at J (Booked from id outcome) = 0
 open_at J (Fetched count) = 0
 open_at J Opened = 0
 
-unbooked_le : (o : Option Outcome) → if_unbooked o 1 ≤ 1
+unbooked_le : (o : Option Outcome) → amount_unbooked o 1 ≤ 1
 unbooked_le None = omega arith
 unbooked_le (Some outcome) = omega arith
 
-closed_le : (before new : Option Outcome) → if_unbooked (or_else before new) 1 ≤ if_unbooked before 1
+closed_le : (before new : Option Outcome) → amount_unbooked (or_else before new) 1 ≤ amount_unbooked before 1
 closed_le None new = unbooked_le new
 closed_le (Some outcome) new = omega arith
 
 open_push : (s : HubSettings) (who : ℕ) (J : List Event) (new : Event) → IsSound s who J → Fits s who J new → (event : Event) → open_at (J ++ new ∷ []) event ≤ open_at J event
 open_push s who J new sound fits (Taken id to cents stamp) =
-    subst (λ (o : Option Outcome). if_unbooked o 1 ≤ if_unbooked (own_booked id J) 1) (sym (own_push s who J new id sound fits)) (closed_le (own_booked id J) (books who id new))
+    subst (λ (o : Option Outcome). amount_unbooked o 1 ≤ amount_unbooked (own_booked id J) 1) (sym (own_push s who J new id sound fits)) (closed_le (own_booked id J) (books who id new))
 open_push s who J new sound fits (Forwarded from id cents deadline) =
-    subst (λ (o : Option Outcome). if_unbooked o 1 ≤ if_unbooked (booked from id J) 1) (sym (first_some_push (books from id) J new)) (closed_le (booked from id J) (books from id new))
+    subst (λ (o : Option Outcome). amount_unbooked o 1 ≤ amount_unbooked (booked from id J) 1) (sym (first_some_push (books from id) J new)) (closed_le (booked from id J) (books from id new))
 open_push s who J new sound fits (Funded funding) = omega arith
 open_push s who J new sound fits (Defunded funding) = omega arith
 open_push s who J new sound fits (Booked from id outcome) = omega arith
@@ -60,7 +60,7 @@ smaller f g p (x ∷ xs) le less any = elim (or_cases (p x) (list_any p xs) any)
   | inr later ↦ omega (arith, sum_by-cons f x xs, sum_by-cons g x xs, le x, smaller f g p xs le less later)
 ]
 
-closing : (before new : Option Outcome) (outcome : Outcome) → before ≡ None → new ≡ Some outcome → if_unbooked (or_else before new) 1 + 1 ≤ if_unbooked before 1
+closing : (before new : Option Outcome) (outcome : Outcome) → before ≡ None → new ≡ Some outcome → amount_unbooked (or_else before new) 1 + 1 ≤ amount_unbooked before 1
 closing before new outcome none some = rw (none, some) (omega arith)
 
 pub books_itself : (from : ℕ) (id : List ℕ) (outcome : Outcome) → books from id (Booked from id outcome) ≡ Some outcome
@@ -73,7 +73,7 @@ taken_closed s who J id outcome sound fits (Taken other to cents stamp) same =
     let key : other ≡ id = text_same other id (sym same) in
     let nothing : own_booked other J ≡ None = ap (λ i. own_booked i J) key ∙ own_booked-booked s who J id sound ∙ fits.new in
     let new : books who other (Booked who id outcome) ≡ Some outcome = ap (λ i. books who i (Booked who id outcome)) key ∙ books_itself who id outcome in
-    subst (λ (o : Option Outcome). if_unbooked o 1 + 1 ≤ if_unbooked (own_booked other J) 1) (sym (own_push s who J (Booked who id outcome) other sound fits))
+    subst (λ (o : Option Outcome). amount_unbooked o 1 + 1 ≤ amount_unbooked (own_booked other J) 1) (sym (own_push s who J (Booked who id outcome) other sound fits))
     (closing (own_booked other J) (books who other (Booked who id outcome)) outcome nothing new)
 taken_closed s who J id outcome sound fits (Forwarded from other cents deadline) same = absurd (false≢true same)
 taken_closed s who J id outcome sound fits (Funded funding) same = absurd (false≢true same)
@@ -92,7 +92,7 @@ forwarded_closed s who J from id outcome fits (Forwarded other_from other cents 
     let nothing : booked other_from other J ≡ None = ap (λ f. booked f other J) originator ∙ ap (λ i. booked from i J) text ∙ fits.new in
     let new : books other_from other (Booked from id outcome) ≡ Some outcome =
     ap (λ f. books f other (Booked from id outcome)) originator ∙ ap (λ i. books from i (Booked from id outcome)) text ∙ books_itself from id outcome in
-    subst (λ (o : Option Outcome). if_unbooked o 1 + 1 ≤ if_unbooked (booked other_from other J) 1) (sym (first_some_push (books other_from other) J (Booked from id outcome)))
+    subst (λ (o : Option Outcome). amount_unbooked o 1 + 1 ≤ amount_unbooked (booked other_from other J) 1) (sym (first_some_push (books other_from other) J (Booked from id outcome)))
     (closing (booked other_from other J) (books other_from other (Booked from id outcome)) outcome nothing new)
 forwarded_closed s who J from id outcome fits (Taken other to cents stamp) same = absurd (false≢true same)
 forwarded_closed s who J from id outcome fits (Funded funding) same = absurd (false≢true same)

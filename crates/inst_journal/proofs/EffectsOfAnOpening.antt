@@ -11,7 +11,7 @@ use Rattle.inst_journal.specs.Living.{IsLivingWithin, SameMoney, SameKeys, Begin
 use Rattle.inst_journal.specs.Money.{reserved, position}
 use Rattle.inst_journal.specs.Opened.{carried}
 use Rattle.inst_journal.specs.Sound.{IsSound}
-use Rattle.inst_journal.specs.Sums.{funding, defunding, funded, defunded, if_accepted, if_unbooked, credit, debit, reservation, credits, debits}
+use Rattle.inst_journal.specs.Sums.{funding, defunding, funded, defunded, if_accepted, amount_unbooked, credit, debit, reservation, credits, debits}
 use Rattle.inst_journal.proofs.EventsCarriedOverOpening.{carried_opened, current_opened, carried_unbooked}
 use Rattle.inst_journal.proofs.CountsOfEvents.{submissions_within, forwarded_within}
 use Rattle.inst_journal.proofs.OneMoreElement.{list_any_push, sum_by_push, first_some_push, or-false, or_else-none}
@@ -72,7 +72,7 @@ debit_opened J (Fetched count) = refl
 debit_opened J Opened = refl
 
 reservation_opened : (J : List Event) (event : Event) → reservation (J ++ Opened ∷ []) event ≡ reservation J event
-reservation_opened J (Taken id to cents stamp) = ap (λ o. if_unbooked o cents) (own_opened id J)
+reservation_opened J (Taken id to cents stamp) = ap (λ o. amount_unbooked o cents) (own_opened id J)
 reservation_opened J (Funded funding) = refl
 reservation_opened J (Defunded funding) = refl
 reservation_opened J (Forwarded from id cents deadline) = refl

@@ -21,7 +21,7 @@ use Rattle.inst_journal.specs.Booked.{is_taken, is_forwarded, booked}
 use Rattle.inst_journal.specs.Opened.{live_submissions}
 use Rattle.inst_journal.specs.Money.{available}
 use Rattle.inst_journal.specs.Keys.{is_fund_repeat, is_defund_repeat, is_submission_repeat, has_reference, fundings}
-use Rattle.inst_journal.specs.Reply.{is_new_funding, funding, fund, defund, submit, standing, still_pending, answer_forwarded, investigate, unread, hand_out, handle, kept_events, history_after}
+use Rattle.inst_journal.specs.Reply.{is_new_funding, funding, fund, defund, submit, state_reply, still_pending, answer_forwarded, investigate, unread, hand_out, handle, kept_events, history_after}
 use Rattle.inst_journal.specs.Sound.{FitAfter, IsSound}
 use Rattle.inst_journal.proofs.Soundness.{sound_with}
 
@@ -93,7 +93,7 @@ submit_kept s who J at x h =
 standing_kept : (s : HubSettings) (who : ℕ) (J : List Event) (from : ℕ) (id : List ℕ) (pending : Result Handled Fault) (found : Option Outcome)
     → KeptFits s who J pending
     → ((from ≡ who) × (is_taken id J ≡ true)) ⊎ (is_forwarded from id J ≡ true)
-    → (known : Option Outcome) → booked from id J ≡ known → KeptFits s who J (standing from id pending known found)
+    → (known : Option Outcome) → booked from id J ≡ known → KeptFits s who J (state_reply from id pending known found)
 standing_kept s who J from id pending found none party (Some outcome) same = tt
 standing_kept s who J from id pending None none party None same = none
 standing_kept s who J from id pending (Some outcome) none party None same = (record { party = party; new = same }, tt)

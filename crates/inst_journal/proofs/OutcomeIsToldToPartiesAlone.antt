@@ -10,32 +10,32 @@ use Rattle.inst_journal.specs.declared.event.Event.{Event}
 use Rattle.inst_journal.specs.declared.handle.Handled.{Handled}
 use Rattle.inst_journal.specs.Answering.{LeadsTo, TellsTheOutcome, IsToldTheOutcome, IsToldNothing}
 use Rattle.inst_journal.specs.Booked.{booked}
-use Rattle.inst_journal.specs.Reply.{handle, standing, still_pending, told, kept_events}
+use Rattle.inst_journal.specs.Reply.{handle, state_reply, still_pending, reply_result, kept_events}
 
 -- what a command is handled as says where it leads to
 leads : (s : HubSettings) (who : ℕ) (J : List Event) (command : Command) (at : ℕ) (found : Option Outcome) (h : Result Handled Fault)
-    → handle s who J command at found ≡ h → LeadsTo s who J command at found (told h) (J ++ kept_events h)
-leads s who J command at found h same = record { answered = ap told same; leaves = ap (λ r. J ++ kept_events r) same }
+    → handle s who J command at found ≡ h → LeadsTo s who J command at found (reply_result h) (J ++ kept_events h)
+leads s who J command at found h same = record { answered = ap reply_result same; leaves = ap (λ r. J ++ kept_events r) same }
 
 -- what keeps nothing leaves the history
 leads_nowhere : (s : HubSettings) (who : ℕ) (J : List Event) (command : Command) (at : ℕ) (found : Option Outcome) (h : Result Handled Fault)
-    → handle s who J command at found ≡ h → kept_events h ≡ [] → LeadsTo s who J command at found (told h) J
+    → handle s who J command at found ≡ h → kept_events h ≡ [] → LeadsTo s who J command at found (reply_result h) J
 leads_nowhere s who J command at found h same none = record {
-  answered = ap told same;
+  answered = ap reply_result same;
   leaves = ap (λ r. J ++ kept_events r) same ∙ ap (λ events. J ++ events) none ∙ append-nil J;
 }
 
 -- a command that is handled as the transfer stands
 tells : (s : HubSettings) (who : ℕ) (J : List Event) (command : Command) (at from : ℕ) (id : List ℕ) (pending : Result Handled Fault)
-    → ((found : Option Outcome) → handle s who J command at found ≡ standing from id pending (booked from id J) found)
-    → kept_events pending ≡ [] → TellsTheOutcome s who J command at from id (told pending)
+    → ((found : Option Outcome) → handle s who J command at found ≡ state_reply from id pending (booked from id J) found)
+    → kept_events pending ≡ [] → TellsTheOutcome s who J command at from id (reply_result pending)
 tells s who J command at from id pending stands none = record {
   known = λ outcome found is.
-      leads_nowhere s who J command at found _ (stands found ∙ ap (λ known. standing from id pending known found) is) refl;
+      leads_nowhere s who J command at found _ (stands found ∙ ap (λ known. state_reply from id pending known found) is) refl;
   new = λ outcome unknown.
-      leads s who J command at (Some outcome) _ (stands (Some outcome) ∙ ap (λ known. standing from id pending known (Some outcome)) unknown);
+      leads s who J command at (Some outcome) _ (stands (Some outcome) ∙ ap (λ known. state_reply from id pending known (Some outcome)) unknown);
   neither = λ unknown.
-      leads_nowhere s who J command at None _ (stands None ∙ ap (λ known. standing from id pending known None) unknown) none;
+      leads_nowhere s who J command at None _ (stands None ∙ ap (λ known. state_reply from id pending known None) unknown) none;
 }
 
 -- a party is told the outcome

@@ -15,7 +15,7 @@ use Rattle.inst_command.specs.declared.reply.Reply.TheVariants.{Inbox}
 use Rattle.inst_journal.specs.Booked.{is_forwarding}
 use Rattle.inst_journal.specs.Lines.{NextPart}
 use Rattle.inst_journal.specs.Pages.{IsInOrderOfArrival, read_so_far, NextPage}
-use Rattle.inst_journal.specs.Reply.{entry_of, inbox, handed_out, unread, hand_out, told, kept_events}
+use Rattle.inst_journal.specs.Reply.{entry_of, inbox, handed_out, unread, hand_out, reply_result, kept_events}
 use Rattle.inst_journal.specs.Statement.{statement, statement_part}
 use Rattle.inst_journal.proofs.OneMoreElement.{sum_by_push}
 
@@ -45,7 +45,7 @@ in_order_of_arrival J = record {
   others = λ event other. inbox_same J event other;
 }
 
-told_page : (entries : List Entry) → told (hand_out entries) ≡ Ok (Inbox entries)
+told_page : (entries : List Entry) → reply_result (hand_out entries) ≡ Ok (Inbox entries)
 told_page [] = refl
 told_page (entry ∷ entries) = refl
 

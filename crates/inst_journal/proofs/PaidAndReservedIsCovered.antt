@@ -7,7 +7,7 @@ use Rattle.inst_command.specs.declared.outcome.Outcome.TheVariants.{Accepted, Re
 use Rattle.inst_journal.specs.declared.event.Event.{Event}
 use Rattle.inst_journal.specs.declared.event.Event.TheVariants.{Funded, Defunded, Taken, Forwarded, Booked, Fetched, Opened}
 use Rattle.inst_journal.specs.Booked.{or_else, books, booked, own_booked}
-use Rattle.inst_journal.specs.Sums.{funding, defunding, funded, defunded, if_accepted, if_unbooked, credit, debit, reservation, credits, debits}
+use Rattle.inst_journal.specs.Sums.{funding, defunding, funded, defunded, if_accepted, amount_unbooked, credit, debit, reservation, credits, debits}
 use Rattle.inst_journal.specs.Money.{reserved, available}
 use Rattle.inst_journal.specs.Laws.{taking}
 use Rattle.inst_journal.specs.Sound.{Fits, IsSound}
@@ -15,14 +15,14 @@ use Rattle.inst_journal.proofs.OneMoreElement.{sum_by_push, sum_by-both, first_s
 use Rattle.inst_journal.proofs.Soundness.{sound_induction, sound_push}
 use Rattle.inst_journal.proofs.OwnBookings.{own_booked-booked}
 
-accepted_le : (o : Option Outcome) (cents : ℕ) → if_accepted o cents + if_unbooked o cents ≤ cents
+accepted_le : (o : Option Outcome) (cents : ℕ) → if_accepted o cents + amount_unbooked o cents ≤ cents
 accepted_le None cents = omega arith
 accepted_le (Some Accepted) cents = omega arith
 accepted_le (Some (Rejected reason)) cents = omega arith
 accepted_le (Some TimedOut) cents = omega arith
 
 -- a booking takes no more than was reserved
-settled_le : (before new : Option Outcome) (cents : ℕ) → if_accepted (or_else before new) cents + if_unbooked (or_else before new) cents ≤ if_accepted before cents + if_unbooked before cents
+settled_le : (before new : Option Outcome) (cents : ℕ) → if_accepted (or_else before new) cents + amount_unbooked (or_else before new) cents ≤ if_accepted before cents + amount_unbooked before cents
 settled_le None new cents = omega (arith, accepted_le new cents)
 settled_le (Some outcome) new cents = omega arith
 
@@ -39,7 +39,7 @@ own_push s who J event id sound fits =
 
 held_le : (s : HubSettings) (who : ℕ) (J : List Event) (new : Event) → IsSound s who J → Fits s who J new → (event : Event) → debit (J ++ new ∷ []) event + reservation (J ++ new ∷ []) event ≤ debit J event + reservation J event
 held_le s who J new sound fits (Taken id to cents stamp) =
-    subst (λ (o : Option Outcome). if_accepted o cents + if_unbooked o cents ≤ if_accepted (own_booked id J) cents + if_unbooked (own_booked id J) cents)
+    subst (λ (o : Option Outcome). if_accepted o cents + amount_unbooked o cents ≤ if_accepted (own_booked id J) cents + amount_unbooked (own_booked id J) cents)
     (sym (own_push s who J new id sound fits)) (settled_le (own_booked id J) (books who id new) cents)
 held_le s who J new sound fits (Funded funding) = omega arith
 held_le s who J new sound fits (Defunded funding) = omega arith

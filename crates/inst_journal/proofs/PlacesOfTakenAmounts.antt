@@ -7,7 +7,7 @@ use Rattle.inst_command.specs.declared.outcome.Outcome.TheVariants.{Accepted, Re
 use Rattle.inst_journal.specs.declared.event.Event.{Event}
 use Rattle.inst_journal.specs.declared.event.Event.TheVariants.{Funded, Defunded, Taken, Forwarded, Booked, Fetched, Opened}
 use Rattle.inst_journal.specs.Booked.{booked, own_booked}
-use Rattle.inst_journal.specs.Sums.{funded, defunded, credits, debits, debit, reservation, if_accepted, if_unbooked}
+use Rattle.inst_journal.specs.Sums.{funded, defunded, credits, debits, debit, reservation, if_accepted, amount_unbooked}
 use Rattle.inst_journal.specs.Money.{reserved, position}
 use Rattle.inst_journal.specs.Laws.{taking, release, released, IsInOnePlace, IsPlaced, IsWhereItIsBooked}
 use Rattle.inst_journal.specs.Covered.{IsNeverOverdrawn}
@@ -18,7 +18,7 @@ use Rattle.inst_journal.proofs.OwnBookings.{own_booked-booked}
 use Rattle.inst_journal.proofs.OneMoreElement.{sum_by-both}
 use Rattle.std.proofs.lemmas.List.Sums.{sum_by-cons}
 
-pub in_one_place : (o : Option Outcome) (cents : ℕ) → IsOneOf cents (if_unbooked o cents) (if_accepted o cents) (if_released o cents)
+pub in_one_place : (o : Option Outcome) (cents : ℕ) → IsOneOf cents (amount_unbooked o cents) (if_accepted o cents) (if_released o cents)
 in_one_place None cents = record { one = inl refl; only = omega arith }
 in_one_place (Some Accepted) cents = record { one = inr (inl refl); only = omega arith }
 in_one_place (Some (Rejected reason)) cents = record { one = inr (inr refl); only = omega arith }
@@ -64,9 +64,9 @@ all_in_one_place J = record {
       omega (arith, first, second, whole);
 }
 
-placed : (J : List Event) (id : List ℕ) (to cents stamp : ℕ) (o : Option Outcome) → own_booked id J ≡ o → IsPlaced J (Taken id to cents stamp) (if_unbooked o cents) (if_accepted o cents)
+placed : (J : List Event) (id : List ℕ) (to cents stamp : ℕ) (o : Option Outcome) → own_booked id J ≡ o → IsPlaced J (Taken id to cents stamp) (amount_unbooked o cents) (if_accepted o cents)
 placed J id to cents stamp o e = record {
-  reservation_is = ap (λ b. if_unbooked b cents) e;
+  reservation_is = ap (λ b. amount_unbooked b cents) e;
   debit_is = ap (λ b. if_accepted b cents) e;
 }
 

@@ -15,7 +15,7 @@ use Rattle.inst_command.specs.declared.reply.Reply.TheVariants.{Done}
 use Rattle.inst_command.specs.declared.submission.Submission.{Submission}
 use Rattle.inst_journal.specs.Keys.{is_this_fund, is_this_defund, is_this_submission, is_fund_repeat, is_defund_repeat, is_submission_repeat}
 use Rattle.inst_journal.specs.Repeats.{taken_of, taken_reply, IsTheVerySame, IsAnsweredOnly, IsAnsweredAgain}
-use Rattle.inst_journal.specs.Reply.{answered, fund, defund, submit, handle, kept_events, told}
+use Rattle.inst_journal.specs.Reply.{reply_without_event, fund, defund, submit, handle, kept_events, reply_result}
 use Rattle.inst_journal.proofs.TestOfOneThingFindsIt.{found_is_there, there_is_found}
 
 number_itself : (n : ℕ) → (n == n) ≡ true
@@ -90,19 +90,19 @@ the_very_same J = record {
   );
 }
 
-submit_again : (s : HubSettings) (who : ℕ) (J : List Event) (at : ℕ) (x : Submission) → is_submission_repeat x J ≡ true → x.to ≢ who → submit s who J at x ≡ answered (taken_reply s x)
+submit_again : (s : HubSettings) (who : ℕ) (J : List Event) (at : ℕ) (x : Submission) → is_submission_repeat x J ≡ true → x.to ≢ who → submit s who J at x ≡ reply_without_event (taken_reply s x)
 submit_again s who J at x repeat another = rw (ne_eqb x.to who another, repeat) refl
 
-fund_again : (s : HubSettings) (J : List Event) (funding : Funding) → is_fund_repeat funding J ≡ true → fund s J funding ≡ answered (Done funding.reference)
+fund_again : (s : HubSettings) (J : List Event) (funding : Funding) → is_fund_repeat funding J ≡ true → fund s J funding ≡ reply_without_event (Done funding.reference)
 fund_again s J funding repeat = rw repeat refl
 
-defund_again : (s : HubSettings) (J : List Event) (funding : Funding) → is_defund_repeat funding J ≡ true → defund s J funding ≡ answered (Done funding.reference)
+defund_again : (s : HubSettings) (J : List Event) (funding : Funding) → is_defund_repeat funding J ≡ true → defund s J funding ≡ reply_without_event (Done funding.reference)
 defund_again s J funding repeat = rw repeat refl
 
 -- what is answered only is told and leaves the history
-answered_only : (s : HubSettings) (who : ℕ) (J : List Event) (command : Command) (at : ℕ) (found : Option Outcome) (reply : Reply) → handle s who J command at found ≡ answered reply → IsAnsweredOnly s who J command at found reply
+answered_only : (s : HubSettings) (who : ℕ) (J : List Event) (command : Command) (at : ℕ) (found : Option Outcome) (reply : Reply) → handle s who J command at found ≡ reply_without_event reply → IsAnsweredOnly s who J command at found reply
 answered_only s who J command at found reply same = record {
-  answer = ap told same;
+  answer = ap reply_result same;
   kept_nothing = ap (λ h. J ++ kept_events h) same ∙ append-nil J;
 }
 

@@ -16,7 +16,7 @@ use Rattle.inst_journal.specs.Lines.{Lead}
 use Rattle.inst_journal.specs.Money.{position}
 use Rattle.inst_journal.specs.Opened.{carried, current}
 use Rattle.inst_journal.specs.Sound.{Fits, FitAfter, IsSound}
-use Rattle.inst_journal.specs.Statement.{received, paid, accepted, line_of, with_line, lines_after, statement}
+use Rattle.inst_journal.specs.Statement.{received, paid, line_of_accepted, line_of, with_line, lines_after, statement}
 use Rattle.inst_journal.proofs.EventsCarriedOverOpening.{carried_front, current_opened}
 use Rattle.inst_journal.proofs.FirstSome.{first_some-append}
 use Rattle.inst_journal.proofs.KeyOnce.{forwarded_once, taken_once}
@@ -212,10 +212,10 @@ walks s who J whole front number (event ∷ events) all sound fits =
         the_one (forwards from id) coming (received_line number (position K) from id) f front (received_gives number (position K) from id) there (forwarded_once s who from id front sound) in
         let in_all : is_forwarded from id J ≡ true =
         sym (ap (is_forwarded from id) all') ∙ list_any-append (forwards from id) front (Booked from id Accepted ∷ events) ∙ or_left _ _ there in
-        let line : accepted J number (position K) from id ≡ Some (received_line number (position K) from id one.event) =
+        let line : line_of_accepted J number (position K) from id ≡ Some (received_line number (position K) from id one.event) =
         ap (λ b. cond b (first_some f J) (first_some (paid number (position K) id) J)) in_all ∙ of_front f front (Booked from id Accepted ∷ events) J _ all' one.line_is in
         let moves : position front + (0 + credited_by from id Accepted front) ≡ position K + (0 + 0) = position_credited s who front from id Accepted sound fit another in
-        leads_on (position front) (position J) (accepted J number (position K) from id) _ _ _ line (omega (arith, moves, one.amount_is), next (number + 1))
+        leads_on (position front) (position J) (line_of_accepted J number (position K) from id) _ _ _ line (omega (arith, moves, one.amount_is), next (number + 1))
 
     booked_own : (id : List ℕ) → is_taken id front ≡ true → Fits s who front (Booked who id Accepted) → front ++ Booked who id Accepted ∷ events ≡ J
         → ((n : ℕ) → Lead (position (front ++ Booked who id Accepted ∷ [])) (lines_after J (front ++ Booked who id Accepted ∷ []) n events) (position J))
@@ -225,10 +225,10 @@ walks s who J whole front number (event ∷ events) all sound fits =
         let f = λ (e : Event). paid number (position K) id e in
         let one : TheOne (takes id) taking (paid_line number (position K) id) f front =
         the_one (takes id) taking (paid_line number (position K) id) f front (paid_gives number (position K) id) there (taken_once s who id front sound) in
-        let line : accepted J number (position K) who id ≡ Some (paid_line number (position K) id one.event) =
+        let line : line_of_accepted J number (position K) who id ≡ Some (paid_line number (position K) id one.event) =
         ap (λ b. cond b (first_some (received number (position K) who id) J) (first_some f J)) (own_unforwarded s who id J whole) ∙ of_front f front (Booked who id Accepted ∷ events) J _ all' one.line_is in
         let moves : position front + (0 + 0) ≡ position K + (0 + debited_by id Accepted front) = position_debited s who front id Accepted sound fit in
-        leads_on (position front) (position J) (accepted J number (position K) who id) _ _ _ line (omega (arith, moves, one.amount_is), next (number + 1))
+        leads_on (position front) (position J) (line_of_accepted J number (position K) who id) _ _ _ line (omega (arith, moves, one.amount_is), next (number + 1))
 
     at : (event : Event) → Fits s who front event → ((n : ℕ) → Lead (position (front ++ event ∷ [])) (lines_after J (front ++ event ∷ []) n events) (position J)) → front ++ event ∷ events ≡ J
         → Lead (position front) (lines_after J front number (event ∷ events)) (position J)

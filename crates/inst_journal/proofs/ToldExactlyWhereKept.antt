@@ -20,7 +20,7 @@ use Rattle.inst_journal.specs.Keys.{is_fund_repeat, is_defund_repeat, is_submiss
 use Rattle.inst_journal.specs.Money.{available}
 use Rattle.inst_journal.specs.Opened.{live_submissions}
 use Rattle.inst_journal.specs.Repeats.{taken_of, taken_reply, AreToldWhereKept}
-use Rattle.inst_journal.specs.Reply.{answered, keeping, funding, is_new_funding, fund, defund, submit, kept_events, told}
+use Rattle.inst_journal.specs.Reply.{reply_without_event, reply_with_event, funding, is_new_funding, fund, defund, submit, kept_events, reply_result}
 use Rattle.inst_journal.specs.Sound.{Fits, IsSound}
 use Rattle.inst_journal.proofs.OneMoreElement.{all_push}
 use Rattle.inst_journal.proofs.RepeatIsAnsweredAgain.{the_very_same}
@@ -28,7 +28,7 @@ use Rattle.inst_journal.proofs.Soundness.{sound_induction}
 
 -- a command is told this reply exactly where this event is kept or was
 abbrev Tells : List Event → Reply → Event → Result Handled Fault → Type 0
-Tells J reply event h = (told h ≡ Ok reply) ↔ Contains (J ++ kept_events h) event
+Tells J reply event h = (reply_result h ≡ Ok reply) ↔ Contains (J ++ kept_events h) event
 
 either : (J : List Event) (reply : Reply) (event : Event) (b : Bool) (x y : Result Handled Fault) → (b ≡ true → Tells J reply event x) → (b ≡ false → Tells J reply event y) → Tells J reply event (cond b x y)
 either J reply event true x y first second = first refl
@@ -42,10 +42,10 @@ refused J reply event fault nowhere = (
 )
 
 -- the kept reply, where the event is there
-repeated : (J : List Event) (reply : Reply) (event : Event) → Contains J event → Tells J reply event (answered reply)
+repeated : (J : List Event) (reply : Reply) (event : Event) → Contains J event → Tells J reply event (reply_without_event reply)
 repeated J reply event there = (λ e. Contains-append_left J [] event there, λ after. refl)
 
-done_now : (J : List Event) (reply : Reply) (event : Event) → Tells J reply event (keeping event reply)
+done_now : (J : List Event) (reply : Reply) (event : Event) → Tells J reply event (reply_with_event event reply)
 done_now J reply event = (λ e. Contains-push J event, λ after. refl)
 
 -- each taken submission is to another participant

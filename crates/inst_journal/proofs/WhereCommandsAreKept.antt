@@ -18,7 +18,7 @@ use Rattle.inst_journal.specs.Keys.{is_fund_repeat, is_defund_repeat, is_submiss
 use Rattle.inst_journal.specs.Money.{available}
 use Rattle.inst_journal.specs.Opened.{live_submissions}
 use Rattle.inst_journal.specs.Repeats.{taken_of, taken_reply}
-use Rattle.inst_journal.specs.Reply.{answered, keeping, funding, is_new_funding, fund, defund, submit, kept_events}
+use Rattle.inst_journal.specs.Reply.{reply_without_event, reply_with_event, funding, is_new_funding, fund, defund, submit, kept_events}
 use Rattle.inst_journal.specs.Taking.{MayFund, MayDefund, MayTake, IsKeptWhereItMay}
 use Rattle.inst_journal.proofs.TestOfOneThingFindsIt.{there_is_found}
 use Rattle.inst_settings.proofs.CodeTellsNumber.{same_text_refl}
@@ -44,10 +44,10 @@ one_more J event same =
 refused : (J : List Event) (event : Event) (P : Type 0) (fault : Fault) → (P → ⊥) → Keeps J event P (Err fault)
 refused J event P fault never = (λ same. absurd (one_more J event same), λ p. absurd (never p))
 
-told_only : (J : List Event) (event : Event) (P : Type 0) (reply : Reply) → (P → ⊥) → Keeps J event P (answered reply)
+told_only : (J : List Event) (event : Event) (P : Type 0) (reply : Reply) → (P → ⊥) → Keeps J event P (reply_without_event reply)
 told_only J event P reply never = (λ same. absurd (one_more J event same), λ p. absurd (never p))
 
-kept_now : (J : List Event) (event : Event) (P : Type 0) (reply : Reply) → P → Keeps J event P (keeping event reply)
+kept_now : (J : List Event) (event : Event) (P : Type 0) (reply : Reply) → P → Keeps J event P (reply_with_event event reply)
 kept_now J event P reply p = (λ same. p, λ _. refl)
 
 -- a repeat's key is kept

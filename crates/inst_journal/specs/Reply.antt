@@ -39,12 +39,12 @@ use Rattle.inst_journal.specs.Keys.{has_reference, fundings}
 use Rattle.inst_journal.specs.Statement.{statement_part}
 
 -- a reply that leaves no event
-abbrev pub answered : Reply → Result Handled Fault
-answered reply = Ok (record { reply = reply; kept = None })
+abbrev pub reply_without_event : Reply → Result Handled Fault
+reply_without_event reply = Ok (record { reply = reply; kept = None })
 
 -- a reply that leaves an event
-abbrev pub keeping : Event → Reply → Result Handled Fault
-keeping event reply = Ok (record { reply = reply; kept = Some event })
+abbrev pub reply_with_event : Event → Reply → Result Handled Fault
+reply_with_event event reply = Ok (record { reply = reply; kept = Some event })
 
 -- whether a fund or defund command is new, and no repeat, or why it is refused
 abbrev pub is_new_funding : HubSettings → List Event → List ℕ → Bool → Result Bool Fault
@@ -57,50 +57,50 @@ is_new_funding s J reference is_repeat =
 -- a fund or defund command: a refusal, the kept reply, or what is done anew
 abbrev pub funding : List ℕ → Result Handled Fault → Result Bool Fault → Result Handled Fault
 funding reference new (Err fault) = Err fault
-funding reference new (Ok false) = answered (Done reference)
+funding reference new (Ok false) = reply_without_event (Done reference)
 funding reference new (Ok true) = new
 
 abbrev pub fund : HubSettings → List Event → Funding → Result Handled Fault
 fund s J f =
-    funding f.reference (keeping (Funded f) (Done f.reference))
+    funding f.reference (reply_with_event (Funded f) (Done f.reference))
     (is_new_funding s J f.reference (is_fund_repeat f J))
 
 abbrev pub defund : HubSettings → List Event → Funding → Result Handled Fault
 defund s J f =
     funding f.reference (if nat_lt (available J) f.cents then Err Shortage
-    else keeping (Defunded f) (Done f.reference))
+    else reply_with_event (Defunded f) (Done f.reference))
     (is_new_funding s J f.reference (is_defund_repeat f J))
 
 abbrev pub submit : HubSettings → ℕ → List Event → ℕ → Submission → Result Handled Fault
 submit s who J at x =
     let deadline = deadline_of s.limit x.stamp in
     if x.to == who then Err SelfTransfer
-    else (if is_submission_repeat x J then answered (TakenReply x.id deadline)
+    else (if is_submission_repeat x J then reply_without_event (TakenReply x.id deadline)
     else (if is_taken x.id J then Err Duplicate
     else (if is_ahead s.ahead x.stamp at then Err StampAhead
     else (if is_due deadline at then Err Expired
     else (if nat_le s.places (live_submissions who J) then Err Full
     else (if nat_lt (available J) x.cents then Err Shortage
-    else keeping (Taken x.id x.to x.cents x.stamp) (TakenReply x.id deadline)))))))
+    else reply_with_event (Taken x.id x.to x.cents x.stamp) (TakenReply x.id deadline)))))))
 
 -- what a side that has booked this much and finds this much is answered, and what it is while the
 -- transfer is pending
-abbrev pub standing : ℕ → List ℕ → Result Handled Fault → Option Outcome → Option Outcome →
+abbrev pub state_reply : ℕ → List ℕ → Result Handled Fault → Option Outcome → Option Outcome →
     Result Handled Fault
-standing from id pending (Some outcome) found = answered (State from id (Decided outcome))
-standing from id pending None (Some outcome) =
-    keeping (Booked from id outcome) (State from id (Decided outcome))
-standing from id pending None None = pending
+state_reply from id pending (Some outcome) found = reply_without_event (State from id (Decided outcome))
+state_reply from id pending None (Some outcome) =
+    reply_with_event (Booked from id outcome) (State from id (Decided outcome))
+state_reply from id pending None None = pending
 
 -- that a transfer is pending
 abbrev pub still_pending : ℕ → List ℕ → Result Handled Fault
-still_pending from id = answered (State from id Pending)
+still_pending from id = reply_without_event (State from id Pending)
 
 -- an answer of the beneficiary to a transfer that was forwarded to it
 abbrev pub answer_forwarded : List Event → ℕ → List ℕ → Result Handled Fault → Option Outcome →
     Result Handled Fault
 answer_forwarded J from id pending found =
-    if is_forwarded from id J then standing from id pending (booked from id J) found
+    if is_forwarded from id J then state_reply from id pending (booked from id J) found
     else Err UnknownTransfer
 
 -- a confirmation, which comes too late where it leaves the transfer pending: it was read in the
@@ -113,7 +113,7 @@ reject J from id found = answer_forwarded J from id (still_pending from id) foun
 
 abbrev pub investigate : ℕ → List Event → List ℕ → Option Outcome → Result Handled Fault
 investigate who J id found =
-    if is_taken id J then standing who id (still_pending who id) (booked who id J) found
+    if is_taken id J then state_reply who id (still_pending who id) (booked who id J) found
     else Err UnknownTransfer
 
 -- the entry of a forwarded transfer
@@ -137,8 +137,8 @@ unread J = drop (sum_by handed_out J) (inbox J)
 
 -- hands out these entries
 abbrev pub hand_out : List Entry → Result Handled Fault
-hand_out [] = answered (Inbox [])
-hand_out (entry ∷ entries) = keeping (Fetched (length (entry ∷ entries))) (Inbox (entry ∷ entries))
+hand_out [] = reply_without_event (Inbox [])
+hand_out (entry ∷ entries) = reply_with_event (Fetched (length (entry ∷ entries))) (Inbox (entry ∷ entries))
 
 -- what a query is answered; it keeps nothing
 abbrev pub answer_query : List Event → QueryValue → Reply
@@ -156,7 +156,7 @@ handle s who J (Confirm from id) at found = confirm J from id found
 handle s who J (Reject from id reason) at found = reject J from id found
 handle s who J (Investigate id) at found = investigate who J id found
 handle s who J (Fetch max) at found = hand_out (take max (unread J))
-handle s who J (Query query) at found = answered (answer_query J query)
+handle s who J (Query query) at found = reply_without_event (answer_query J query)
 
 -- the events that are kept of a command: one at most
 abbrev pub kept_event : Option Event → List Event
@@ -168,12 +168,12 @@ kept_events (Ok handled) = kept_event handled.kept
 kept_events (Err fault) = []
 
 -- what is replied, or why the command is refused
-abbrev pub told : Result Handled Fault → Result Reply Fault
-told (Ok handled) = Ok handled.reply
-told (Err fault) = Err fault
+abbrev pub reply_result : Result Handled Fault → Result Reply Fault
+reply_result (Ok handled) = Ok handled.reply
+reply_result (Err fault) = Err fault
 
 abbrev pub reply : HubSettings → ℕ → List Event → Command → ℕ → Option Outcome → Result Reply Fault
-reply s who J command at found = told (handle s who J command at found)
+reply s who J command at found = reply_result (handle s who J command at found)
 
 -- the history after the command
 abbrev pub history_after : HubSettings → ℕ → List Event → Command → ℕ → Option Outcome → List Event

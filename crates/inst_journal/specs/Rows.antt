@@ -62,35 +62,35 @@ after who J (asked ∷ rest) =
     after who (history_after settings who J asked.command asked.at asked.found) rest
 
 -- the hub is opened again
-abbrev pub opened : List Event → List Event
-opened J = J ++ Opened ∷ []
+abbrev pub opened_events : List Event → List Event
+opened_events J = J ++ Opened ∷ []
 
 abbrev pub ask : Command → ℕ → Option Outcome → Asked
 ask command at found = record { command = command; at = at; found = found }
 
-abbrev pub fund : List ℕ → ℕ → Asked
-fund reference cents = ask (Fund (record { reference = reference; cents = cents })) 0 None
+abbrev pub asked_fund : List ℕ → ℕ → Asked
+asked_fund reference cents = ask (Fund (record { reference = reference; cents = cents })) 0 None
 
 abbrev pub defund : List ℕ → ℕ → Asked
 defund reference cents = ask (Defund (record { reference = reference; cents = cents })) 0 None
 
 -- a transfer to B, stamped 1000
-abbrev pub submit : List ℕ → ℕ → ℕ → Asked
-submit id cents at = ask (Submit (record { id = id; to = B; cents = cents; stamp = 1000 })) at None
+abbrev pub asked_submit : List ℕ → ℕ → ℕ → Asked
+asked_submit id cents at = ask (Submit (record { id = id; to = B; cents = cents; stamp = 1000 })) at None
 
 -- a submission of more than A has
 abbrev pub too_much : ℕ → List ℕ → ℕ → ℕ → Asked
 too_much to id stamp at =
     ask (Submit (record { id = id; to = to; cents = 99999; stamp = stamp })) at None
 
-abbrev pub investigate : List ℕ → Option Outcome → Asked
-investigate id found = ask (Investigate id) 11000 found
+abbrev pub asked_investigate : List ℕ → Option Outcome → Asked
+asked_investigate id found = ask (Investigate id) 11000 found
 
 abbrev pub fetch : ℕ → Asked
 fetch max = ask (Fetch max) 1500 None
 
-abbrev pub position : Asked
-position = ask (Query AskPosition) 1500 None
+abbrev pub asked_position : Asked
+asked_position = ask (Query AskPosition) 1500 None
 
 abbrev pub statement : Asked
 statement = ask (Query (AskStatement 0 10)) 1500 None
@@ -105,42 +105,42 @@ abbrev pub state : ℕ → List ℕ → StateValue → Result Reply Fault
 state from id value = Ok (State from id value)
 
 abbrev pub money : ℕ → ℕ → ℕ → Result Reply Fault
-money position reserved available = Ok (Position position reserved available)
+money asked_position reserved available = Ok (Position asked_position reserved available)
 
 abbrev pub refused : Fault → Result Reply Fault
 refused fault = Err fault
 
 -- A is funded and has submitted a transfer to B
-abbrev pub submitted : List Event
-submitted = after A [] (fund (codes "F1") 50000 ∷ submit (codes "T1") 20000 1000 ∷ [])
+abbrev pub submitted_events : List Event
+submitted_events = after A [] (asked_fund (codes "F1") 50000 ∷ asked_submit (codes "T1") 20000 1000 ∷ [])
 
 -- and the transfer was accepted, and A has learnt of it
-abbrev pub accepted : List Event
-accepted = after A submitted (investigate (codes "T1") (Some Accepted) ∷ [])
+abbrev pub accepted_events : List Event
+accepted_events = after A submitted_events (asked_investigate (codes "T1") (Some Accepted) ∷ [])
 
 -- the submission and the funding again, and both keys with another amount
 abbrev pub again : List Asked
 again =
-    submit (codes "T1") 20000 99000
-    ∷ submit (codes "T1") 19999 1000
-    ∷ fund (codes "F1") 50000
-    ∷ fund (codes "F1") 49999
+    asked_submit (codes "T1") 20000 99000
+    ∷ asked_submit (codes "T1") 19999 1000
+    ∷ asked_fund (codes "F1") 50000
+    ∷ asked_fund (codes "F1") 49999
     ∷ []
 
 -- both places are taken, and one of the transfers is accepted
 abbrev pub two_places : List Event
-two_places = after A accepted (submit (codes "T2") 100 1000 ∷ [])
+two_places = after A accepted_events (asked_submit (codes "T2") 100 1000 ∷ [])
 
 -- all four fundings are kept
 abbrev pub all_fundings : List Event
 all_fundings =
-    after A [] (fund (codes "F1") 10 ∷ fund (codes "F2") 20 ∷ fund (codes "F3") 30
-    ∷ fund (codes "F4") 40 ∷ [])
+    after A [] (asked_fund (codes "F1") 10 ∷ asked_fund (codes "F2") 20 ∷ asked_fund (codes "F3") 30
+    ∷ asked_fund (codes "F4") 40 ∷ [])
 
 -- three fundings and a defunding are kept
 abbrev pub all_with_a_defunding : List Event
 all_with_a_defunding =
-    after A [] (fund (codes "F1") 10 ∷ fund (codes "F2") 20 ∷ fund (codes "F3") 30
+    after A [] (asked_fund (codes "F1") 10 ∷ asked_fund (codes "F2") 20 ∷ asked_fund (codes "F3") 30
     ∷ defund (codes "D1") 5 ∷ [])
 
 -- what came to B: two transfers of A's, and one of C's between them

@@ -49,8 +49,8 @@ paid number after id _ = None
 
 -- the line of an accepted transfer of the history J, which is forwarded or else the participant's
 -- own
-abbrev pub accepted : List Event → ℕ → ℕ → ℕ → List ℕ → Option Line
-accepted J number after from id =
+abbrev pub line_of_accepted : List Event → ℕ → ℕ → ℕ → List ℕ → Option Line
+line_of_accepted J number after from id =
     if is_forwarded from id J then first_some (received number after from id) J
     else first_some (paid number after id) J
 
@@ -76,7 +76,7 @@ line_of J number after (Defunded funding) =
       cents = funding.cents;
       position = after;
     })
-line_of J number after (Booked from id Accepted) = accepted J number after from id
+line_of J number after (Booked from id Accepted) = line_of_accepted J number after from id
 line_of J number after (Booked from id (Rejected reason)) = None
 line_of J number after (Booked from id TimedOut) = None
 line_of J number after (Taken id to cents stamp) = None

@@ -38,9 +38,9 @@ if_accepted (Some (Rejected reason)) cents = 0
 if_accepted (Some TimedOut) cents = 0
 
 -- the amount where nothing is booked
-abbrev pub if_unbooked : Option Outcome → ℕ → ℕ
-if_unbooked None cents = cents
-if_unbooked (Some outcome) cents = 0
+abbrev pub amount_unbooked : Option Outcome → ℕ → ℕ
+amount_unbooked None cents = cents
+amount_unbooked (Some outcome) cents = 0
 
 -- what a forwarded transfer adds
 abbrev pub credit : List Event → Event → ℕ
@@ -54,7 +54,7 @@ debit J _ = 0
 
 -- what a taken transfer reserves
 abbrev pub reservation : List Event → Event → ℕ
-reservation J (Taken id to cents stamp) = if_unbooked (own_booked id J) cents
+reservation J (Taken id to cents stamp) = amount_unbooked (own_booked id J) cents
 reservation J _ = 0
 
 -- the forwarded transfers that are booked accepted

@@ -6,19 +6,19 @@ ghost use Rattle.inst_command.specs.declared.outcome.Outcome.{Outcome};
 ghost use Rattle.inst_command.specs.declared.outcome.State.{State};
 ghost use Rattle.inst_command.specs.declared.reply.Reply.{Reply};
 ghost use Rattle.inst_journal.specs.declared.event.Event.{Event};
-ghost use Rattle.inst_journal.specs.Rows.{A, B, C, answers, after, opened, fund, defund, submit};
+ghost use Rattle.inst_journal.specs.Rows.{A, B, C, answers, after, opened_events, asked_fund, defund, asked_submit};
 ghost use Rattle.inst_journal.specs.Rows.{too_much};
-ghost use Rattle.inst_journal.specs.Rows.{investigate, fetch, position, statement, done, taken};
+ghost use Rattle.inst_journal.specs.Rows.{asked_investigate, fetch, asked_position, statement, done, taken};
 ghost use Rattle.inst_journal.specs.Rows.{state, money};
-ghost use Rattle.inst_journal.specs.Rows.{refused, submitted, accepted, again, two_places};
+ghost use Rattle.inst_journal.specs.Rows.{refused, submitted_events, accepted_events, again, two_places};
 ghost use Rattle.inst_journal.specs.Rows.{all_fundings};
 ghost use Rattle.inst_journal.specs.Rows.{all_with_a_defunding, arrivals, confirmation, rejection};
 
 /// What is pending at an opening stays reserved after it, and is settled when its outcome is
 /// learnt.
 pub fn carried_over_an_opening()
-    ensures { answers A (opened submitted)
-        (position ∷ investigate (codes "T1") (Some Outcome.Accepted) ∷ position ∷ []) ≡
+    ensures { answers A (opened_events submitted_events)
+        (asked_position ∷ asked_investigate (codes "T1") (Some Outcome.Accepted) ∷ asked_position ∷ []) ≡
         money 50000 20000 30000 ∷ state A (codes "T1") (State.Decided Outcome.Accepted)
         ∷ money 30000 0 30000 ∷ [] }
 {}
@@ -26,28 +26,28 @@ pub fn carried_over_an_opening()
 /// Repeats and duplicates are known over an opening, of what is pending and of what is settled, and
 /// keep nothing.
 pub fn repeat_and_duplicate_over_an_opening()
-    ensures pending { answers A (opened submitted) again ≡
+    ensures pending { answers A (opened_events submitted_events) again ≡
         taken (codes "T1") ∷ refused Fault.Duplicate ∷ done (codes "F1") ∷ refused Fault.Duplicate
         ∷ [] }
-    ensures settled { answers A (opened accepted) again ≡
+    ensures settled { answers A (opened_events accepted_events) again ≡
         taken (codes "T1") ∷ refused Fault.Duplicate ∷ done (codes "F1") ∷ refused Fault.Duplicate
         ∷ [] }
-    ensures keeps_nothing { after A (opened accepted) again ≡ opened accepted }
+    ensures keeps_nothing { after A (opened_events accepted_events) again ≡ opened_events accepted_events }
 {}
 
 /// An opening gives back the place of what is settled and not that of what is pending.
 pub fn places_given_back()
-    ensures before { answers A two_places (submit (codes "T3") 100 1000 ∷ [])
+    ensures before { answers A two_places (asked_submit (codes "T3") 100 1000 ∷ [])
         ≡ refused Fault.Full ∷ [] }
-    ensures after { answers A (opened two_places) (submit (codes "T3") 100 1000
-        ∷ submit (codes "T4") 100 1000 ∷ []) ≡
+    ensures after { answers A (opened_events two_places) (asked_submit (codes "T3") 100 1000
+        ∷ asked_submit (codes "T4") 100 1000 ∷ []) ≡
         taken (codes "T3") ∷ refused Fault.Full ∷ [] }
 {}
 
 /// A statement begins anew at an opening: with the number 1, and from the position of the whole
 /// history.
 pub fn statement_begins_anew()
-    ensures { answers A (opened accepted) (statement ∷ fund (codes "F2") 1000 ∷ statement ∷ []) ≡
+    ensures { answers A (opened_events accepted_events) (statement ∷ asked_fund (codes "F2") 1000 ∷ statement ∷ []) ≡
         Ok (Reply.Statement []) ∷ done (codes "F2")
         ∷ Ok (Reply.Statement (record {
           number = 1;
@@ -62,21 +62,21 @@ pub fn statement_begins_anew()
 /// An outcome that was booked before an opening is answered again after it, whatever is found, and
 /// nothing is kept.
 pub fn outcome_answered_after_an_opening()
-    ensures answer { answers A (opened accepted) (investigate (codes "T1") (Some Outcome.TimedOut)
+    ensures answer { answers A (opened_events accepted_events) (asked_investigate (codes "T1") (Some Outcome.TimedOut)
         ∷ []) ≡
         state A (codes "T1") (State.Decided Outcome.Accepted) ∷ [] }
-    ensures keeps_nothing { after A (opened accepted)
-        (investigate (codes "T1") (Some Outcome.TimedOut) ∷ []) ≡
-        opened accepted }
+    ensures keeps_nothing { after A (opened_events accepted_events)
+        (asked_investigate (codes "T1") (Some Outcome.TimedOut) ∷ []) ≡
+        opened_events accepted_events }
 {}
 
 /// With all fundings used a kept reference with another amount is a duplicate, and the same command
 /// a repeat. An opening gives the fundings back.
 pub fn duplicate_before_full()
-    ensures full { answers A all_fundings (fund (codes "F1") 11 ∷ fund (codes "F1") 10
-        ∷ fund (codes "F5") 50 ∷ []) ≡
+    ensures full { answers A all_fundings (asked_fund (codes "F1") 11 ∷ asked_fund (codes "F1") 10
+        ∷ asked_fund (codes "F5") 50 ∷ []) ≡
         refused Fault.Duplicate ∷ done (codes "F1") ∷ refused Fault.Full ∷ [] }
-    ensures opened { answers A (opened all_fundings) (fund (codes "F5") 50 ∷ [])
+    ensures opened { answers A (opened_events all_fundings) (asked_fund (codes "F5") 50 ∷ [])
         ≡ done (codes "F5") ∷ [] }
 {}
 
@@ -89,7 +89,7 @@ pub fn submission_refused_by_the_first()
         ∷ too_much B (codes "T3") 1000 11000 ∷ too_much B (codes "T3") 1000 10999 ∷ []) ≡
         refused Fault.SelfTransfer ∷ refused Fault.Duplicate ∷ refused Fault.StampAhead
         ∷ refused Fault.Expired ∷ refused Fault.Full ∷ [] }
-    ensures opened { answers A (opened two_places)
+    ensures opened { answers A (opened_events two_places)
         (too_much B (codes "T3") 2000 1000 ∷ too_much B (codes "T3") 1000 10999 ∷ []) ≡
         refused Fault.Shortage ∷ refused Fault.Shortage ∷ [] }
 {}
@@ -99,11 +99,11 @@ pub fn submission_refused_by_the_first()
 /// references together.
 pub fn defunding_refused_by_the_first()
     ensures full { answers A all_with_a_defunding
-        (defund (codes "F1") 99 ∷ defund (codes "F5") 99 ∷ fund (codes "D1") 5 ∷ fund (codes "F5") 1
+        (defund (codes "F1") 99 ∷ defund (codes "F5") 99 ∷ asked_fund (codes "D1") 5 ∷ asked_fund (codes "F5") 1
         ∷ defund (codes "D1") 5 ∷ []) ≡
         refused Fault.Duplicate ∷ refused Fault.Full ∷ refused Fault.Duplicate ∷ refused Fault.Full
         ∷ done (codes "D1") ∷ [] }
-    ensures opened { answers A (opened all_with_a_defunding) (defund (codes "D2") 56
+    ensures opened { answers A (opened_events all_with_a_defunding) (defund (codes "D2") 56
         ∷ defund (codes "D2") 55 ∷ []) ≡
         refused Fault.Shortage ∷ done (codes "D2") ∷ [] }
 {}
@@ -118,7 +118,7 @@ pub fn fetch_in_order_of_arrival()
         ∷ Ok (Reply.Inbox []) ∷ [] }
     ensures kept { after B arrivals (fetch 2 ∷ fetch 2 ∷ fetch 2 ∷ []) ≡
         arrivals ++ Event.Fetched 2 ∷ Event.Fetched 1 ∷ [] }
-    ensures over_an_opening { answers B (opened (after B arrivals (fetch 2 ∷ []))) (fetch 2 ∷ []) ≡
+    ensures over_an_opening { answers B (opened_events (after B arrivals (fetch 2 ∷ []))) (fetch 2 ∷ []) ≡
         Ok (Reply.Inbox (record { from = A; id = codes "T2"; cents = 300; deadline = 11200 } ∷ []))
         ∷ [] }
 {}

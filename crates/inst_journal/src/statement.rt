@@ -4,9 +4,9 @@ ghost use Rattle.inst_base.specs.Fault.{IsUnlessMemory};
 ghost use Rattle.inst_settings.specs.Lawful.{IsSettings};
 ghost use Rattle.inst_journal.specs.Booked.{first_some};
 ghost use Rattle.inst_journal.specs.Money.{position};
-ghost use Rattle.inst_journal.specs.Reply.{answered};
+ghost use Rattle.inst_journal.specs.Reply.{reply_without_event};
 ghost use Rattle.inst_journal.specs.Sound.{IsSound};
-ghost use Rattle.inst_journal.specs.Statement.{received, paid, accepted, line_of, statement};
+ghost use Rattle.inst_journal.specs.Statement.{received, paid, line_of_accepted, line_of, statement};
 ghost use Rattle.inst_journal.specs.Statement.{statement_part};
 
 use crate::booked::is_forwarded;
@@ -90,7 +90,7 @@ fn line_paid(events: &[Event], number: u32, position: u64, id: &Ident) -> Option
 
 /// The line of an accepted transfer of the history.
 fn accepted(events: &[Event], number: u32, position: u64, from: u8, id: &Ident) -> Option<Line>
-    ensures { result ≡ accepted events.now number position from id.now }
+    ensures { result ≡ line_of_accepted events.now number position from id.now }
 {
     if is_forwarded(events, from, id) {
         line_received(events, number, position, from, id)
@@ -221,7 +221,7 @@ pub(crate) fn statement(
     requires lawful { IsSettings settings.now }
     requires sound { IsSound settings.now who events.now }
     ensures { IsUnlessMemory result
-        (answered (Reply.Statement (statement_part events.now skip count))) }
+        (reply_without_event (Reply.Statement (statement_part events.now skip count))) }
 {
     let lines = lines_part(alloc, settings, who, events, skip, count)?;
     let reply = Reply::Statement {

@@ -1,7 +1,7 @@
 //! The plain sums over a history, in cents.
 ghost use Rattle.std.specs.Prelude.{◌≡◌, ◌+◌, ◌*◌, ◌≤◌, length, sum_by, if◌then◌else◌};
 ghost use Rattle.inst_base.specs.declared.cents.TheConstants.{MOST_CENTS};
-ghost use Rattle.inst_journal.specs.Sums.{if_accepted, if_unbooked, funding, defunding, credit};
+ghost use Rattle.inst_journal.specs.Sums.{if_accepted, amount_unbooked, funding, defunding, credit};
 ghost use Rattle.inst_journal.specs.Sums.{debit, reservation};
 ghost use Rattle.inst_journal.specs.Sums.{funded, defunded, credits, debits};
 ghost use Rattle.inst_journal.specs.Booked.{is_forwarding};
@@ -26,7 +26,7 @@ fn if_accepted(outcome: Option<Outcome>, cents: Cents) -> u64
 
 /// The amount where nothing is booked, else 0.
 fn if_unbooked(outcome: Option<Outcome>, cents: Cents) -> u64
-    ensures value { result ≡ if_unbooked outcome cents }
+    ensures value { result ≡ amount_unbooked outcome cents }
     ensures within { result ≤ MOST_CENTS }
 {
     match outcome {

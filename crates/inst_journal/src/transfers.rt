@@ -2,7 +2,7 @@
 ghost use Rattle.std.specs.Prelude.{◌≡◌, true, if◌then◌else◌};
 ghost use Rattle.inst_base.specs.Moment.{is_moment};
 ghost use Rattle.inst_base.specs.TimeLimit.{deadline_of};
-ghost use Rattle.inst_journal.specs.Reply.{submit, standing, still_pending, answer_forwarded};
+ghost use Rattle.inst_journal.specs.Reply.{submit, state_reply, still_pending, answer_forwarded};
 ghost use Rattle.inst_journal.specs.Reply.{confirm, reject, investigate};
 
 use crate::Event;
@@ -93,7 +93,7 @@ pub fn standing(
     known: Option<Outcome>,
     found: Option<Outcome>,
 ) -> Result<Handled, Fault>
-    ensures { result ≡ standing from id pending known found }
+    ensures { result ≡ state_reply from id pending known found }
 {
     let is_new = known.is_none();
     match known.or(found) {

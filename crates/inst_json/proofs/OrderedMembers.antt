@@ -16,7 +16,7 @@ use Rattle.serde_json.specs.Find.{get_member}
 use Rattle.inst_json.proofs.Grammar.{converted-object, member_read, members_over, whole, whole_read}
 use Rattle.serde_json.proofs.Views.{get_member-put, get_member-put_other}
 use Rattle.inst_json.specs.inner.Scalar.{IsScalar, data_of}
-use Rattle.inst_json.specs.inner.Names.{names, place_of}
+use Rattle.inst_json.specs.inner.Names.{names, name_index}
 use Rattle.inst_json.specs.LineFields.{no_fields}
 use Rattle.inst_json.proofs.FieldsOfLineValue.{TellsMembers, TellsObject}
 use Rattle.inst_json.specs.declared.scanning.fields.Field.{Field}
@@ -38,7 +38,7 @@ IsScalar-number s n e = record {
 
 -- ---- names
 
-pub place_of-name : (i : ℕ) → i < 15 → place_of (get_or names i []) ≡ i
+pub place_of-name : (i : ℕ) → i < 15 → name_index (get_or names i []) ≡ i
 place_of-name zero h = refl
 place_of-name (suc zero) h = refl
 place_of-name (suc (suc zero)) h = refl
@@ -70,18 +70,18 @@ found_at p (x ∷ xs) h = found_from p x xs (p x) refl h (found_at p xs)
 -- ---- the fields after one more member
 
 pub tells_put : (fields : List Field) (ms : Members) (k : List ℕ) (d : Data) (field : Field) → length fields ≡ 15 → data_of field ≡ Some d → TellsMembers fields ms
-    → TellsMembers (set fields (place_of k) field) (put k d ms)
-tells_put fields ms k d field len is tells i h = by_place (cases_eq i (place_of k))
+    → TellsMembers (set fields (name_index k) field) (put k d ms)
+tells_put fields ms k d field len is tells i h = by_place (cases_eq i (name_index k))
   where
-    by_place : (i ≡ place_of k) ⊎ (i ≡ place_of k → ⊥) → get_member (get_or names i []) (put k d ms) ≡ data_of (get_or (set fields (place_of k) field) i Missing)
+    by_place : (i ≡ name_index k) ⊎ (i ≡ name_index k → ⊥) → get_member (get_or names i []) (put k d ms) ≡ data_of (get_or (set fields (name_index k) field) i Missing)
     by_place (inl e) =
-        let at : place_of k < 15 = omega (arith, e) in
+        let at : name_index k < 15 = omega (arith, e) in
         let same_name : k ≡ get_or names i [] = (bytes_eq-Decides k _).0 (found_at (bytes_eq k) names at) ∙ ap (λ j. get_or names j []) (sym e) in
         ap (λ q. get_member q (put k d ms)) (sym same_name) ∙ get_member-put k d ms ∙ sym is
-        ∙ ap data_of (sym (ap (λ j. get_or (set fields (place_of k) field) j Missing) e ∙ get_or-set_same fields (place_of k) field Missing (omega arith)))
+        ∙ ap data_of (sym (ap (λ j. get_or (set fields (name_index k) field) j Missing) e ∙ get_or-set_same fields (name_index k) field Missing (omega arith)))
     by_place (inr other) =
-        let differs = λ (e : get_or names i [] ≡ k). other (sym (place_of-name i h) ∙ ap place_of e) in
-        get_member-put_other (get_or names i []) k d ms differs ∙ tells i h ∙ ap data_of (sym (get_or-set_other fields (place_of k) i field Missing other))
+        let differs = λ (e : get_or names i [] ≡ k). other (sym (place_of-name i h) ∙ ap name_index e) in
+        get_member-put_other (get_or names i []) k d ms differs ∙ tells i h ∙ ap data_of (sym (get_or-set_other fields (name_index k) i field Missing other))
 
 -- ---- the tokens of one member
 
@@ -131,7 +131,7 @@ module _ (ts : List Token) (old ls : List Lexeme) (fields : List Field) (k : Lis
   abbrev pub Left : Type 0
   Left = (n : ℕ) × (ms : Members) × (length (punctuate after_value ls) ≤ n)
       × (converted of_json (value 127 ts) ≡ parse_map object (converted (λ js. of_members js ms) (members (value 126) n (punctuate after_value ls))))
-      × TellsMembers (set fields (place_of k) field) ms
+      × TellsMembers (set fields (name_index k) field) ms
 
   pub member_read_on : {Behind : Type 0} → Reading Behind ts old fields → Left
   member_read_on (p, n, ms, may, behind, enough, so_far, tells) =
@@ -148,7 +148,7 @@ module _ (ts : List Token) (old ls : List Lexeme) (fields : List Field) (k : Lis
 
 pub reading_goes_on : {Before Behind : Type 0} (ts : List Token) (old ls : List Lexeme) (fields : List Field) (k : List ℕ) (t : Token) (d : Data) (field : Field)
     → old ≡ token (tok.string k) ∷ colon ∷ token t ∷ comma ∷ ls → IsScalar t d → length fields ≡ 15 → data_of field ≡ Some d
-    → Reading Before ts old fields → Reading Behind ts ls (set fields (place_of k) field)
+    → Reading Before ts old fields → Reading Behind ts ls (set fields (name_index k) field)
 unfolding punctuate
 reading_goes_on ts old ls fields k t d field is scalar len seen reading =
     let left = member_read_on ts old (comma ∷ ls) fields k t d field is scalar refl len seen reading in
@@ -156,7 +156,7 @@ reading_goes_on ts old ls fields k t d field is scalar len seen reading =
 
 pub reading_ends : {Behind : Type 0} (ts : List Token) (old : List Lexeme) (fields : List Field) (k : List ℕ) (t : Token) (d : Data) (field : Field)
     → old ≡ token (tok.string k) ∷ colon ∷ token t ∷ token tok.end_object ∷ [] → IsScalar t d → length fields ≡ 15 → data_of field ≡ Some d
-    → Reading Behind ts old fields → (e : Data) × (whole (value 127 ts) ≡ Some e) × TellsObject (set fields (place_of k) field) e
+    → Reading Behind ts old fields → (e : Data) × (whole (value 127 ts) ≡ Some e) × TellsObject (set fields (name_index k) field) e
 unfolding punctuate
 reading_ends ts old fields k t d field is scalar len seen reading =
     let left = member_read_on ts old (token tok.end_object ∷ []) fields k t d field is scalar refl len seen reading in

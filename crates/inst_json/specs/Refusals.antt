@@ -29,9 +29,9 @@ by_fault (Ok x) = Ok x
 by_fault (Err refusal) = Err refusal.fault
 
 -- what is returned, seen by view, is what is wanted
-abbrev pub Gives : {X Y : Type 0} → (X → Y) → Result X Fault → Result Y Fault → Type 0
-Gives view (Ok x) wanted = Ok (view x) ≡ wanted
-Gives view (Err fault) wanted = Err fault ≡ wanted
+abbrev pub GivesValue : {X Y : Type 0} → (X → Y) → Result X Fault → Result Y Fault → Type 0
+GivesValue view (Ok x) wanted = Ok (view x) ≡ wanted
+GivesValue view (Err fault) wanted = Err fault ≡ wanted
 
 -- what is read of a line is what is wanted, or that memory was refused, whenever that is
 abbrev pub IsReadUnlessMemory : {A : Type 0} → Result A Refusal → Result A Refusal → Type 0

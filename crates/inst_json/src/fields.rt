@@ -2,7 +2,7 @@
 ghost use Rattle.std.specs.Prelude.{◌≡◌, true, IfOk};
 ghost use Rattle.inst_command.specs.Ask.{is_count};
 ghost use Rattle.inst_json.specs.LineFields.{field_value};
-ghost use Rattle.inst_json.specs.Refusals.{Gives};
+ghost use Rattle.inst_json.specs.Refusals.{GivesValue};
 ghost use Rattle.inst_json.specs.Fields.{text_in, whole_in, code_in, reason_in, count_in, place_in};
 ghost use Rattle.inst_json.specs.Fields.{is_there};
 
@@ -14,7 +14,7 @@ use inst_settings::MOST_PLACES;
 /// The text in a field, or `BadField` where there is none.
 #[inline(always)]
 pub fn text(field: Field<'_>) -> Result<&str, Fault>
-    ensures { Gives (λ text. text.now) result (text_in (field_value field.entry)) }
+    ensures { GivesValue (λ text. text.now) result (text_in (field_value field.entry)) }
 {
     match field {
         Field::Text(text) => Ok(text),

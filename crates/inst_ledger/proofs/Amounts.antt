@@ -11,7 +11,7 @@ use Rattle.inst_command.specs.declared.outcome.Outcome.TheVariants.{Accepted, Re
 use Rattle.inst_journal.specs.declared.event.Event.{Event}
 use Rattle.inst_journal.specs.declared.event.Event.TheVariants.{Funded, Defunded, Taken, Forwarded, Booked, Fetched, Opened}
 use Rattle.inst_journal.specs.Booked.{or_else, first_some, takes, is_taken, forwards, is_forwarded, books, booked, own_booked}
-use Rattle.inst_journal.specs.Sums.{if_accepted, if_unbooked, credit, debit, reservation, credits, debits}
+use Rattle.inst_journal.specs.Sums.{if_accepted, amount_unbooked, credit, debit, reservation, credits, debits}
 use Rattle.inst_journal.specs.Keys.{is_this_submission, is_submission_repeat}
 use Rattle.inst_journal.specs.Money.{reserved}
 use Rattle.inst_journal.specs.Sound.{Fits, IsSound}
@@ -22,7 +22,7 @@ use Rattle.inst_journal.proofs.PaidAndReservedIsCovered.{own_push}
 use Rattle.inst_journal.proofs.PlacesOfTakenAmounts.{sum_same}
 use Rattle.inst_ledger.specs.declared.sending.Sending.{Sending}
 use Rattle.inst_ledger.specs.Kept.{sending_of}
-use Rattle.inst_ledger.specs.inner.Kept.{cents_of, is_sending}
+use Rattle.inst_ledger.specs.inner.Kept.{cents_sent, is_sending}
 use Rattle.inst_ledger.proofs.Tables.{sending_absent}
 
 -- an event that books nothing of the participant's own leaves what each taken transfer counts for
@@ -40,7 +40,7 @@ module _ (s : HubSettings) (who : ℕ) (J : List Event) (new : Event) (sound : I
   quiet_debit Opened = refl
 
   quiet_reservation : (event : Event) → reservation (J ++ new ∷ []) event ≡ reservation J event
-  quiet_reservation (Taken id to cents stamp) = ap (λ o. if_unbooked o cents) (quiet_own id)
+  quiet_reservation (Taken id to cents stamp) = ap (λ o. amount_unbooked o cents) (quiet_own id)
   quiet_reservation (Forwarded from id cents deadline) = refl
   quiet_reservation (Funded funding) = refl
   quiet_reservation (Defunded funding) = refl
@@ -111,13 +111,13 @@ untaken_unbooked s who id = sound_induction s who (λ J. is_taken id J ≡ false
 
 -- the amounts of all events that take an identifier are the amount of the first
 abbrev pub at : List ℕ → Event → ℕ
-at id event = cents_of (sending_of id event)
+at id event = cents_sent (sending_of id event)
 
-cents_or : (o p : Option Sending) → (p ≡ None) ⊎ (o ≡ None) → cents_of (or_else o p) ≡ cents_of o + cents_of p
+cents_or : (o p : Option Sending) → (p ≡ None) ⊎ (o ≡ None) → cents_sent (or_else o p) ≡ cents_sent o + cents_sent p
 cents_or o p either = elim either [
   | inl none ↦
-      ap (λ p'. cents_of (or_else o p')) none ∙ ap cents_of (or_else-none o) ∙ sym (add-zero (cents_of o)) ∙ ap (λ p'. cents_of o + cents_of p') (sym none)
-  | inr none ↦ ap (λ o'. cents_of (or_else o' p)) none ∙ omega (arith, ap cents_of none)
+      ap (λ p'. cents_sent (or_else o p')) none ∙ ap cents_sent (or_else-none o) ∙ sym (add-zero (cents_sent o)) ∙ ap (λ p'. cents_sent o + cents_sent p') (sym none)
+  | inr none ↦ ap (λ o'. cents_sent (or_else o' p)) none ∙ omega (arith, ap cents_sent none)
 ]
 
 pub once_new : (s : HubSettings) (who : ℕ) (id : List ℕ) (J : List Event) (event : Event) → Fits s who J event → (sending_of id event ≡ None) ⊎ (first_some (sending_of id) J ≡ None)
@@ -133,11 +133,11 @@ once_new s who id J (Booked from other outcome) fits = inl refl
 once_new s who id J (Fetched count) fits = inl refl
 once_new s who id J Opened fits = inl refl
 
-pub taken_once : (s : HubSettings) (who : ℕ) (id : List ℕ) (J : List Event) → IsSound s who J → sum_by (at id) J ≡ cents_of (first_some (sending_of id) J)
-taken_once s who id = sound_induction s who (λ J. sum_by (at id) J ≡ cents_of (first_some (sending_of id) J)) refl
+pub taken_once : (s : HubSettings) (who : ℕ) (id : List ℕ) (J : List Event) → IsSound s who J → sum_by (at id) J ≡ cents_sent (first_some (sending_of id) J)
+taken_once s who id = sound_induction s who (λ J. sum_by (at id) J ≡ cents_sent (first_some (sending_of id) J)) refl
     (λ J event sound fits before.
     sum_by_push (at id) J event ∙ ap (λ n. n + at id event) before
-    ∙ sym (ap cents_of (first_some_push (sending_of id) J event) ∙ cents_or (first_some (sending_of id) J) (sending_of id event) (once_new s who id J event fits)))
+    ∙ sym (ap cents_sent (first_some_push (sending_of id) J event) ∙ cents_or (first_some (sending_of id) J) (sending_of id event) (once_new s who id J event fits)))
 
 -- a submission is a repeat where the very same is found to be sent
 repeat_or : (x : Submission) (o p : Option Sending) → (p ≡ None) ⊎ (o ≡ None) → (is_sending x o || is_sending x p) ≡ is_sending x (or_else o p)
@@ -205,7 +205,7 @@ module _ (s : HubSettings) (who : ℕ) (J : List Event) (id : List ℕ) (outcome
   own_after : (other : List ℕ) → own_booked other (J ++ new ∷ []) ≡ or_else (own_booked other J) (pick (same_text other id))
   own_after other = own_push s who J new other sound fits ∙ ap (or_else (own_booked other J)) (books_key other)
 
-  reserved_at : (other : List ℕ) (cents : ℕ) (b : Bool) → (b ≡ true → own_booked other J ≡ None) → if_unbooked (own_booked other J) cents ≡ if_unbooked (or_else (own_booked other J) (pick b)) cents + cond b cents 0
+  reserved_at : (other : List ℕ) (cents : ℕ) (b : Bool) → (b ≡ true → own_booked other J ≡ None) → amount_unbooked (own_booked other J) cents ≡ amount_unbooked (or_else (own_booked other J) (pick b)) cents + cond b cents 0
   reserved_at other cents true none = rw (none refl) (omega arith)
   reserved_at other cents false none = rw (or_else-none (own_booked other J)) (omega arith)
 
@@ -219,15 +219,15 @@ module _ (s : HubSettings) (who : ℕ) (J : List Event) (id : List ℕ) (outcome
   at_cond : (other : List ℕ) (to cents stamp : ℕ) → cond (same_text other id) cents 0 ≡ at id (Taken other to cents stamp)
   at_cond other to cents stamp = by (same_text other id)
     where
-      by : (b : Bool) → cond b cents 0 ≡ cents_of (cond b (Some (record { to = to; cents = cents; stamp = stamp })) None)
+      by : (b : Bool) → cond b cents 0 ≡ cents_sent (cond b (Some (record { to = to; cents = cents; stamp = stamp })) None)
       by true = refl
       by false = refl
 
   released : (event : Event) → reservation J event ≡ reservation (J ++ new ∷ []) event + at id event
   released (Taken other to cents stamp) =
       reserved_at other cents (same_text other id) (none_at other)
-      ∙ ap (λ o. if_unbooked o cents + cond (same_text other id) cents 0) (sym (own_after other))
-      ∙ ap (λ n. if_unbooked (own_booked other (J ++ new ∷ [])) cents + n) (at_cond other to cents stamp)
+      ∙ ap (λ o. amount_unbooked o cents + cond (same_text other id) cents 0) (sym (own_after other))
+      ∙ ap (λ n. amount_unbooked (own_booked other (J ++ new ∷ [])) cents + n) (at_cond other to cents stamp)
   released (Funded funding) = refl
   released (Defunded funding) = refl
   released (Forwarded from other cents deadline) = refl
@@ -246,19 +246,19 @@ module _ (s : HubSettings) (who : ℕ) (J : List Event) (id : List ℕ) (outcome
   debited (Fetched count) = omega (arith, accepted_none outcome)
   debited Opened = omega (arith, accepted_none outcome)
 
-  pub own_reserved : reserved J ≡ reserved (J ++ new ∷ []) + cents_of (first_some (sending_of id) J)
+  pub own_reserved : reserved J ≡ reserved (J ++ new ∷ []) + cents_sent (first_some (sending_of id) J)
   own_reserved =
       let pushed : reserved (J ++ new ∷ []) ≡ sum_by (reservation (J ++ new ∷ [])) J + 0 = sum_by_push (reservation (J ++ new ∷ [])) J new in
       let same : reserved J ≡ sum_by (λ e. reservation (J ++ new ∷ []) e + at id e) J = sum_same _ _ J released in
       let both : sum_by (λ e. reservation (J ++ new ∷ []) e + at id e) J ≡ sum_by (reservation (J ++ new ∷ [])) J + sum_by (at id) J = sum_by-both (reservation (J ++ new ∷ [])) (at id) J in
       omega (arith, pushed, same, both, taken_once s who id J sound)
 
-  pub own_debits : debits (J ++ new ∷ []) ≡ debits J + if_accepted (Some outcome) (cents_of (first_some (sending_of id) J))
+  pub own_debits : debits (J ++ new ∷ []) ≡ debits J + if_accepted (Some outcome) (cents_sent (first_some (sending_of id) J))
   own_debits =
       let pushed : debits (J ++ new ∷ []) ≡ sum_by (debit (J ++ new ∷ [])) J + 0 = sum_by_push (debit (J ++ new ∷ [])) J new in
       let same : sum_by (debit (J ++ new ∷ [])) J ≡ sum_by (λ e. debit J e + if_accepted (Some outcome) (at id e)) J = sum_same _ _ J debited in
       let both : sum_by (λ e. debit J e + if_accepted (Some outcome) (at id e)) J ≡ debits J + sum_by (λ e. if_accepted (Some outcome) (at id e)) J = sum_by-both (debit J) (λ e. if_accepted (Some outcome) (at id e)) J in
-      let all : sum_by (λ e. if_accepted (Some outcome) (at id e)) J ≡ if_accepted (Some outcome) (cents_of (first_some (sending_of id) J)) = sum_accepted outcome (at id) J ∙ ap (if_accepted (Some outcome)) (taken_once s who id J sound) in
+      let all : sum_by (λ e. if_accepted (Some outcome) (at id e)) J ≡ if_accepted (Some outcome) (cents_sent (first_some (sending_of id) J)) = sum_accepted outcome (at id) J ∙ ap (if_accepted (Some outcome)) (taken_once s who id J sound) in
       omega (arith, pushed, same, both, all)
 
   uncredited : (xs : List Event) → is_forwarded who id xs ≡ false → sum_by (credit (J ++ new ∷ [])) xs ≡ sum_by (credit J) xs

@@ -10,7 +10,7 @@ use Rattle.inst_journal.specs.declared.handle.Handled.{Handled}
 use Rattle.inst_journal.specs.Reply.{kept_event, kept_events}
 use Rattle.inst_journal.specs.Sound.{Fits, FitAfter, IsSound}
 use Rattle.inst_journal.proofs.WalkOverFronts.{rest_fits}
-use Rattle.inst_ledger.specs.Book.{Book, MayKeep}
+use Rattle.inst_ledger.specs.Book.{LedgerBook, MayKeep}
 
 -- an event of a sound history fits those before it
 pub fits_at_place : (s : HubSettings) (who : ℕ) (J items : List Event) (i : ℕ) (x : Event) → items ≡ J → IsSound s who J → i < length items → x ≡ get_or items i x → Fits s who (take i J) x
@@ -29,12 +29,12 @@ one_more J items i x same below here =
     let there : x ≡ get_or J i x = here ∙ ap (λ l. get_or l i x) same in
     take_more J i x inside ∙ ap (λ y. take i J ++ y ∷ []) (sym there)
 
-first_fits : (book : Book) (kept : Option Event) → FitAfter book.settings book.who book.events (kept_event kept) → MayKeep book kept
+first_fits : (book : LedgerBook) (kept : Option Event) → FitAfter book.settings book.who book.events (kept_event kept) → MayKeep book kept
 first_fits book None fits = tt
 first_fits book (Some event) fits = fits.0
 
 -- what a command keeps fits the book
-pub may_keep : (book : Book) (returned wanted : Result Handled Fault) → IsUnlessMemory returned wanted → FitAfter book.settings book.who book.events (kept_events wanted) → IfOk returned (λ handled. MayKeep book handled.kept)
+pub may_keep : (book : LedgerBook) (returned wanted : Result Handled Fault) → IsUnlessMemory returned wanted → FitAfter book.settings book.who book.events (kept_events wanted) → IfOk returned (λ handled. MayKeep book handled.kept)
 may_keep book (Err fault) wanted is fits = tt
 may_keep book (Ok handled) wanted is fits = first_fits book handled.kept (by is)
   where

@@ -28,7 +28,7 @@ use Rattle.inst_transfers.specs.declared.transfer.Side.{Side}
 use Rattle.inst_transfers.specs.declared.transfer.Side.TheVariants.{Own, Other}
 use Rattle.inst_transfers.specs.declared.transfer.Transfer.{Transfer}
 use Rattle.inst_transfers.specs.State.{State, step, table_after_outcome, booked_in, rows_of}
-use Rattle.inst_transfers.specs.Held.{Held, found_at, state_in, IsFound, IsLookedUp, Covers, CoversSide}
+use Rattle.inst_transfers.specs.Held.{Held, found_at, state_in, IsFound, IsLookedUp, CoversEntry, CoversSide}
 use Rattle.inst_ledger.specs.declared.references.KeptFunding.{KeptFunding}
 use Rattle.inst_ledger.specs.declared.totals.Totals.{Totals}
 use Rattle.inst_ledger.specs.inner.Beside.{funding_event, totals_with}
@@ -36,7 +36,7 @@ use Rattle.inst_ledger.specs.Beside.{funding_of, amount_of, most_of, IsBeside}
 use Rattle.inst_ledger.specs.Book.{BookAndRoom}
 use Rattle.inst_ledger.specs.Inbox.{IsRead}
 use Rattle.inst_ledger.specs.Kept.{sending_of, IsTable}
-use Rattle.inst_ledger.specs.inner.Kept.{cents_of}
+use Rattle.inst_ledger.specs.inner.Kept.{cents_sent}
 use Rattle.inst_ledger.specs.Right.{sending_in, forwarding_in, own_ids, id_of, IsRight}
 use Rattle.inst_ledger.proofs.Amounts.{own_reserved}
 use Rattle.inst_ledger.proofs.ForwardedTransfers.{forwarded_found}
@@ -221,7 +221,7 @@ module _ (s : HubSettings) (who : ℕ) (J : List Event) (t : Totals) (table : He
   own_holds : (id : List ℕ) (outcome : Outcome) (cents to stamp : ℕ) (o : Option Outcome) → Fits s who J (Booked who id outcome) → is_taken id J ≡ true → found_at table.entries (who, id) ≡ Some (record { cents = cents; side = Own to stamp; outcome = o })
       → cents ≤ table.reserved
   own_holds id outcome cents to stamp o fits taken there =
-      let amount : cents ≡ cents_of (first_some (sending_of id) J) = ap cents_of (sym (ap sending_in there) ∙ b.right.taken id) in
+      let amount : cents ≡ cents_sent (first_some (sending_of id) J) = ap cents_sent (sym (ap sending_in there) ∙ b.right.taken id) in
       omega (arith, amount, b.right.reserved, own_reserved s who J id outcome b.sound fits)
 
   own_waits : (from : ℕ) (id : List ℕ) (outcome : Outcome) (cents to stamp : ℕ) (o : Option Outcome) → Fits s who J (Booked from id outcome) → found_at table.entries (from, id) ≡ Some (record { cents = cents; side = Own to stamp; outcome = o })
@@ -232,7 +232,7 @@ module _ (s : HubSettings) (who : ℕ) (J : List Event) (t : Totals) (table : He
       (λ fits' there'. own_holds id outcome cents to stamp o fits' own.1 there') fits there
 
   -- the sums hold what a booking moves
-  pub covers : (f : Found) (outcome : Outcome) → IsFound table f → Fits s who J (Booked f.from f.id outcome) → f.transfer.cents ≤ MOST_CENTS → length J < 2 ^ 64 → Covers (state_in table) f.transfer
+  pub covers : (f : Found) (outcome : Outcome) → IsFound table f → Fits s who J (Booked f.from f.id outcome) → f.transfer.cents ≤ MOST_CENTS → length J < 2 ^ 64 → CoversEntry (state_in table) f.transfer
   covers f outcome found fits most long = by f.transfer.side found.transfer
     where
       by : (side : Side) → found_at table.entries (f.from, f.id) ≡ Some (record { cents = f.transfer.cents; side = side; outcome = f.transfer.outcome }) → CoversSide (state_in table) f.transfer.cents side

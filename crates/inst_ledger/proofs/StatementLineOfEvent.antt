@@ -28,7 +28,7 @@ use Rattle.inst_ledger.specs.Kept.{sending_of, forwarding_of}
 use Rattle.inst_ledger.proofs.LedgerStaysRight.{beside_same, position_small, position_next}
 use Rattle.inst_statement.specs.declared.movement.Movement.{Movement}
 use Rattle.inst_statement.specs.KeptStatement.{Stated, MayAdd, IsStatementOf}
-use Rattle.inst_statement.specs.inner.Movement.{came, sent, accepted, accepted_movement, movement_of}
+use Rattle.inst_statement.specs.inner.Movement.{came, sent, movement_of_accepted, accepted_movement, movement_of}
 use Rattle.inst_statement.proofs.AmountAndTermsInHistory.{not_come}
 use Rattle.inst_statement.proofs.Movements.{map_cond, first_mapped}
 use Rattle.inst_statement.proofs.KeptStatementStaysRight.{stated_same, covers_movement, moved_to, line_added, line_less, number_fits}
@@ -89,12 +89,12 @@ module _ (s : HubSettings) (who : ℕ) (J : List Event) (t : Totals) (table : He
       let found : first_some (sending_of id) J ≡ Some (record { to = to; cents = cents; stamp = stamp }) = sym (b.right.taken id) ∙ ap sending_in at_who in
       let gone : first_some (sent id) J ≡ Some (to, cents) =
       first_mapped (sent id) (sending_of id) (λ (t : Sending). (t.to, t.cents)) (sent_sending id) J ∙ ap (option_map (λ (t : Sending). (t.to, t.cents))) found in
-      ap (λ o. accepted from o (first_some (sent id) J)) none ∙ ap (accepted from None) gone
+      ap (λ o. movement_of_accepted from o (first_some (sent id) J)) none ∙ ap (movement_of_accepted from None) gone
   accepted_by from id cents (Other deadline) old fits there =
       let found : first_some (forwarding_of (from, id)) J ≡ Some (record { cents = cents; deadline = deadline }) = sym (b.right.forwarded (from, id)) ∙ ap forwarding_in there in
       let come : first_some (came from id) J ≡ Some cents =
       first_mapped (came from id) (forwarding_of (from, id)) (λ (f : Forwarding). f.cents) (came_forwarding from id) J ∙ ap (option_map (λ (f : Forwarding). f.cents)) found in
-      ap (λ o. accepted from o (first_some (sent id) J)) come
+      ap (λ o. movement_of_accepted from o (first_some (sent id) J)) come
 
   -- a booking moves what the transfer in the table tells
   pub booking_moves : (from : ℕ) (id : List ℕ) (outcome : Outcome) (t : Transfer) → Fits s who J (Booked from id outcome) → found_at table.entries (from, id) ≡ Some t → movement_of J (Booked from id outcome) ≡ movement_booked from t outcome

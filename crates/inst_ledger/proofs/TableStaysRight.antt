@@ -11,12 +11,12 @@ use Rattle.inst_journal.specs.declared.event.Event.{Event}
 use Rattle.inst_journal.specs.declared.event.Event.TheVariants.{Funded, Defunded, Taken, Forwarded, Booked, Fetched, Opened}
 use Rattle.inst_journal.specs.Booked.{first_some, is_taken, is_forwarded, books, booked, own_booked}
 use Rattle.inst_journal.specs.Opened.{is_opening, carried, takes_live}
-use Rattle.inst_journal.specs.Sums.{if_accepted, if_unbooked, credit, debit, reservation, credits, debits}
+use Rattle.inst_journal.specs.Sums.{if_accepted, amount_unbooked, credit, debit, reservation, credits, debits}
 use Rattle.inst_journal.specs.Sound.{Fits, IsSound}
 use Rattle.inst_journal.proofs.OwnBookings.{own_unforwarded, own_booked-booked}
 use Rattle.inst_journal.proofs.Soundness.{sound_induction}
 use Rattle.inst_ledger.specs.Kept.{sending_of, forwarding_of}
-use Rattle.inst_ledger.specs.inner.Kept.{cents_of, credit_of, outcome_in_event}
+use Rattle.inst_ledger.specs.inner.Kept.{cents_sent, credit_of, outcome_in_event}
 use Rattle.inst_ledger.proofs.Amounts.{quiet_own, quiet_debits, quiet_reserved, quiet_booked, quiet_credits, untaken_unbooked, own_reserved, own_debits, own_credits}
 use Rattle.inst_ledger.proofs.ForwardedTransfers.{key_is, forwarding_absent, unforwarded_unbooked, forwarded_found, booked_credits}
 use Rattle.inst_ledger.proofs.NewSubmissionIsLive.{new_lives}
@@ -88,7 +88,7 @@ module _ (s : HubSettings) (who : ℕ) (J : List Event) (st : State) (sound : Is
             ∙ table_keep outcome_in_event J new (λ key. outcome_in (st.found key)) is.booked (λ _. refl) q;
         rows = ap (λ (l : List Entry). l ++ record { from = who; id = id; cents = cents; deadline = stamp } ∷ []) is.rows ∙ sym (rows_push who J new);
         own = ap (λ (l : List (List ℕ)). l ++ id ∷ []) is.own ∙ sym (own_more who J id to cents stamp (new_lives s who J id to cents stamp sound fits.new));
-        reserved = omega (arith, is.reserved, quiet_reserved s who J new sound fits (λ _. refl), ap (λ o. if_unbooked o cents) nothing_own);
+        reserved = omega (arith, is.reserved, quiet_reserved s who J new sound fits (λ _. refl), ap (λ o. amount_unbooked o cents) nothing_own);
         credits = omega (arith, is.credits, quiet_credits J new (λ _ _. refl));
         debits = omega (arith, is.debits, quiet_debits s who J new sound fits (λ _. refl), ap (λ o. if_accepted o cents) nothing_own);
       }
@@ -137,7 +137,7 @@ module _ (s : HubSettings) (who : ℕ) (J : List Event) (st : State) (sound : Is
       let new : Event = Booked who id outcome in
       let t : Transfer = record { cents = cents; side = Own to stamp; outcome = o } in
       let x : Transfer = with_outcome t outcome in
-      let amount : cents ≡ cents_of (first_some (sending_of id) J) = ap cents_of (sym (ap sending_in there) ∙ is.taken id) in
+      let amount : cents ≡ cents_sent (first_some (sending_of id) J) = ap cents_sent (sym (ap sending_in there) ∙ is.taken id) in
       record {
         taken = λ q. same_in sending_in (same_key (who, id) (who, q)) x (st.found (who, q)) (λ same. sym (ap sending_in (at_key st.found (who, id) (who, q) same ∙ there)))
             ∙ table_keep sending_of J new (λ id. sending_in (st.found (who, id))) is.taken (λ _. refl) q;

@@ -12,25 +12,25 @@ use Rattle.inst_command.specs.declared.reply.Reply.TheVariants.{Taken as TakenRe
 use Rattle.inst_command.specs.declared.submission.Submission.{Submission}
 use Rattle.inst_journal.specs.declared.handle.Handled.{Handled}
 use Rattle.inst_transfers.specs.Held.{Held}
-use Rattle.inst_journal.specs.Reply.{handle, answered, keeping}
+use Rattle.inst_journal.specs.Reply.{handle, reply_without_event, reply_with_event}
 use Rattle.inst_journal.specs.Sound.{Fits}
 use Rattle.inst_journal.specs.declared.event.Event.TheVariants.{Funded, Defunded, Taken, Forwarded}
 use Rattle.inst_journal.specs.declared.event.Event.TheVariants.{Booked, Fetched, Opened}
 
 -- a participant's history, with whose it is and of which hub
-pub record Book : Type 0 where
+pub record LedgerBook : Type 0 where
   pub settings : HubSettings
   pub who : ℕ
   pub events : List Event
 
 -- with the table of its transfers
 pub record BookAndRoom : Type 0 where
-  pub book : Book
+  pub book : LedgerBook
   pub table : Held
   pub room : ℕ
 
-abbrev pub with_event : Book → Event → Book
-with_event book event = record book { events = book.events ++ event ∷ [] }
+abbrev pub ledger_with_event : LedgerBook → Event → LedgerBook
+ledger_with_event book event = record book { events = book.events ++ event ∷ [] }
 
 -- whether the event brings a new key: a reference, or a transfer
 abbrev pub brings_key : Event → Bool
@@ -43,7 +43,7 @@ brings_key (Fetched count) = false
 brings_key Opened = false
 
 -- what the participant is answered on its book, and what the book is to keep of it
-abbrev pub answer_to : Book → Command → ℕ → Option Outcome → Result Handled Fault
+abbrev pub answer_to : LedgerBook → Command → ℕ → Option Outcome → Result Handled Fault
 answer_to book command at found = handle book.settings book.who book.events command at found
 
 -- that a submission is taken
@@ -54,11 +54,11 @@ submission_event x = Taken x.id x.to x.cents x.stamp
 -- or new
 abbrev pub submission_result : HubSettings → Submission → Result Bool Fault → Result Handled Fault
 submission_result s x (Err fault) = Err fault
-submission_result s x (Ok false) = answered (TakenReply x.id (deadline_of s.limit x.stamp))
+submission_result s x (Ok false) = reply_without_event (TakenReply x.id (deadline_of s.limit x.stamp))
 submission_result s x (Ok true) =
-    keeping (submission_event x) (TakenReply x.id (deadline_of s.limit x.stamp))
+    reply_with_event (submission_event x) (TakenReply x.id (deadline_of s.limit x.stamp))
 
 -- the event, if any, fits the book
-abbrev pub MayKeep : Book → Option Event → Type 0
+abbrev pub MayKeep : LedgerBook → Option Event → Type 0
 MayKeep book None = Unit {0}
 MayKeep book (Some event) = Fits book.settings book.who book.events event

@@ -21,7 +21,7 @@ use Rattle.inst_lines.specs.declared.mode.Mode.{Mode}
 use Rattle.inst_lines.specs.declared.mode.Mode.TheVariants.{Run, Play}
 use Rattle.inst_agenda.specs.declared.runner.Runner.{Runner}
 use Rattle.inst_lines.specs.Answers.{is_too_long, reply_to, is_refused, AnswersLine}
-use Rattle.inst_lines.specs.Answering.{HubPast, Keeps, opened, hub_answerer, answer_text, too_long_text, is_refusal, line_answer, after_line}
+use Rattle.inst_lines.specs.Answering.{HubPast, IsRunnerAt, new_past, hub_answerer, answer_text, too_long_text, is_refusal, line_answer, after_line}
 use Rattle.inst_lines.specs.Answering.{command_answer, after_command, script_answer, after_script}
 use Rattle.inst_lines.specs.inner.Answering.{any_line_answer, after_any_line, RepliesToLine, RepliesToRead}
 use Rattle.inst_agenda.specs.FollowUps.{followed_up}
@@ -32,15 +32,15 @@ use Rattle.inst_lines.specs.Limits.{most_line_bytes}
 use Rattle.inst_base.specs.Newline.{newline}
 
 -- a line that is read whole is answered as one of any length
-whole : (mode : Mode) (old new : Runner) (line : List ℕ) (answer : Answer) → length line ≤ most_line_bytes → ((past : HubPast) → Keeps mode past old → answer ≡ line_answer mode past line)
-    → ((past : HubPast) → Keeps mode past old → Keeps mode (after_line mode past line) new) → world_settings new.world ≡ world_settings old.world → answer_can_be_written (world_settings old.world) answer ≡ true
+whole : (mode : Mode) (old new : Runner) (line : List ℕ) (answer : Answer) → length line ≤ most_line_bytes → ((past : HubPast) → IsRunnerAt mode past old → answer ≡ line_answer mode past line)
+    → ((past : HubPast) → IsRunnerAt mode past old → IsRunnerAt mode (after_line mode past line) new) → world_settings new.world ≡ world_settings old.world → answer_can_be_written (world_settings old.world) answer ≡ true
     → RepliesToLine mode false line old new answer
 whole mode old new line answer short told after same can =
     let fits : is_too_long line ≡ false = le-ltb most_line_bytes (length line) short in
     record {
       told = λ past of front none. told past of ∙ sym (ap (λ b. cond b (Reply (Refused LineTooLong)) (line_answer mode past line)) fits) ∙ sym (ap (λ f. any_line_answer mode past (f ++ line)) none);
       after = λ past of front none.
-          subst (λ (p : HubPast). Keeps mode p new) (sym (ap (λ b. cond b past (after_line mode past line)) fits) ∙ sym (ap (λ f. after_any_line mode past (f ++ line)) none)) (after past of);
+          subst (λ (p : HubPast). IsRunnerAt mode p new) (sym (ap (λ b. cond b past (after_line mode past line)) fits) ∙ sym (ap (λ f. after_any_line mode past (f ++ line)) none)) (after past of);
       same_settings = same;
       can_be_written = can;
     }
@@ -52,7 +52,7 @@ unfolding line_answer after_line
 command_whole old new line answer short r =
     whole Run old new line answer short
     (λ past of. r.told past of ∙ ap (λ s. command_answer past (command_of_line s line)) of.settings_are)
-    (λ past of. subst (λ (p : HubPast). Keeps Run p new) (ap (λ s. after_command past (command_of_line s line)) of.settings_are) (r.after past of))
+    (λ past of. subst (λ (p : HubPast). IsRunnerAt Run p new) (ap (λ s. after_command past (command_of_line s line)) of.settings_are) (r.after past of))
     r.same_settings r.can_be_written
 
 pub script_whole : (old new : Runner) (line : List ℕ) (answer : Answer) → length line ≤ most_line_bytes
@@ -62,10 +62,10 @@ unfolding line_answer after_line
 script_whole old new line answer short r =
     whole Play old new line answer short
     (λ past of. r.told past of ∙ ap (λ s. script_answer past (step_of_line s line)) of.settings_are)
-    (λ past of. subst (λ (p : HubPast). Keeps Play p new) (ap (λ s. after_script past (step_of_line s line)) of.settings_are) (r.after past of))
+    (λ past of. subst (λ (p : HubPast). IsRunnerAt Play p new) (ap (λ s. after_script past (step_of_line s line)) of.settings_are) (r.after past of))
     r.same_settings r.can_be_written
 
-settings_kept : (mode : Mode) (past : HubPast) (runner : Runner) → Keeps mode past runner → world_settings runner.world ≡ past.settings
+settings_kept : (mode : Mode) (past : HubPast) (runner : Runner) → IsRunnerAt mode past runner → world_settings runner.world ≡ past.settings
 settings_kept Run past runner of = of.settings_are
 settings_kept Play past runner of = of.settings_are
 
@@ -86,7 +86,7 @@ refusal_of mode past line =
 
 -- the answer to a line, appended, answers the line
 pub answers_line : (mode : Mode) (is_long : Bool) (part : List ℕ) (old new : Runner) (answer : Answer) (out out' : List ℕ) (refused : Bool) → RepliesToLine mode is_long part old new answer
-    → out' ≡ out ++ (compact_text (answer_data (world_settings new.world) answer) ++ newline ∷ []) → refused ≡ is_refusal answer → AnswersLine (hub_answerer mode) (Keeps mode) is_long part old new out out' refused
+    → out' ≡ out ++ (compact_text (answer_data (world_settings new.world) answer) ++ newline ∷ []) → refused ≡ is_refusal answer → AnswersLine (hub_answerer mode) (IsRunnerAt mode) is_long part old new out out' refused
 answers_line mode is_long part old new answer out out' refused replies appended refusal = record {
   reply = λ past of front is_front.
       let line : List ℕ = front ++ part in
@@ -122,7 +122,7 @@ pub refused_read : {X : Type 0} (mode : Mode) (old : Runner) (fault : Fault) (va
     → RepliesToRead mode old old answer (λ past. answered past value) (λ past. left past value)
 refused_read mode old fault value answered left answer refuses leaves is told = record {
   told = λ past of. told ∙ sym (refuses past) ∙ ap (answered past) (sym is);
-  after = λ past of. subst (λ (p : HubPast). Keeps mode p old) (sym (leaves past) ∙ ap (left past) (sym is)) of;
+  after = λ past of. subst (λ (p : HubPast). IsRunnerAt mode p old) (sym (leaves past) ∙ ap (left past) (sym is)) of;
   same_settings = refl;
   can_be_written = rw told refl;
 }
@@ -164,6 +164,6 @@ script_answered old new step value (Ok answer) is runs can same = script_read ol
 script_answered old new step value (Err fault) is runs can same = tt
 
 -- a runner of a hub that has just opened for the first time
-pub keeps_opened : (s : HubSettings) (runner : Runner) → world_settings runner.world ≡ s → Watches First [] runner.world runner.agenda → (mode : Mode) → Keeps mode (opened s) runner
+pub keeps_opened : (s : HubSettings) (runner : Runner) → world_settings runner.world ≡ s → Watches First [] runner.world runner.agenda → (mode : Mode) → IsRunnerAt mode (new_past s) runner
 keeps_opened s runner settings watches Run = record { settings_are = settings; watches = watches }
 keeps_opened s runner settings watches Play = record { settings_are = settings; ran = watches.ran }

@@ -33,7 +33,7 @@ use Rattle.inst_journal.specs.Keys.{is_submission_repeat}
 use Rattle.inst_journal.specs.Lines.{IsOf}
 use Rattle.inst_journal.specs.Money.{available}
 use Rattle.inst_journal.specs.Opened.{live_submissions}
-use Rattle.inst_journal.specs.Reply.{told, reply, is_new_funding, funding, submit, standing, inbox, unread, hand_out, handed_out}
+use Rattle.inst_journal.specs.Reply.{reply_result, reply, is_new_funding, funding, submit, state_reply, inbox, unread, hand_out, handed_out}
 use Rattle.inst_journal.specs.Sound.{IsSound}
 use Rattle.inst_journal.specs.Statement.{statement}
 use Rattle.inst_journal.proofs.StatementLeadsToPosition.{count_from_one}
@@ -49,7 +49,7 @@ use Rattle.inst_world.specs.HasRun.{IsOfModel}
 use Rattle.inst_world.proofs.NumbersOfStatementLines.{names, all_named, statement_short}
 
 abbrev CanBeTold : HubSettings → Result Handled Fault → Type 0
-CanBeTold s h = reply_can_be_written s (as_reply (told h)) ≡ true
+CanBeTold s h = reply_can_be_written s (as_reply (reply_result h)) ≡ true
 
 -- of one of two, chosen by a test
 chosen : (s : HubSettings) (b : Bool) (x y : Result Handled Fault) → CanBeTold s x → CanBeTold s y → CanBeTold s (cond b x y)
@@ -67,7 +67,7 @@ submit_told s t who J at x =
     (chosen t (is_ahead s.ahead x.stamp at) _ _ refl (chosen t (is_due (deadline_of s.limit x.stamp) at) _ _ refl
     (chosen t (nat_le s.places (live_submissions who J)) _ _ refl (chosen t (nat_lt (available J) x.cents) _ _ refl refl))))))
 
-standing_told : (s : HubSettings) (from : ℕ) (id : List ℕ) (pending : Result Handled Fault) (before found : Option Outcome) → is_participant s from ≡ true → CanBeTold s pending → CanBeTold s (standing from id pending before found)
+standing_told : (s : HubSettings) (from : ℕ) (id : List ℕ) (pending : Result Handled Fault) (before found : Option Outcome) → is_participant s from ≡ true → CanBeTold s pending → CanBeTold s (state_reply from id pending before found)
 standing_told s from id pending (Some o) found is can = rw is refl
 standing_told s from id pending None (Some o) is can = rw is refl
 standing_told s from id pending None None is can = can
@@ -148,9 +148,9 @@ answer_written s O L (Deliver from index to) lawful opening steps fits = refl
 answer_written s O L (Learn who from index) lawful opening steps fits = refl
 answer_written s O L (Expire who index at) lawful opening steps fits = refl
 
-pub model_written : (s : HubSettings) (step : Step) (told : Answer) → step_fits s step ≡ true → IsOfModel s step told → answer_can_be_written s told ≡ true
-model_written s step told fits of = ap (answer_can_be_written s) of.answer_is ∙ answer_written s of.opening of.steps step of.lawful of.is_opening of.is_interleaving fits
+pub model_written : (s : HubSettings) (step : Step) (told : Answer) → step_fits s step ≡ true → IsOfModel s step reply_result → answer_can_be_written s reply_result ≡ true
+model_written s step reply_result fits of = ap (answer_can_be_written s) of.answer_is ∙ answer_written s of.opening of.steps step of.lawful of.is_opening of.is_interleaving fits
 
-pub result_written : (s : HubSettings) (step : Step) (result : Result Answer AllocError) → step_fits s step ≡ true → IfOk result (IsOfModel s step) → IfOk result (λ told. answer_can_be_written s told ≡ true)
-result_written s step (Ok told) fits of = model_written s step told fits of
+pub result_written : (s : HubSettings) (step : Step) (result : Result Answer AllocError) → step_fits s step ≡ true → IfOk result (IsOfModel s step) → IfOk result (λ reply_result. answer_can_be_written s reply_result ≡ true)
+result_written s step (Ok reply_result) fits of = model_written s step reply_result fits of
 result_written s step (Err fault) fits of = tt

@@ -14,7 +14,7 @@ use Rattle.inst_lines.specs.Answers.{Answerer, AnswersLine, MakesRoom, state_aft
 use Rattle.inst_lines.specs.LineBuffer.{unanswered_bytes, Fills, FillFails}
 use Rattle.inst_base.specs.Handing.{WritesPart, WritesFirst}
 use Rattle.inst_lines.specs.Progress.{Progress, Stopped, Finished}
-use Rattle.inst_lines.specs.Session.{Reached, IsAnswered, IsReadyToRead, Finishes, Leaves, Turns, Ends, Fails}
+use Rattle.inst_lines.specs.Session.{Reached, IsAnswered, IsReadyToRead, Finishes, Leaves, Turns, EndsInput, FailsRun}
 use Rattle.inst_lines.specs.inner.Session.{TakesLine, Advances, Stops, AnsweredAll, AnswersLast, IsNoReadFault}
 use Rattle.inst_base.proofs.Streams.{writes-none}
 use Rattle.inst_lines.proofs.ProgressOfRunSteps.{progress-read, progress-line, progress-last, progress-write, progress-stop, progress-end, progress-room, progress-full, progress-cut}
@@ -193,7 +193,7 @@ module _ {S W : Type 0} (a : Answerer S) (holds : S → W → Type 0) where
         limit = λ full. let idle : _ × _ = o.limit (ap (λ (k : Counts). k.lines) (sym same_counts) ∙ full) in (f.is_long_is ∙ idle.0, same ∙ idle.1);
       }
 
-  pub turn-fill_fails : (old : Session) (s : W) (now left left' : Option (List ℕ)) → IsReadyToRead old → FillFails old.input left left' → Fails a holds old s now now left left' ReadFault
+  pub turn-fill_fails : (old : Session) (s : W) (now left left' : Option (List ℕ)) → IsReadyToRead old → FillFails old.input left left' → FailsRun a holds old s now now left left' ReadFault
   turn-fill_fails old s now left left' ready f = record {
     read = f.past;
     consumes = f.consumes;
@@ -213,7 +213,7 @@ module _ {S W : Type 0} (a : Answerer S) (holds : S → W → Type 0) where
 
   pub turn-stops : (old middle : Session) (s : W) (now now' left left' : Option (List ℕ)) (n : ℕ) (fault : Fault)
       → middle.replies ≡ old.replies → middle.counts ≡ old.counts → Fills old.input middle.input n left left'
-      → Stops a holds middle s now now' → IsNoReadFault fault → Fails a holds old s now now' left left' fault
+      → Stops a holds middle s now now' → IsNoReadFault fault → FailsRun a holds old s now now' left left' fault
   turn-stops old middle s now now' left left' n fault same_replies same_counts f stop no_read = record {
     read = f.read;
     consumes = f.consumes;
@@ -230,7 +230,7 @@ module _ {S W : Type 0} (a : Answerer S) (holds : S → W → Type 0) where
 
   pub turn-ends : (old middle : Session) (counts : Counts) (s s' : W) (now now' left left' : Option (List ℕ)) (n : ℕ)
       → middle.replies ≡ old.replies → middle.counts ≡ old.counts → Fills old.input middle.input n left left' → n ≡ 0
-      → Finishes a holds middle s now counts s' now' → Ends a holds old s now counts s' now' left left'
+      → Finishes a holds middle s now counts s' now' → EndsInput a holds old s now counts s' now' left left'
   turn-ends old middle counts s s' now now' left left' n same_replies same_counts f none e =
       let empty : f.read ≡ [] = nil_read n f.read f.length_is none in
       record {
@@ -259,7 +259,7 @@ module _ {S W : Type 0} (a : Answerer S) (holds : S → W → Type 0) where
       → Advances a holds middle s now answered s' now' → new.input ≡ answered.input → new.counts ≡ answered.counts
       → WritesFirst now' now'' answered.replies.bytes.items new.replies.bytes.items → new.replies.bytes.items ≡ []
       → new.counts.lines ≡ most_lines
-      → Fails a holds old s now now'' left left' ReadFault
+      → FailsRun a holds old s now now'' left left' ReadFault
   turn-full old middle answered new s s' now now' now'' left left' n same_replies same_counts f d same_input same_counts' w none full = record {
     read = f.read;
     consumes = f.consumes;

@@ -10,7 +10,7 @@ use Rattle.inst_lines.specs.Limits.{most_bytes, most_lines}
 use Rattle.inst_lines.specs.Answers.{Answerer, output, state_after, refusals}
 use Rattle.inst_lines.specs.LineBuffer.{unanswered_bytes}
 use Rattle.inst_lines.specs.Progress.{Progress, Finished}
-use Rattle.inst_lines.specs.Session.{Reached, IsReadyToRead, Turns, Ends, Fails, FailsAfter}
+use Rattle.inst_lines.specs.Session.{Reached, IsReadyToRead, Turns, EndsInput, FailsRun, FailsAfter}
 use Rattle.inst_base.proofs.Streams.{Consumes-append, Consumes-keeps, Keeps-same}
 use Rattle.inst_lines.proofs.ProgressOfRunSteps.{progress-start}
 
@@ -65,7 +65,7 @@ module _ {S W : Type 0} (a : Answerer S) (holds : S → W → Type 0) (start : S
     reached = t.reaches start before r.bytes r.reached;
   }
 
-  pub runs-end : (old : Session) (counts : Counts) (s s' : W) (now now' left' left'' : Option (List ℕ)) → Reads a holds start before left old s now left' → Ends a holds old s now counts s' now' left' left'' → Done a holds start before left counts s' now' left''
+  pub runs-end : (old : Session) (counts : Counts) (s s' : W) (now now' left' left'' : Option (List ℕ)) → Reads a holds start before left old s now left' → EndsInput a holds old s now counts s' now' left' left'' → Done a holds start before left counts s' now' left''
   runs-end old counts s s' now now' left' left'' r e =
       let all : Consumes left left'' r.bytes = subst (λ (t : List ℕ). Consumes left left'' t) (append-nil r.bytes) (Consumes-append left left' left'' r.bytes [] r.consumes e.consumes) in
       let ended = e.finishes.finishes start before r.bytes r.reached in
@@ -82,7 +82,7 @@ module _ {S W : Type 0} (a : Answerer S) (holds : S → W → Type 0) (start : S
         at_end = e.at_end;
       }
 
-  pub runs-fail : (old : Session) (s : W) (now now' left' left'' : Option (List ℕ)) (fault : Fault) → Reads a holds start before left old s now left' → Fails a holds old s now now' left' left'' fault → FailsAfter a start before now' left left'' fault
+  pub runs-fail : (old : Session) (s : W) (now now' left' left'' : Option (List ℕ)) (fault : Fault) → Reads a holds start before left old s now left' → FailsRun a holds old s now now' left' left'' fault → FailsAfter a start before now' left left'' fault
   runs-fail old s now now' left' left'' fault r f = record {
     bytes = r.bytes ++ f.read;
     consumes = Consumes-append left left' left'' r.bytes f.read r.consumes f.consumes;

@@ -21,12 +21,12 @@ use Rattle.inst_model.proofs.AllHistoriesTogether.{together}
 use Rattle.inst_world.specs.Headline.{IsRun, KeepsTheHeadline}
 use Rattle.inst_world.proofs.PlaceOfNamedTransfer.{to_participant}
 use Rattle.inst_world.proofs.PromisesFollowFromLaws.{keeps_the_headline}
-use Rattle.inst_agenda.specs.FollowUps.{of_transfers, of_originators, follow_ups, followed_up}
+use Rattle.inst_agenda.specs.FollowUps.{of_transfers, steps_of_originators, follow_ups, followed_up}
 use Rattle.inst_agenda.proofs.StepsAfterLine.{one_on}
 use Rattle.inst_lines.specs.declared.mode.Mode.{Mode}
 use Rattle.inst_lines.specs.declared.mode.Mode.TheVariants.{Run, Play}
 use Rattle.inst_lines.specs.Answers.{is_too_long, state_after_line, state_after}
-use Rattle.inst_lines.specs.Answering.{HubPast, opened, hub_answerer, after_step, after_line, after_command, after_script}
+use Rattle.inst_lines.specs.Answering.{HubPast, new_past, hub_answerer, after_step, after_line, after_command, after_script}
 use Rattle.inst_lines.specs.Headline.{run_through, LinesKeepTheHeadline}
 use Rattle.inst_lines.proofs.ReadLineFitsHub.{ask_of_line_fits, step_of_line_fits}
 
@@ -106,10 +106,10 @@ of_transfers_fit s at p index (x ∷ xs) one to =
     let other : is_participant s x.to ≡ true = to 0 x refl in
     (and_from _ _ one other, (and_from _ _ one one, (one, (and_from _ _ other one, of_transfers_fit s at p (suc index) xs one (λ k y is. to (suc k) y is)))))
 
-of_originators_fit : (s : HubSettings) (at : ℕ) (T : ℕ → List Transfer) (n : ℕ) → n ≤ participants s → ((p : ℕ) → AreToParticipants s (T p)) → Fit s (of_originators at T n)
+of_originators_fit : (s : HubSettings) (at : ℕ) (T : ℕ → List Transfer) (n : ℕ) → n ≤ participants s → ((p : ℕ) → AreToParticipants s (T p)) → Fit s (steps_of_originators at T n)
 of_originators_fit s at T zero within to = tt
 of_originators_fit s at T (suc p) within to =
-    fit_append s (of_originators at T p) (of_transfers at p 0 (T p)) (of_originators_fit s at T p (omega arith) to)
+    fit_append s (steps_of_originators at T p) (of_transfers at p 0 (T p)) (of_originators_fit s at T p (omega arith) to)
     (of_transfers_fit s at p 0 (T p) (lt-ltb p (participants s) (omega arith)) (to p))
 
 follow_ups_fit : (s : HubSettings) (O : Opening) → IsOpening s O → (L : List Step) → IsInterleaving s L → (at : ℕ) → IsInterleaving s (followed_up s O L at)
@@ -170,5 +170,5 @@ lines_keep mode past opening steps lines =
 
 -- so of any lines at a hub that opens for the first time
 pub opened_keep : (mode : Mode) (s : HubSettings) (o : Option (List ℕ)) (lines_in : List ℕ → List (List ℕ)) → IfSome o (λ bytes. LinesKeepTheHeadline (hub_answerer mode) s (lines_in bytes))
-opened_keep mode s (Some bytes) lines_in = lines_keep mode (opened s) tt tt (lines_in bytes)
+opened_keep mode s (Some bytes) lines_in = lines_keep mode (new_past s) tt tt (lines_in bytes)
 opened_keep mode s None lines_in = tt

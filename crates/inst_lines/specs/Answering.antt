@@ -33,8 +33,8 @@ pub record HubPast : Type 0 where
   pub steps : List Step
 
 -- of a hub that opens for the first time
-abbrev pub opened : HubSettings → HubPast
-opened s = record { settings = s; opening = First; steps = [] }
+abbrev pub new_past : HubSettings → HubPast
+new_past s = record { settings = s; opening = First; steps = [] }
 
 -- the world has gone through this
 pub record IsPastOf (past : HubPast) (hub : World) : Type 0 where
@@ -47,9 +47,9 @@ pub record IsRunOf (past : HubPast) (runner : Runner) : Type 0 where
   pub watches : Watches past.opening past.steps runner.world runner.agenda
 
 -- what a runner has gone through, by what its lines stand for
-abbrev pub Keeps : Mode → HubPast → Runner → Type 0
-Keeps Run past runner = IsRunOf past runner
-Keeps Play past runner = IsPastOf past runner.world
+abbrev pub IsRunnerAt : Mode → HubPast → Runner → Type 0
+IsRunnerAt Run past runner = IsRunOf past runner
+IsRunnerAt Play past runner = IsPastOf past runner.world
 
 abbrev pub step_answer : HubPast → Step → Answer
 step_answer past step = answer past.settings past.opening past.steps step

@@ -21,7 +21,7 @@ use Rattle.inst_world.specs.Headline.{Run, run_of, KeepsTheHeadline}
 use Rattle.inst_lines.specs.declared.mode.Mode.{Mode}
 use Rattle.inst_lines.specs.declared.mode.Mode.TheVariants as modes
 use Rattle.inst_lines.specs.Answers.{Answerer, is_too_long, state_after_line, state_after}
-use Rattle.inst_lines.specs.Answering.{HubPast, opened, hub_answerer, answer_text}
+use Rattle.inst_lines.specs.Answering.{HubPast, new_past, hub_answerer, answer_text}
 
 -- the run of a hub that has gone through this
 abbrev pub run_through : HubPast → Run
@@ -32,7 +32,7 @@ run_through past = run_of past.opening (reverse past.steps)
 
 -- the run that lines stand for where they are answered so, at a hub that opens for the first time
 abbrev pub run_of_lines : Answerer HubPast → HubSettings → List (List ℕ) → Run
-run_of_lines a s lines = run_through (state_after a (opened s) lines)
+run_of_lines a s lines = run_through (state_after a (new_past s) lines)
 
 -- that run keeps the headline
 abbrev pub LinesKeepTheHeadline : Answerer HubPast → HubSettings → List (List ℕ) → Type 0

@@ -64,7 +64,7 @@ pub record Turns {S W : Type 0} (a : Answerer S) (holds : S → W →
       Reached a holds start before (bytes ++ read) now' new new_world
 
 -- the input is at its end, and all is answered and written, with these counts
-pub record Ends {S W : Type 0} (a : Answerer S) (holds : S → W →
+pub record EndsInput {S W : Type 0} (a : Answerer S) (holds : S → W →
     Type 0) (old : Session) (old_world : W) (now : Option (List ℕ)) (counts : Counts)
     (new_world : W) (now' : Option (List ℕ)) (left left' : Option (List ℕ)) : Type 0 where
   pub consumes : Consumes left left' []
@@ -72,7 +72,7 @@ pub record Ends {S W : Type 0} (a : Answerer S) (holds : S → W →
   pub finishes : Finishes a holds old old_world now counts new_world now'
 
 -- a fault ended the run, after some further bytes
-pub record Fails {S W : Type 0} (a : Answerer S) (holds : S → W →
+pub record FailsRun {S W : Type 0} (a : Answerer S) (holds : S → W →
     Type 0) (old : Session) (old_world : W) (now now' : Option (List ℕ))
     (left left' : Option (List ℕ)) (fault : Fault) : Type 0 where
   pub read : List ℕ
@@ -111,7 +111,7 @@ abbrev pub HasEnded : {S W : Type 0} → Answerer S → (S → W → Type 0) →
     Option (List ℕ) →
     Option (List ℕ) → Type 0
 HasEnded a holds before after left left' =
-    Ends a holds before.session before.world before.written after.session.counts after.world
+    EndsInput a holds before.session before.world before.written after.session.counts after.world
     after.written left left'
 
 -- a fault ended the run, when this was written and this was left
@@ -119,4 +119,4 @@ abbrev pub HasFailed : {S W : Type 0} → Answerer S → (S → W → Type 0) �
     Option (List ℕ) →
     Option (List ℕ) → Fault → Type 0
 HasFailed a holds before written left left' fault =
-    Fails a holds before.session before.world before.written written left left' fault
+    FailsRun a holds before.session before.world before.written written left left' fault

@@ -5,7 +5,7 @@ ghost use Rattle.inst_json.specs.Replies.{answer_data, answer_can_be_written};
 ghost use Rattle.inst_json.specs.Lines.{command_of_line, step_of_line};
 ghost use Rattle.inst_base.specs.Newline.{newline};
 ghost use Rattle.inst_lines.specs.Answers.{AnswersLine};
-ghost use Rattle.inst_lines.specs.Answering.{Keeps, is_refusal, hub_answerer};
+ghost use Rattle.inst_lines.specs.Answering.{IsRunnerAt, is_refusal, hub_answerer};
 ghost use Rattle.inst_lines.specs.Answering.{command_answer, after_command, script_answer};
 ghost use Rattle.inst_lines.specs.Answering.{after_script};
 ghost use Rattle.inst_lines.specs.inner.Answering.{RepliesToLine, RepliesToRead};
@@ -29,7 +29,7 @@ pub fn answer_line(
     line: &[u8],
     out: &mut Vec<u8>,
 ) -> Result<bool, AllocError>
-    ensures { IfOk result (λ refused. AnswersLine (hub_answerer mode) (Keeps mode) false line.now
+    ensures { IfOk result (λ refused. AnswersLine (hub_answerer mode) (IsRunnerAt mode) false line.now
         runner.old runner.new out.old.items out.new.items refused) }
 {
     answer_part(reader, mode, runner, false, line, out)
@@ -46,7 +46,7 @@ pub(crate) fn answer_part(
     out: &mut Vec<u8>,
 ) -> Result<bool, AllocError>
     ensures ok { IfOk result (λ refused.
-        AnswersLine (hub_answerer mode) (Keeps mode) is_long part.now
+        AnswersLine (hub_answerer mode) (IsRunnerAt mode) is_long part.now
         runner.old runner.new out.old.items out.new.items refused) }
 {
     let answer = answer_to(reader, mode, runner, is_long, part)?;

@@ -3,7 +3,7 @@ ghost use Rattle.std.specs.Prelude.{◌≡◌, OnOk, IfOk, IfErr, IfSome, length
 ghost use Rattle.std.specs.Io.KnownBytes.{Appends, IsAtEnd};
 ghost use Rattle.inst_lines.specs.Lines.{lines_of, IsWithinLimits};
 ghost use Rattle.inst_lines.specs.Answers.{output, refusals, state_after};
-ghost use Rattle.inst_lines.specs.Answering.{HubPast, Keeps, opened, hub_answerer, run_answerer};
+ghost use Rattle.inst_lines.specs.Answering.{HubPast, IsRunnerAt, new_past, hub_answerer, run_answerer};
 ghost use Rattle.inst_lines.specs.Answering.{play_answerer};
 ghost use Rattle.inst_lines.specs.Session.{FailsAfter};
 ghost use Rattle.inst_lines.specs.Headline.{LinesKeepTheHeadline};
@@ -43,19 +43,19 @@ pub fn run_lines<R: Read, W: Write>(
     ensures end { OnOk result (IsAtEnd (R.remaining reader.new)) }
     ensures output { OnOk result (IfSome (R.remaining reader.old) (λ bytes.
         Appends (W.contents writer.old) (W.contents writer.new)
-        (output run_answerer (opened settings.now) (lines_of bytes)))) }
+        (output run_answerer (new_past settings.now) (lines_of bytes)))) }
     // The run that these lines stand for keeps the headline.
     ensures headline { OnOk result (IfSome (R.remaining reader.old) (λ bytes.
         LinesKeepTheHeadline run_answerer settings.now (lines_of bytes))) }
     ensures lines { IfOk result (λ counts. IfSome (R.remaining reader.old) (λ bytes.
         counts.lines ≡ length (lines_of bytes))) }
     ensures refused { IfOk result (λ counts. IfSome (R.remaining reader.old) (λ bytes.
-        counts.refused ≡ refusals run_answerer (opened settings.now) (lines_of bytes))) }
+        counts.refused ≡ refusals run_answerer (new_past settings.now) (lines_of bytes))) }
     ensures limits { OnOk result (IfSome (R.remaining reader.old) IsWithinLimits) }
 
     // Some bytes were read: at `ReadFault` each line whose newline stands within the limits is
     // answered, and at another fault a front of the replies is written.
-    ensures err { IfErr result (FailsAfter run_answerer (opened settings.now)
+    ensures err { IfErr result (FailsAfter run_answerer (new_past settings.now)
         (W.contents writer.old) (W.contents writer.new)
         (R.remaining reader.old) (R.remaining reader.new)) }
 {
@@ -81,15 +81,15 @@ pub fn play_lines<R: Read, W: Write>(
     ensures end { OnOk result (IsAtEnd (R.remaining reader.new)) }
     ensures output { OnOk result (IfSome (R.remaining reader.old) (λ bytes.
         Appends (W.contents writer.old) (W.contents writer.new)
-        (output play_answerer (opened settings.now) (lines_of bytes)))) }
+        (output play_answerer (new_past settings.now) (lines_of bytes)))) }
     ensures headline { OnOk result (IfSome (R.remaining reader.old) (λ bytes.
         LinesKeepTheHeadline play_answerer settings.now (lines_of bytes))) }
     ensures lines { IfOk result (λ counts. IfSome (R.remaining reader.old) (λ bytes.
         counts.lines ≡ length (lines_of bytes))) }
     ensures refused { IfOk result (λ counts. IfSome (R.remaining reader.old) (λ bytes.
-        counts.refused ≡ refusals play_answerer (opened settings.now) (lines_of bytes))) }
+        counts.refused ≡ refusals play_answerer (new_past settings.now) (lines_of bytes))) }
     ensures limits { OnOk result (IfSome (R.remaining reader.old) IsWithinLimits) }
-    ensures err { IfErr result (FailsAfter play_answerer (opened settings.now)
+    ensures err { IfErr result (FailsAfter play_answerer (new_past settings.now)
         (W.contents writer.old) (W.contents writer.new)
         (R.remaining reader.old) (R.remaining reader.new)) }
 {
@@ -117,19 +117,19 @@ pub fn serve_lines<R: Read, W: Write>(
     ensures end { OnOk result (IsAtEnd (R.remaining reader.new)) }
     ensures output { OnOk result (IfSome (R.remaining reader.old) (λ bytes.
         Appends (W.contents writer.old) (W.contents writer.new)
-        (output (hub_answerer mode) (opened settings.now) (lines_of bytes)))) }
+        (output (hub_answerer mode) (new_past settings.now) (lines_of bytes)))) }
     ensures headline { OnOk result (IfSome (R.remaining reader.old) (λ bytes.
         LinesKeepTheHeadline (hub_answerer mode) settings.now (lines_of bytes))) }
     ensures runner { IfOk result (λ served. IfSome (R.remaining reader.old) (λ bytes.
-        Keeps mode (state_after (hub_answerer mode) (opened settings.now) (lines_of bytes))
+        IsRunnerAt mode (state_after (hub_answerer mode) (new_past settings.now) (lines_of bytes))
         served.runner)) }
     ensures lines { IfOk result (λ served. IfSome (R.remaining reader.old) (λ bytes.
         served.counts.lines ≡ length (lines_of bytes))) }
     ensures refused { IfOk result (λ served. IfSome (R.remaining reader.old) (λ bytes.
         served.counts.refused
-        ≡ refusals (hub_answerer mode) (opened settings.now) (lines_of bytes))) }
+        ≡ refusals (hub_answerer mode) (new_past settings.now) (lines_of bytes))) }
     ensures limits { OnOk result (IfSome (R.remaining reader.old) IsWithinLimits) }
-    ensures err { IfErr result (FailsAfter (hub_answerer mode) (opened settings.now)
+    ensures err { IfErr result (FailsAfter (hub_answerer mode) (new_past settings.now)
         (W.contents writer.old) (W.contents writer.new)
         (R.remaining reader.old) (R.remaining reader.new)) }
 {
@@ -147,22 +147,22 @@ fn answer_lines<R: Read, W: Write>(
     writer: &mut W,
 ) -> Result<Counts, Fault>
     ensures end { OnOk result (IsAtEnd (R.remaining reader.new)) }
-    ensures output { (past : HubPast) → Keeps mode past runner.old →
+    ensures output { (past : HubPast) → IsRunnerAt mode past runner.old →
         OnOk result (IfSome (R.remaining reader.old) (λ bytes.
         Appends (W.contents writer.old) (W.contents writer.new)
         (output (hub_answerer mode) past (lines_of bytes)))) }
-    ensures runner { (past : HubPast) → Keeps mode past runner.old →
+    ensures runner { (past : HubPast) → IsRunnerAt mode past runner.old →
         OnOk result (IfSome (R.remaining reader.old) (λ bytes.
-        Keeps mode (state_after (hub_answerer mode) past (lines_of bytes)) runner.new)) }
-    ensures lines { (past : HubPast) → Keeps mode past runner.old →
+        IsRunnerAt mode (state_after (hub_answerer mode) past (lines_of bytes)) runner.new)) }
+    ensures lines { (past : HubPast) → IsRunnerAt mode past runner.old →
         IfOk result (λ counts. IfSome (R.remaining reader.old) (λ bytes.
         counts.lines ≡ length (lines_of bytes))) }
-    ensures refused { (past : HubPast) → Keeps mode past runner.old →
+    ensures refused { (past : HubPast) → IsRunnerAt mode past runner.old →
         IfOk result (λ counts. IfSome (R.remaining reader.old) (λ bytes.
         counts.refused ≡ refusals (hub_answerer mode) past (lines_of bytes))) }
-    ensures limits { (past : HubPast) → Keeps mode past runner.old →
+    ensures limits { (past : HubPast) → IsRunnerAt mode past runner.old →
         OnOk result (IfSome (R.remaining reader.old) IsWithinLimits) }
-    ensures err { (past : HubPast) → Keeps mode past runner.old →
+    ensures err { (past : HubPast) → IsRunnerAt mode past runner.old →
         IfErr result (FailsAfter (hub_answerer mode) past
         (W.contents writer.old) (W.contents writer.new)
         (R.remaining reader.old) (R.remaining reader.new)) }

@@ -37,7 +37,7 @@ pub struct Session {
 impl Session {
     ghost use Rattle.inst_base.specs.Newline.{NoNewline};
     ghost use Rattle.inst_lines.specs.Limits.{most_lines};
-    ghost use Rattle.inst_lines.specs.Answering.{hub_answerer, Keeps};
+    ghost use Rattle.inst_lines.specs.Answering.{hub_answerer, IsRunnerAt};
     ghost use Rattle.inst_lines.specs.LineBuffer.{unanswered_bytes};
     ghost use Rattle.inst_lines.specs.Session.{IsAnswered, IsReadyToRead, stage};
     ghost use Rattle.inst_lines.specs.Session.{HasTurned, HasEnded, HasFailed};
@@ -70,7 +70,7 @@ impl Session {
         requires within { len ≤ length (unanswered_bytes self.old.input) }
         requires room { self.old.counts.lines < most_lines }
         ensures ok { OnOk result
-            (TakesLine (hub_answerer mode) (Keeps mode) len self.old self.new runner.old runner.new) }
+            (TakesLine (hub_answerer mode) (IsRunnerAt mode) len self.old self.new runner.old runner.new) }
     {
         let is_refused = answer_part(
             &mut self.reader,
@@ -95,14 +95,14 @@ impl Session {
         writer: &mut W,
     ) -> Result<(), Fault>
         ensures ok { OnOk result
-            (MovesOn (hub_answerer mode) (Keeps mode)
+            (MovesOn (hub_answerer mode) (IsRunnerAt mode)
             (stage self.old runner.old (W.contents writer.old))
             (stage self.new runner.new (W.contents writer.new))) }
         ensures done { OnOk result (NoNewline (unanswered_bytes self.new.input)
             ⊎ (self.new.counts.lines ≡ most_lines)) }
         ensures taken { OnOk result (self.new.input.taken ≡ self.old.input.taken) }
         ensures err { OnErr result
-            (HasStopped (hub_answerer mode) (Keeps mode)
+            (HasStopped (hub_answerer mode) (IsRunnerAt mode)
             (stage self.old runner.old (W.contents writer.old))
             (W.contents writer.new)) }
         ensures fault { IfErr result IsNoReadFault }
@@ -121,7 +121,7 @@ impl Session {
     fn answer_last(&mut self, mode: Mode, runner: &mut Runner) -> Result<(), AllocError>
         requires { IsAnswered self.old }
         ensures ok { OnOk result
-            (AnswersLast (hub_answerer mode) (Keeps mode) self.old self.new runner.old runner.new) }
+            (AnswersLast (hub_answerer mode) (IsRunnerAt mode) self.old self.new runner.old runner.new) }
     {
         if !self.input.is_in_line() {
             return Ok(());
@@ -140,11 +140,11 @@ impl Session {
     ) -> Result<(), Fault>
         requires { IsAnswered self.old }
         ensures ok { OnOk result
-            (HasFinished (hub_answerer mode) (Keeps mode)
+            (HasFinished (hub_answerer mode) (IsRunnerAt mode)
             (stage self.old runner.old (W.contents writer.old))
             (stage self.new runner.new (W.contents writer.new))) }
         ensures err { OnErr result
-            (HasStopped (hub_answerer mode) (Keeps mode)
+            (HasStopped (hub_answerer mode) (IsRunnerAt mode)
             (stage self.old runner.old (W.contents writer.old))
             (W.contents writer.new)) }
         ensures fault { IfErr result IsNoReadFault }
@@ -166,12 +166,12 @@ impl Session {
         ensures ok { let before = stage self.old runner.old (W.contents writer.old) in
             let after = stage self.new runner.new (W.contents writer.new) in
             IfOk result (λ more. MatchBool more
-            (HasTurned (hub_answerer mode) (Keeps mode) before after (R.remaining reader.old)
+            (HasTurned (hub_answerer mode) (IsRunnerAt mode) before after (R.remaining reader.old)
             (R.remaining reader.new))
-            (HasEnded (hub_answerer mode) (Keeps mode) before after (R.remaining reader.old)
+            (HasEnded (hub_answerer mode) (IsRunnerAt mode) before after (R.remaining reader.old)
             (R.remaining reader.new))) }
         ensures err { let before = stage self.old runner.old (W.contents writer.old) in
-            IfErr result (HasFailed (hub_answerer mode) (Keeps mode) before (W.contents writer.new)
+            IfErr result (HasFailed (hub_answerer mode) (IsRunnerAt mode) before (W.contents writer.new)
             (R.remaining reader.old) (R.remaining reader.new)) }
     {
         if self.input.fill(reader)? == 0 {

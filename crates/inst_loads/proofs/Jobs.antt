@@ -8,7 +8,7 @@ use Rattle.inst_row.specs.Seated.{view_of}
 use Rattle.inst_hub.specs.declared.hub.Hub.{Hub}
 use Rattle.inst_hub.specs.declared.teller.Teller.{Teller}
 use Rattle.inst_hub.specs.Calls.{IsTellerOf, AreOf}
-use Rattle.inst_hub.specs.Opening.{parts_of}
+use Rattle.inst_hub.specs.Opening.{row_parts}
 use Rattle.inst_loads.specs.declared.hub.job.Job.{Job}
 use Rattle.inst_loads.specs.Jobs.{AreJobsOf, AreStill, HaveAll, IsStill, parts_of_jobs, parts_of_one}
 use Rattle.inst_loads.specs.Tellers.{AreAllOf}
@@ -41,18 +41,18 @@ abbrev part_of_job : Job → ℕ
 part_of_job job = (view_of job.teller.seat).parts
 
 -- the last teller has the parts that the others lack
-pub last_parts : (all rest : List Teller) (t : Teller) → all ≡ rest ++ t ∷ [] → parts_of rest + parts_of_one t ≡ parts_of all
-last_parts all rest t is = sym (ap parts_of is ∙ sum_by_push part rest t)
+pub last_parts : (all rest : List Teller) (t : Teller) → all ≡ rest ++ t ∷ [] → row_parts rest + parts_of_one t ≡ row_parts all
+last_parts all rest t is = sym (ap row_parts is ∙ sum_by_push part rest t)
 
 -- a job more has the parts of the next teller
-pub more_parts : (jobs more : List Job) (job : Job) (rest after : List Teller) (all : ℕ) → parts_of_jobs jobs + parts_of rest ≡ all → more ≡ jobs ++ job ∷ [] → rest ≡ job.teller ∷ after
-    → parts_of_jobs more + parts_of after ≡ all
+pub more_parts : (jobs more : List Job) (job : Job) (rest after : List Teller) (all : ℕ) → parts_of_jobs jobs + row_parts rest ≡ all → more ≡ jobs ++ job ∷ [] → rest ≡ job.teller ∷ after
+    → parts_of_jobs more + row_parts after ≡ all
 more_parts jobs more job rest after all e items is =
     let a = ap parts_of_jobs items ∙ sum_by_push part_of_job jobs job in
-    let b = ap parts_of is ∙ sum_by-cons part job.teller after in omega (arith, e, a, b)
+    let b = ap row_parts is ∙ sum_by-cons part job.teller after in omega (arith, e, a, b)
 
-pub no_more_parts : (jobs : ℕ) (rest : List Teller) (all : ℕ) → jobs + parts_of rest ≡ all → rest ≡ [] → jobs ≡ all
-no_more_parts jobs rest all e none = let a = ap parts_of none in omega (arith, e, a)
+pub no_more_parts : (jobs : ℕ) (rest : List Teller) (all : ℕ) → jobs + row_parts rest ≡ all → rest ≡ [] → jobs ≡ all
+no_more_parts jobs rest all e none = let a = ap row_parts none in omega (arith, e, a)
 
 set_job : (h : Hub) (jobs : List Job) (k : ℕ) (job : Job) → AreJobsOf h jobs → k < length jobs → IsTellerOf h job.teller → AreJobsOf h (set jobs k job)
 set_job h jobs k job are below one i other at = elim (set_cases jobs k i job other below at) [
@@ -106,7 +106,7 @@ map_at [] t i at = absurd (nothing i t at)
 map_at (job ∷ jobs) t zero at = (job, refl, same job.teller t at)
 map_at (job ∷ jobs) t (suc i) at = map_at jobs t i at
 
-map_parts : (jobs : List Job) → parts_of (map (λ job. job.teller) jobs) ≡ parts_of_jobs jobs
+map_parts : (jobs : List Job) → row_parts (map (λ job. job.teller) jobs) ≡ parts_of_jobs jobs
 map_parts [] = refl
 map_parts (job ∷ jobs) =
     let r = map_parts jobs in
@@ -119,5 +119,5 @@ all_of_jobs h t jobs tellers one are all is = (
       (λ old. (let x = map_at jobs u i old in subst (IsTellerOf h) x.2 (are i x.0 x.1)))
       (λ last. subst (IsTellerOf h) last.1 one)
       (snoc_cases (map (λ (job : Job). job.teller) jobs) t u i (subst (λ (l : List Teller). slice_get l i ≡ Some u) is at))),
-  ap parts_of is ∙ sum_by_push part (map (λ (job : Job). job.teller) jobs) t ∙ ap (λ (n : ℕ). n + parts_of_one t) (map_parts jobs) ∙ all,
+  ap row_parts is ∙ sum_by_push part (map (λ (job : Job). job.teller) jobs) t ∙ ap (λ (n : ℕ). n + parts_of_one t) (map_parts jobs) ∙ all,
 )

@@ -6,7 +6,7 @@ use Rattle.std.proofs.lemmas.Bool.{cases_eq, cases_lt}
 use Rattle.sqlite_disk.specs.Disk.{Torn, Mixed, Cut, Follows, Only}
 use Rattle.inst_log.specs.Layout.{recovered_lines, blocks, IsBatch, HasClosedByte, IsShut, EndsWell}
 use Rattle.inst_log.specs.inner.Opening.{IsBlanking}
-use Rattle.inst_log.specs.Opening.{kept, Begins, IsNewFile, Opens}
+use Rattle.inst_log.specs.Opening.{lines_after_settings, Begins, IsNewFile, OpensLog}
 use Rattle.inst_log.proofs.BytesAfterTornWrites.{torn_front, torn_back, cut_front}
 use Rattle.inst_log.proofs.Lines.{AllLines, AllLines-append, all_lines, recovered_closed, closed}
 use Rattle.inst_log.proofs.FilesOpenWithSettings.{short_none, blank_none}
@@ -124,11 +124,11 @@ blanked_shut (b ∷ rest) is =
 -- a log of these settings has a line
 pub begins_well : (settings file : List ℕ) → IsBatch settings → Begins settings file → EndsWell file → IsShut file
 begins_well settings file is begins (inl none) =
-    absurd (omega (arith, is.some, ap length (sym none ∙ begins), length-append (recovered_lines settings) (kept settings file)))
+    absurd (omega (arith, is.some, ap length (sym none ∙ begins), length-append (recovered_lines settings) (lines_after_settings settings file)))
 begins_well settings file is begins (inr shut) = shut
 
 -- while a new file gets the settings it has no line, or them
-pub none_or_begun : (settings : List ℕ) → IsBatch settings → (c : List ℕ) → Opens settings c → kept settings c ≡ [] → (recovered_lines c ≡ []) ⊎ (recovered_lines c ≡ recovered_lines settings)
+pub none_or_begun : (settings : List ℕ) → IsBatch settings → (c : List ℕ) → OpensLog settings c → lines_after_settings settings c ≡ [] → (recovered_lines c ≡ []) ⊎ (recovered_lines c ≡ recovered_lines settings)
 none_or_begun settings is c (inl begins) none =
     inr (begins ∙ ap (λ (ls : List (List ℕ)). recovered_lines settings ++ ls) none ∙ append-nil (recovered_lines settings))
 none_or_begun settings is c (inr (inl short)) none = inl (short_none c short)

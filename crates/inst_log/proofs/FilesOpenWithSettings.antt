@@ -8,7 +8,7 @@ use Rattle.std.specs.Cmp.Lexicographic.{pointwise}
 use Rattle.sqlite_disk.specs.Disk.{Holds, Torn}
 use Rattle.inst_log.specs.Layout.{recovered_lines, blocks, IsBatch, HasClosedByte}
 use Rattle.inst_log.specs.Log.{IsAtStage}
-use Rattle.inst_log.specs.Opening.{kept, Begins, IsNewFile, Opens, OpensAlike}
+use Rattle.inst_log.specs.Opening.{lines_after_settings, Begins, IsNewFile, OpensLog, OpensAlike}
 use Rattle.inst_log.specs.inner.Opening.{IsBlanked, IsBlanking}
 use Rattle.inst_log.proofs.BytesAfterTornWrites.{torn_back, written_is}
 use Rattle.inst_log.proofs.Lines.{parts, all_lines, recovered_blocks, none_without_newline, closed, blocks-append}
@@ -37,9 +37,9 @@ front_of_settings settings is =
 
 module _ (settings : List ℕ) (is : IsBatch settings) where
   abbrev Fresh : List ℕ → Type 0
-  Fresh c = Opens settings c × (kept settings c ≡ [])
+  Fresh c = OpensLog settings c × (lines_after_settings settings c ≡ [])
 
-  kept_none : (c : List ℕ) → recovered_lines c ≡ [] → kept settings c ≡ []
+  kept_none : (c : List ℕ) → recovered_lines c ≡ [] → lines_after_settings settings c ≡ []
   kept_none c none = ap (drop (length (recovered_lines settings))) none ∙ drop_all (length (recovered_lines settings)) [] (omega arith)
 
   pub short_fresh : (c : List ℕ) → length c ≤ 1 → Fresh c
@@ -50,7 +50,7 @@ module _ (settings : List ℕ) (is : IsBatch settings) where
 
   same_fresh : (c : List ℕ) → recovered_lines c ≡ recovered_lines settings → Fresh c
   same_fresh c same =
-      let none : kept settings c ≡ [] = ap (drop (length (recovered_lines settings))) same ∙ drop_all (length (recovered_lines settings)) (recovered_lines settings) (omega arith) in
+      let none : lines_after_settings settings c ≡ [] = ap (drop (length (recovered_lines settings))) same ∙ drop_all (length (recovered_lines settings)) (recovered_lines settings) (omega arith) in
       (inl (same ∙ sym (append-nil (recovered_lines settings)) ∙ ap (λ (ls : List (List ℕ)). recovered_lines settings ++ ls) (sym none)), none)
 
   pub gate_fresh : (c : List ℕ) → drop 1 c ≡ drop 1 settings → Fresh c
@@ -120,7 +120,7 @@ begins_yes settings file is same =
 pub begins_split : (settings file : List ℕ) → Begins settings file → (rest : List ℕ) × (file ≡ blocks (recovered_lines settings) ++ rest)
 begins_split settings file begins =
     let lines = recovered_lines settings in
-    let more = kept settings file in
+    let more = lines_after_settings settings file in
     let end = (parts file).end in (
       blocks more ++ end,
       (parts file).split ∙ ap (λ (ls : List (List ℕ)). blocks ls ++ end) begins ∙ ap (λ (l : List ℕ). l ++ end) (blocks-append lines more)
@@ -151,11 +151,11 @@ new_test settings file a b false long other ha hb e = λ new. elim new [
 ]
 
 -- what opening a new file makes of it
-pub new_lines : (settings file : List ℕ) → IsBatch settings → IsNewFile settings file → recovered_lines settings ≡ recovered_lines settings ++ kept settings file
+pub new_lines : (settings file : List ℕ) → IsBatch settings → IsNewFile settings file → recovered_lines settings ≡ recovered_lines settings ++ lines_after_settings settings file
 new_lines settings file is new =
     sym (append-nil (recovered_lines settings)) ∙ ap (λ (ls : List (List ℕ)). recovered_lines settings ++ ls) (sym (new_fresh settings is file new).1)
 
-pub new_alike : (settings file c : List ℕ) → IsBatch settings → IsNewFile settings file → Opens settings c × (kept settings c ≡ []) → OpensAlike settings file c
+pub new_alike : (settings file c : List ℕ) → IsBatch settings → IsNewFile settings file → OpensLog settings c × (lines_after_settings settings c ≡ []) → OpensAlike settings file c
 new_alike settings file c is new at = record { lines = at.1 ∙ sym (new_fresh settings is file new).1; opens = λ _. at.0 }
 
 -- how long a text is that begins with the settings
@@ -168,6 +168,6 @@ front_length settings file is begins =
       arith,
       batch_length settings is,
       ap (λ (ls : List (List ℕ)). length (blocks ls)) begins,
-      ap length (blocks-append (recovered_lines settings) (kept settings file)),
-      length-append (blocks (recovered_lines settings)) (blocks (kept settings file)),
+      ap length (blocks-append (recovered_lines settings) (lines_after_settings settings file)),
+      length-append (blocks (recovered_lines settings)) (blocks (lines_after_settings settings file)),
     )

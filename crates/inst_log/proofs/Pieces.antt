@@ -8,7 +8,7 @@ use Rattle.std.proofs.Math.Seq.{get_or-append_seam, take-append-add}
 use Rattle.sqlite_disk.specs.Disk.{Holds}
 use Rattle.inst_log.specs.Layout.{recovered_lines, blocks, IsBatch, AreWholeLines, HasClosedByte, IsShut, IsFirstLine}
 use Rattle.inst_log.specs.inner.Layout.{IsUnclosed}
-use Rattle.inst_log.specs.Opening.{kept, Begins, IsNewFile, Opens, IsSameOrBegun}
+use Rattle.inst_log.specs.Opening.{lines_after_settings, Begins, IsNewFile, OpensLog, IsSameOrBegun}
 use Rattle.inst_log.specs.Pieces.{cannot_begin, is_shut, stops, has_more, HasCut, IsReading, IsExtent, IsFrontFor, Starts}
 use Rattle.inst_log.specs.declared.line_cutter.LineCutter.{LineCutter}
 use Rattle.inst_log.specs.declared.file_lines.FileLines.{FileLines}
@@ -373,26 +373,26 @@ module _ (settings front file : List ℕ) (is : IsBatch settings) (f : IsFrontFo
       let whole : front ≡ lines ++ take 2 s.0 = f ∙ (λ i. take (n i) (s.1 i)) ∙ take-append-add lines s.0 2 in
       begins_yes settings front is (whole ∙ ap (λ (l : List ℕ). lines ++ l) (sym (ap (drop (length lines)) whole ∙ drop_at lines (take 2 s.0) (length lines) refl)))
 
-pub starts_opens : (settings file : List ℕ) (s : Start) → Starts settings file s → Opens settings file
+pub starts_opens : (settings file : List ℕ) (s : Start) → Starts settings file s → OpensLog settings file
 starts_opens settings file start.Log begins = inl begins
 starts_opens settings file (start.New is_blank) new = inr new.0
 
 -- a log that is gone on from has its own lines, and a new one the settings
 pub log_text : (settings file text : List ℕ) (end : ℕ) → end ≡ length (blocks (recovered_lines file)) → text ≡ take end file → Begins settings file
-    → text ≡ blocks (recovered_lines settings ++ kept settings file)
+    → text ≡ blocks (recovered_lines settings ++ lines_after_settings settings file)
 log_text settings file text end ends is begins = is ∙ front_of_file file end ends ∙ ap blocks begins
 
 pub new_text : (settings file text : List ℕ) → IsBatch settings → text ≡ take (length settings - 1) settings → IsNewFile settings file
-    → text ≡ blocks (recovered_lines settings ++ kept settings file)
+    → text ≡ blocks (recovered_lines settings ++ lines_after_settings settings file)
 new_text settings file text is cut new = cut ∙ front_of_settings settings is ∙ ap blocks (new_lines settings file is new)
 
-pub text_length : (settings file text : List ℕ) → IsBatch settings → text ≡ blocks (recovered_lines settings ++ kept settings file) → length settings ≤ length text + 1
+pub text_length : (settings file text : List ℕ) → IsBatch settings → text ≡ blocks (recovered_lines settings ++ lines_after_settings settings file) → length settings ≤ length text + 1
 text_length settings file text is same =
     omega (
       arith,
       batch_length settings is,
-      ap length (same ∙ blocks-append (recovered_lines settings) (kept settings file)),
-      length-append (blocks (recovered_lines settings)) (blocks (kept settings file)),
+      ap length (same ∙ blocks-append (recovered_lines settings) (lines_after_settings settings file)),
+      length-append (blocks (recovered_lines settings)) (blocks (lines_after_settings settings file)),
     )
 
 -- ---- what a log has behind its settings

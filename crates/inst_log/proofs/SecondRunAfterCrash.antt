@@ -2,7 +2,7 @@
 use Rattle.std.proofs.Common.{◌≡◌, ℕ, List, [], ◌++◌, Some, length, drop, refl, sym, ◌∙◌, ap, append_assoc}
 use Rattle.std.proofs.lemmas.List.{drop_at}
 use Rattle.inst_log.specs.Layout.{recovered_lines}
-use Rattle.inst_log.specs.Opening.{kept}
+use Rattle.inst_log.specs.Opening.{lines_after_settings}
 use Rattle.inst_log.specs.Serving.{Replies, TellsKept, Tells, unsent_replies, Owing}
 use Rattle.inst_log.specs.Restart.{SaysOnce, Begins}
 
@@ -15,11 +15,11 @@ owes f here more told rest begins front =
 
 pub says_once : (says again : Replies → Type 0) (first read more : List (List ℕ)) (may_leave : List ℕ → Type 0) (before told now : List ℕ) (settings c : List ℕ) (lines : List (List ℕ))
     → ((f : Replies) → says f → again f) → ((f : Replies) → says f → Begins f) → before ≡ []
-    → TellsKept (kept settings) may_leave (Owing says first 0) first read (Some before) (Some told) → may_leave c → lines ≡ kept settings c ++ more
-    → Tells (Owing again (kept settings c) (length told)) more (Some told) (Some now) → SaysOnce says first read more now lines
+    → TellsKept (lines_after_settings settings) may_leave (Owing says first 0) first read (Some before) (Some told) → may_leave c → lines ≡ lines_after_settings settings c ++ more
+    → Tells (Owing again (lines_after_settings settings c) (length told)) more (Some told) (Some now) → SaysOnce says first read more now lines
 says_once says again first read more may_leave before told now settings c lines same begins none t may stands w =
     let k = t.kept c may in
-    let here = kept settings c in
+    let here = lines_after_settings settings c in
     let whole : told ≡ t.told = t.handed ∙ ap (λ (l : List ℕ). l ++ t.told) none in
     record {
       n = k.n;
@@ -33,7 +33,7 @@ says_once says again first read more may_leave before told now settings c lines 
     }
 
 -- what stands behind the settings, once the second run has opened the log
-pub stands_behind : (settings file now : List ℕ) (more : List (List ℕ)) → recovered_lines now ≡ (recovered_lines settings ++ kept settings file) ++ more → kept settings now ≡ kept settings file ++ more
+pub stands_behind : (settings file now : List ℕ) (more : List (List ℕ)) → recovered_lines now ≡ (recovered_lines settings ++ lines_after_settings settings file) ++ more → lines_after_settings settings now ≡ lines_after_settings settings file ++ more
 stands_behind settings file now more is =
     let lines = recovered_lines settings in
-    ap (drop (length lines)) (is ∙ append_assoc lines (kept settings file) more) ∙ drop_at lines (kept settings file ++ more) (length lines) refl
+    ap (drop (length lines)) (is ∙ append_assoc lines (lines_after_settings settings file) more) ∙ drop_at lines (lines_after_settings settings file ++ more) (length lines) refl

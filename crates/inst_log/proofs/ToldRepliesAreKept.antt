@@ -4,17 +4,17 @@ use Rattle.std.proofs.Math.Seq.{take-append-add}
 use Rattle.std.proofs.lemmas.List.{append-nil, take_all, take-append-le, drop-append-le, drop_at}
 use Rattle.std.specs.Io.KnownBytes.{Appends}
 use Rattle.inst_log.specs.Layout.{recovered_lines, blocks, IsBatch}
-use Rattle.inst_log.specs.Opening.{kept, Opens}
+use Rattle.inst_log.specs.Opening.{lines_after_settings, OpensLog}
 use Rattle.inst_log.specs.Log.{IsBeforeOrAfter}
 use Rattle.std.specs.declared.alloc.Global.{Global}
 use Rattle.inst_base.specs.Handing.{WritesPart}
 use Rattle.inst_log.specs.Serving.{Replies, Covers, TellsKept, Tells, SaysOn, AllBatches, batch_lines, Owing}
-use Rattle.inst_log.specs.inner.Serving.{TellsPart, Served}
+use Rattle.inst_log.specs.inner.Serving.{TellsFront, Served}
 use Rattle.inst_log.proofs.Lines.{recovered_blocks, all_lines, blocks-append, AllLines-drop}
 use Rattle.inst_base.proofs.Streams.{Appends-append, Appends-keeps, Keeps-same}
 
 -- what was written of the bytes of some replies
-pub part_told : (says : Replies → Type 0) (lines : List (List ℕ)) (before now : Option (List ℕ)) (out : List ℕ) → WritesPart before now out → ((f : Replies) → says f → out ≡ f lines) → TellsPart says lines before now
+pub part_told : (says : Replies → Type 0) (lines : List (List ℕ)) (before now : Option (List ℕ)) (out : List ℕ) → WritesPart before now out → ((f : Replies) → says f → out ≡ f lines) → TellsFront says lines before now
 part_told says lines before now out w are =
     record { told = w.part; handed = w.appends; front = λ f said. (w.rest, sym (are f said) ∙ w.whole) }
 
@@ -51,7 +51,7 @@ module _ (says : Replies → Type 0) (first read : List (List ℕ)) where
       }
 
   -- all is on the disk, and some was told
-  pub kept_after : (may_leave : List ℕ → Type 0) (before now : Option (List ℕ)) → TellsPart says read before now → ((c : List ℕ) → may_leave c → recovered_lines c ≡ first ++ read) → TellsKept recovered_lines may_leave says first read before now
+  pub kept_after : (may_leave : List ℕ → Type 0) (before now : Option (List ℕ)) → TellsFront says read before now → ((c : List ℕ) → may_leave c → recovered_lines c ≡ first ++ read) → TellsKept recovered_lines may_leave says first read before now
   kept_after may_leave before now t left =
       record {
         told = t.told;
@@ -91,7 +91,7 @@ module _ (old : Replies → Type 0) (before : Option (List ℕ)) (batches : List
         all = all;
         tells = record { told = []; handed = Appends-keeps before before (Keeps-same before); whole = none };
         on = λ f said. (f, said, λ more. ap (λ (l : List ℕ). l ++ f more) (sym (none f said)));
-        kept = kept;
+        kept = lines_after_settings;
       }
 
   -- one batch more
@@ -147,7 +147,7 @@ module _ (old : Replies → Type 0) (before : Option (List ℕ)) (batches : List
       → (s : Served keeps old mid before at batches left) → ((c : List ℕ) → may_leave c → recovered_lines c ≡ first ++ s.done) → TellsKept recovered_lines may_leave old first (batch_lines batches) before at
   kept_all keeps mid at left first may_leave none s stands =
       let all : s.done ≡ batch_lines batches = sym (append-nil s.done) ∙ ap (λ (l : List (Vec ℕ Global)). s.done ++ batch_lines l) (sym none) ∙ s.split in
-      let t : TellsPart old (batch_lines batches) before at = record {
+      let t : TellsFront old (batch_lines batches) before at = record {
         told = s.tells.told;
         handed = s.tells.handed;
         front = λ f said. ([], ap f (sym all) ∙ s.tells.whole f said ∙ sym (append-nil s.tells.told));
@@ -159,14 +159,14 @@ module _ (says : Replies → Type 0) (first : List (List ℕ)) where
   stands_behind settings here more c same lines =
       lines ∙ ap (λ (ls : List (List ℕ)). ls ++ more) same ∙ append_assoc (recovered_lines settings) first more
 
-  pub kept_behind : (settings : List ℕ) (here more : List (List ℕ)) (c : List ℕ) → here ≡ recovered_lines settings ++ first → recovered_lines c ≡ here ++ more → kept settings c ≡ first ++ more
+  pub kept_behind : (settings : List ℕ) (here more : List (List ℕ)) (c : List ℕ) → here ≡ recovered_lines settings ++ first → recovered_lines c ≡ here ++ more → lines_after_settings settings c ≡ first ++ more
   kept_behind settings here more c same lines =
       ap (drop (length (recovered_lines settings))) (stands_behind settings here more c same lines)
       ∙ drop_at (recovered_lines settings) (first ++ more) (length (recovered_lines settings)) refl
 
   -- the log was opened, and its lines were answered again
   pub run_kept : (settings : List ℕ) (may_leave : List ℕ → Type 0) (mid : Replies → Type 0) (before at after : Option (List ℕ)) (here lines : List (List ℕ)) → SaysOn says [] mid
-      → Tells says [] before at → here ≡ recovered_lines settings ++ first → TellsKept recovered_lines may_leave mid here lines at after → TellsKept (kept settings) may_leave says first lines before after
+      → Tells says [] before at → here ≡ recovered_lines settings ++ first → TellsKept recovered_lines may_leave mid here lines at after → TellsKept (lines_after_settings settings) may_leave says first lines before after
   run_kept settings may_leave mid before at after here lines on w same t =
       record {
         told = w.told ++ t.told;
@@ -189,15 +189,15 @@ module _ (says : Replies → Type 0) (first : List (List ℕ)) where
 
   -- the log opens again
   pub run_opens : (settings : List ℕ) (may_leave : List ℕ → Type 0) (mid : Replies → Type 0) (at after : Option (List ℕ)) (here lines : List (List ℕ)) → here ≡ recovered_lines settings ++ first
-      → TellsKept recovered_lines may_leave mid here lines at after → (c : List ℕ) → may_leave c → Opens settings c
+      → TellsKept recovered_lines may_leave mid here lines at after → (c : List ℕ) → may_leave c → OpensLog settings c
   run_opens settings may_leave mid at after here lines same t c may =
       let k = t.kept c may in
       inl (stands_behind settings here (take k.n lines) c same k.lines
       ∙ ap (λ (ls : List (List ℕ)). recovered_lines settings ++ ls) (sym (kept_behind settings here (take k.n lines) c same k.lines)))
 
   -- it failed while it was opened
-  pub reopen_kept : (settings : List ℕ) (may_leave : List ℕ → Type 0) (before at : Option (List ℕ)) (lines : List (List ℕ)) → TellsPart says [] before at
-      → ((c : List ℕ) → may_leave c → kept settings c ≡ first) → TellsKept (kept settings) may_leave says first lines before at
+  pub reopen_kept : (settings : List ℕ) (may_leave : List ℕ → Type 0) (before at : Option (List ℕ)) (lines : List (List ℕ)) → TellsFront says [] before at
+      → ((c : List ℕ) → may_leave c → lines_after_settings settings c ≡ first) → TellsKept (lines_after_settings settings) may_leave says first lines before at
   reopen_kept settings may_leave before at lines t left =
       record {
         told = t.told;
@@ -228,10 +228,10 @@ module _ (old : Replies → Type 0) (first : List (List ℕ)) (n : ℕ) where
       ap (drop n) (are f said ∙ ap f (sym (append-nil first))) ∙ ap (λ (o : Replies). o []) (sym is)
 
 -- behind the settings a text of a log's lines has the others
-pub text_behind : (settings text : List ℕ) (file : List ℕ) → IsBatch settings → text ≡ blocks (recovered_lines settings ++ kept settings file) → recovered_lines (drop (length settings - 1) text) ≡ kept settings file
+pub text_behind : (settings text : List ℕ) (file : List ℕ) → IsBatch settings → text ≡ blocks (recovered_lines settings ++ lines_after_settings settings file) → recovered_lines (drop (length settings - 1) text) ≡ lines_after_settings settings file
 text_behind settings text file is same =
     let lines = recovered_lines settings in
-    let more = kept settings file in
+    let more = lines_after_settings settings file in
     let n : length (blocks lines) ≡ length settings - 1 = omega (arith, ap length is.whole, length-append (blocks lines) (0 ∷ [])) in
     let rest : drop (length settings - 1) text ≡ blocks more =
     ap (drop (length settings - 1)) (same ∙ blocks-append lines more) ∙ drop_at (blocks lines) (blocks more) (length settings - 1) n in

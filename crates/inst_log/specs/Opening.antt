@@ -7,12 +7,12 @@ use Rattle.inst_log.specs.declared.error.LogError.TheVariants.{Disk, Memory, Ful
 use Rattle.inst_log.specs.declared.error.LogError.TheVariants.{OtherSettings, NoLog}
 
 -- the lines of a log behind its settings
-abbrev pub kept : List ℕ → List ℕ → List (List ℕ)
-kept settings file = drop (length (recovered_lines settings)) (recovered_lines file)
+abbrev pub lines_after_settings : List ℕ → List ℕ → List (List ℕ)
+lines_after_settings settings file = drop (length (recovered_lines settings)) (recovered_lines file)
 
 -- the file's first lines are the settings
 abbrev pub Begins : List ℕ → List ℕ → Type 0
-Begins settings file = recovered_lines file ≡ recovered_lines settings ++ kept settings file
+Begins settings file = recovered_lines file ≡ recovered_lines settings ++ lines_after_settings settings file
 
 -- Nothing stands in the file but what the making of a log with these settings leaves, whatever
 -- moment it crashes at: at most one byte, or the closed byte and no more than has its place there,
@@ -23,8 +23,8 @@ IsNewFile settings file =
     ⊎ (((take 1 file ≡ 0 ∷ []) × (length file ≤ length settings)) ⊎ (drop 1 file ≡ drop 1 settings))
 
 -- a log of these settings, or a new file
-abbrev pub Opens : List ℕ → List ℕ → Type 0
-Opens settings file = Begins settings file ⊎ IsNewFile settings file
+abbrev pub OpensLog : List ℕ → List ℕ → Type 0
+OpensLog settings file = Begins settings file ⊎ IsNewFile settings file
 
 -- the same lines, or a file that had none has the settings
 abbrev pub IsSameOrBegun : List ℕ → List ℕ → List ℕ → Type 0
@@ -34,8 +34,8 @@ IsSameOrBegun settings old new =
 
 -- the same lines behind the settings, in a file that opens with them if the other does
 pub record OpensAlike (settings old new : List ℕ) : Type 0 where
-  pub lines : kept settings new ≡ kept settings old
-  pub opens : Opens settings old → Opens settings new
+  pub lines : lines_after_settings settings new ≡ lines_after_settings settings old
+  pub opens : OpensLog settings old → OpensLog settings new
 
 -- Why a log was not opened: the disk failed, there was no memory, or the file does not open with
 -- these settings, and then it is as it was.

@@ -5,7 +5,7 @@ ghost use Rattle.std.specs.Prelude.{IsTrue, IfOk, IfErr, OnOk, MatchBool, ⊤};
 ghost use Rattle.sqlite_disk.specs.Disk.{Only, MoreFaults, CountsFault};
 ghost use Rattle.inst_log.specs.Layout.{recovered_lines, blocks, IsBatch, IsShut, EndsWell};
 ghost use Rattle.inst_log.specs.Log.{IsSettled, HasCause};
-ghost use Rattle.inst_log.specs.Opening.{kept, Begins, IsNewFile, Opens, OpensAlike, IsSameOrBegun};
+ghost use Rattle.inst_log.specs.Opening.{lines_after_settings, Begins, IsNewFile, OpensLog, OpensAlike, IsSameOrBegun};
 ghost use Rattle.inst_log.specs.Opening.{Unopened};
 ghost use Rattle.inst_log.specs.Pieces.{IsExtent, IsFrontFor, Starts};
 ghost use Rattle.inst_log.specs.declared.start.Start.TheVariants as start;
@@ -37,14 +37,14 @@ impl<D: Disk> Log<D> {
         ensures settled { OnOk result (IsTrue (D.Disk.is_clean self.new.disk) →
             IsSettled D.Disk.seen D.Disk.may_leave self.new
             × (recovered_lines (D.Disk.seen self.new.disk)
-            ≡ recovered_lines settings.now ++ kept settings.now (D.Disk.seen self.old.disk))) }
+            ≡ recovered_lines settings.now ++ lines_after_settings settings.now (D.Disk.seen self.old.disk))) }
         ensures text { IfOk result (λ text. IsTrue (D.Disk.is_clean self.new.disk)
             → text.items
             ≡ blocks (recovered_lines settings.now
-            ++ kept settings.now (D.Disk.seen self.old.disk))) }
+            ++ lines_after_settings settings.now (D.Disk.seen self.old.disk))) }
         ensures front { IfOk result (λ text. length settings.now ≤ length text.items + 1) }
         ensures opens { OnOk result (IsTrue (D.Disk.is_clean self.new.disk) →
-            Opens settings.now (D.Disk.seen self.old.disk)) }
+            OpensLog settings.now (D.Disk.seen self.old.disk)) }
 
         // A crash at any moment of the call leaves the same lines, in a file that opens again.
         ensures any_moment { IsTrue (D.Disk.is_clean self.new.disk) → (c : List ℕ) →
@@ -138,7 +138,7 @@ impl<D: Disk> Log<D> {
         ensures settled { OnOk result (IsTrue (D.Disk.is_clean self.new.disk) →
             IsSettled D.Disk.seen D.Disk.may_leave self.new
             × (recovered_lines (D.Disk.seen self.new.disk)
-            ≡ recovered_lines settings.now ++ kept settings.now (D.Disk.seen self.old.disk))) }
+            ≡ recovered_lines settings.now ++ lines_after_settings settings.now (D.Disk.seen self.old.disk))) }
         // A crash at any moment of the call leaves the same lines, in a file that opens again.
         ensures any_moment { IsTrue (D.Disk.is_clean self.new.disk) → (c : List ℕ) →
             D.Disk.may_leave self.new.disk c
@@ -210,7 +210,7 @@ impl<D: Disk> Log<D> {
             × (recovered_lines (D.Disk.seen self.new.disk) ≡ recovered_lines settings.now)) }
         ensures any_moment { IsTrue (D.Disk.is_clean self.new.disk) → (c : List ℕ) →
             D.Disk.may_leave self.new.disk c
-            → Opens settings.now c × (kept settings.now c ≡ []) }
+            → OpensLog settings.now c × (lines_after_settings settings.now c ≡ []) }
         ensures stands { IsTrue (D.Disk.is_clean self.new.disk) → (c : List ℕ) →
             D.Disk.may_leave self.new.disk c
             → (recovered_lines c ≡ []) ⊎ (recovered_lines c ≡ recovered_lines settings.now) }
@@ -286,7 +286,7 @@ fn lines_of(
     requires extent { IsExtent bytes.items extent.now }
     requires start { Starts settings.now bytes.items start }
     ensures { IfOk result (λ text.
-        text.items ≡ blocks (recovered_lines settings.now ++ kept settings.now bytes.items)) }
+        text.items ≡ blocks (recovered_lines settings.now ++ lines_after_settings settings.now bytes.items)) }
 {
     match start {
         Start::Log => bytes.truncate(extent.end),

@@ -4,12 +4,12 @@ ghost use Rattle.std.specs.Prelude.{OnOk, ⊤};
 ghost use Rattle.sqlite_disk.specs.Disk.{Only, MoreFaults};
 ghost use Rattle.inst_log.specs.Layout.{recovered_lines, blocks, IsBatch, AreWholeLines, IsShut};
 ghost use Rattle.inst_log.specs.Log.{IsSettled, IsBeforeOrAfter, HasCause};
-ghost use Rattle.inst_log.specs.Opening.{kept, Opens, OpensAlike, Unopened};
+ghost use Rattle.inst_log.specs.Opening.{lines_after_settings, OpensLog, OpensAlike, Unopened};
 ghost use Rattle.inst_log.specs.Serving.{Replies, TellsKept, Tells, SaysOn, AllBatches};
 ghost use Rattle.inst_log.specs.Serving.{batch_lines};
 ghost use Rattle.inst_log.specs.Serving.{Owing};
 ghost use Rattle.inst_log.specs.Serving.{HasFewer, Unanswered};
-ghost use Rattle.inst_log.specs.inner.Serving.{TellsPart};
+ghost use Rattle.inst_log.specs.inner.Serving.{TellsFront};
 
 use crate::batch::close_batch;
 use crate::delivery::deliver;
@@ -49,29 +49,29 @@ impl<D: Disk, A: Responder + Drop> Recorder<D, A> {
         ensures acknowledged { OnOk result (IsTrue (D.Disk.is_clean self.new.log.disk)
             → IsSettled D.Disk.seen D.Disk.may_leave self.new.log
             × (recovered_lines (D.Disk.seen self.new.log.disk)
-            ≡ (recovered_lines settings.now ++ kept settings.now (D.Disk.seen self.old.log.disk))
+            ≡ (recovered_lines settings.now ++ lines_after_settings settings.now (D.Disk.seen self.old.log.disk))
             ++ batch_lines batches.now)) }
         ensures replied { OnOk result (IsTrue (D.Disk.is_clean self.new.log.disk)
             → Tells (Owing (A.Responder.says self.old.answers)
-            (kept settings.now (D.Disk.seen self.old.log.disk)) told)
+            (lines_after_settings settings.now (D.Disk.seen self.old.log.disk)) told)
             (batch_lines batches.now) (W.Write.contents writer.old) (W.Write.contents writer.new)) }
         // It was a log of these settings, or a new file.
         ensures began { OnOk result (IsTrue (D.Disk.is_clean self.new.log.disk)
-            → Opens settings.now (D.Disk.seen self.old.log.disk)) }
+            → OpensLog settings.now (D.Disk.seen self.old.log.disk)) }
 
         // At `Ok` and at `Err`: each file that a crash may leave has the lines that were there and
         // a front of those read, among them each line of whose reply a byte was handed to the
         // writer.
         ensures any_moment { IsTrue (D.Disk.is_clean self.new.log.disk)
-            → TellsKept (kept settings.now) (D.Disk.may_leave self.new.log.disk)
+            → TellsKept (lines_after_settings settings.now) (D.Disk.may_leave self.new.log.disk)
             (Owing (A.Responder.says self.old.answers)
-            (kept settings.now (D.Disk.seen self.old.log.disk)) told)
-            (kept settings.now (D.Disk.seen self.old.log.disk)) (batch_lines batches.now)
+            (lines_after_settings settings.now (D.Disk.seen self.old.log.disk)) told)
+            (lines_after_settings settings.now (D.Disk.seen self.old.log.disk)) (batch_lines batches.now)
             (W.Write.contents writer.old) (W.Write.contents writer.new) }
         // It opens again.
         ensures opens { IsTrue (D.Disk.is_clean self.new.log.disk) →
-            Opens settings.now (D.Disk.seen self.old.log.disk)
-            → (c : List ℕ) → D.Disk.may_leave self.new.log.disk c → Opens settings.now c }
+            OpensLog settings.now (D.Disk.seen self.old.log.disk)
+            → (c : List ℕ) → D.Disk.may_leave self.new.log.disk c → OpensLog settings.now c }
         ensures cause { IfErr result
             (Unanswered (Unopened settings.now (D.Disk.seen self.old.log.disk)
             (IsTrue (D.Disk.is_clean self.new.log.disk))
@@ -80,10 +80,10 @@ impl<D: Disk, A: Responder + Drop> Recorder<D, A> {
             → MoreFaults (D.Disk.faults self.old.log.disk) (D.Disk.faults self.new.log.disk)))
             (IsTrue (D.Disk.is_clean self.new.log.disk) →
             2 ^ 62 ≤ length (blocks ((recovered_lines settings.now
-            ++ kept settings.now (D.Disk.seen self.old.log.disk)) ++ batch_lines batches.now)))
+            ++ lines_after_settings settings.now (D.Disk.seen self.old.log.disk)) ++ batch_lines batches.now)))
             (IsTrue (D.Disk.is_clean self.new.log.disk)
             → HasFewer (A.Responder.says self.old.answers)
-            (kept settings.now (D.Disk.seen self.old.log.disk)) told)
+            (lines_after_settings settings.now (D.Disk.seen self.old.log.disk)) told)
             (IsTrue (D.Disk.is_clean self.new.log.disk) →
             IsSettled D.Disk.seen D.Disk.may_leave self.new.log)) }
         ensures clean { IsTrue (D.Disk.is_clean self.new.log.disk) →
@@ -110,26 +110,26 @@ impl<D: Disk, A: Responder + Drop> Recorder<D, A> {
         ensures settled { OnOk result (IsTrue (D.Disk.is_clean self.new.log.disk)
             → IsSettled D.Disk.seen D.Disk.may_leave self.new.log
             × (recovered_lines (D.Disk.seen self.new.log.disk)
-            ≡ recovered_lines settings.now ++ kept settings.now (D.Disk.seen self.old.log.disk))) }
+            ≡ recovered_lines settings.now ++ lines_after_settings settings.now (D.Disk.seen self.old.log.disk))) }
         ensures any_moment { IsTrue (D.Disk.is_clean self.new.log.disk) → (c : List ℕ)
             → D.Disk.may_leave self.new.log.disk c →
             OpensAlike settings.now (D.Disk.seen self.old.log.disk) c }
         ensures replied { OnOk result (IsTrue (D.Disk.is_clean self.new.log.disk)
             → Tells (Owing (A.Responder.says self.old.answers)
-            (kept settings.now (D.Disk.seen self.old.log.disk)) told)
+            (lines_after_settings settings.now (D.Disk.seen self.old.log.disk)) told)
             [] (W.Write.contents writer.old) (W.Write.contents writer.new)) }
         ensures began { OnOk result (IsTrue (D.Disk.is_clean self.new.log.disk)
-            → Opens settings.now (D.Disk.seen self.old.log.disk)) }
+            → OpensLog settings.now (D.Disk.seen self.old.log.disk)) }
         ensures told { OnOk result (IsTrue (D.Disk.is_clean self.new.log.disk)
             → (replies : Replies) → A.Responder.says self.old.answers replies
-            → told ≤ length (replies (kept settings.now (D.Disk.seen self.old.log.disk)))) }
+            → told ≤ length (replies (lines_after_settings settings.now (D.Disk.seen self.old.log.disk)))) }
         ensures part { IsTrue (D.Disk.is_clean self.new.log.disk)
-            → TellsPart (Owing (A.Responder.says self.old.answers)
-            (kept settings.now (D.Disk.seen self.old.log.disk)) told) []
+            → TellsFront (Owing (A.Responder.says self.old.answers)
+            (lines_after_settings settings.now (D.Disk.seen self.old.log.disk)) told) []
             (W.Write.contents writer.old) (W.Write.contents writer.new) }
         ensures on { OnOk result (IsTrue (D.Disk.is_clean self.new.log.disk)
             → SaysOn (A.Responder.says self.old.answers)
-            (kept settings.now (D.Disk.seen self.old.log.disk))
+            (lines_after_settings settings.now (D.Disk.seen self.old.log.disk))
             (A.Responder.says self.new.answers)) }
         ensures usable { OnOk result (IsTrue (D.Disk.is_usable self.new.log.disk)) }
         ensures cause { IfErr result
@@ -140,11 +140,11 @@ impl<D: Disk, A: Responder + Drop> Recorder<D, A> {
             → MoreFaults (D.Disk.faults self.old.log.disk) (D.Disk.faults self.new.log.disk)))
             ⊥ (IsTrue (D.Disk.is_clean self.new.log.disk)
             → HasFewer (A.Responder.says self.old.answers)
-            (kept settings.now (D.Disk.seen self.old.log.disk)) told)
+            (lines_after_settings settings.now (D.Disk.seen self.old.log.disk)) told)
             (IsTrue (D.Disk.is_clean self.new.log.disk) →
             IsSettled D.Disk.seen D.Disk.may_leave self.new.log
             × (recovered_lines (D.Disk.seen self.new.log.disk)
-            ≡ recovered_lines settings.now ++ kept settings.now (D.Disk.seen self.old.log.disk)))) }
+            ≡ recovered_lines settings.now ++ lines_after_settings settings.now (D.Disk.seen self.old.log.disk)))) }
         ensures calm { OnOk result (D.Disk.faults self.new.log.disk
             ≡ D.Disk.faults self.old.log.disk) }
         ensures clean { IsTrue (D.Disk.is_clean self.new.log.disk) →

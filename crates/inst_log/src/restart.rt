@@ -3,7 +3,7 @@ ghost use Rattle.std.specs.Prelude.{IsTrue, IfOk};
 ghost use Rattle.sqlite_disk.specs.Disk.{Only};
 ghost use Rattle.sqlite_disk.specs.Fuse.{inner_of};
 ghost use Rattle.inst_log.specs.Layout.{IsBatch};
-ghost use Rattle.inst_log.specs.Opening.{kept};
+ghost use Rattle.inst_log.specs.Opening.{lines_after_settings};
 ghost use Rattle.inst_log.specs.Serving.{Replies, AllBatches, batch_lines};
 ghost use Rattle.inst_log.specs.Restart.{SaysOnce, Begins};
 
@@ -46,9 +46,9 @@ pub fn run_twice<D: Crash + Drop, A: Responder + Drop>(
     requires more { AllBatches more.now }
     ensures { IfOk result (λ twice. IsTrue (D.Disk.is_clean (inner_of twice.disk)) →
         SaysOnce (A.Responder.says first)
-        (kept settings.now (D.Disk.seen disk)) (batch_lines batches.now) (batch_lines more.now)
+        (lines_after_settings settings.now (D.Disk.seen disk)) (batch_lines batches.now) (batch_lines more.now)
         twice.told.items
-        (kept settings.now (D.Disk.seen (inner_of twice.disk)))) }
+        (lines_after_settings settings.now (D.Disk.seen (inner_of twice.disk)))) }
 {
     let mut told = Vec::new(alloc);
     let mut recorder = Recorder {

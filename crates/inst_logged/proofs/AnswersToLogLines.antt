@@ -4,7 +4,7 @@ use Rattle.std.proofs.lemmas.List.{append-nil, map-append}
 use Rattle.inst_agenda.specs.declared.runner.Runner.{Runner}
 use Rattle.inst_lines.specs.declared.mode.Mode.{Mode}
 use Rattle.inst_lines.specs.Answers.{Answerer, AnswersLine, output, state_after, state_after_line}
-use Rattle.inst_lines.specs.Answering.{HubPast, Keeps, hub_answerer}
+use Rattle.inst_lines.specs.Answering.{HubPast, IsRunnerAt, hub_answerer}
 use Rattle.inst_lines.proofs.RepliesToOneMoreLine.{output-append}
 use Rattle.inst_log.specs.Escape.{unescaped_line}
 use Rattle.inst_log.specs.Serving.{SaysOn}
@@ -54,7 +54,7 @@ past-append mode past a b =
     ap (λ (ls : List (List ℕ)). state_after (hub_answerer mode) past ls) (said_map a b) ∙ state_after-append (hub_answerer mode) past (map unescaped_line (said a)) (map unescaped_line (said b))
 
 -- one line
-pub answers_one : (mode : Mode) (old new : Runner) (out out' raw : List ℕ) (refused : Bool) → is_mark raw ≡ false → AnswersLine (hub_answerer mode) (Keeps mode) false (unescaped_line raw) old new out out' refused
+pub answers_one : (mode : Mode) (old new : Runner) (out out' raw : List ℕ) (refused : Bool) → is_mark raw ≡ false → AnswersLine (hub_answerer mode) (IsRunnerAt mode) false (unescaped_line raw) old new out out' refused
     → AnswersLines mode old new out out' (raw ∷ [])
 answers_one mode old new out out' raw refused plain so =
     let one : map unescaped_line (said (raw ∷ [])) ≡ unescaped_line raw ∷ [] = ap (map unescaped_line) (said_one raw plain) in
@@ -63,7 +63,7 @@ answers_one mode old new out out' raw refused plain so =
           so.reply past of [] refl ∙ ap (λ (l : List ℕ). out ++ l) (sym (append-nil _))
           ∙ ap (λ (ls : List (List ℕ)). out ++ output (hub_answerer mode) past ls) (sym one);
       state = λ past of.
-          subst (λ (ls : List (List ℕ)). Keeps mode (state_after (hub_answerer mode) past ls) new) (sym one) (so.state past of [] refl);
+          subst (λ (ls : List (List ℕ)). IsRunnerAt mode (state_after (hub_answerer mode) past ls) new) (sym one) (so.state past of [] refl);
     }
 
 -- a mark
@@ -72,7 +72,7 @@ answers_mark mode runner out raw mark =
     let none : map unescaped_line (said (raw ∷ [])) ≡ [] = ap (map unescaped_line) (said_none raw mark) in
     record {
       replies = λ past of. sym (append-nil out) ∙ ap (λ (ls : List (List ℕ)). out ++ output (hub_answerer mode) past ls) (sym none);
-      state = λ past of. subst (λ (ls : List (List ℕ)). Keeps mode (state_after (hub_answerer mode) past ls) runner) (sym none) of;
+      state = λ past of. subst (λ (ls : List (List ℕ)). IsRunnerAt mode (state_after (hub_answerer mode) past ls) runner) (sym none) of;
     }
 
 -- some lines, and then others
@@ -85,7 +85,7 @@ answers_join mode old mid new out out' out'' done more so next = record {
       ∙ append_assoc out (replies_at mode past done) _
       ∙ ap (λ (l : List ℕ). out ++ l) (sym (replies-append mode past done more));
   state = λ past of.
-      subst (λ (p : HubPast). Keeps mode p new) (sym (past-append mode past done more)) (next.state (past_after mode past done) (so.state past of));
+      subst (λ (p : HubPast). IsRunnerAt mode p new) (sym (past-append mode past done more)) (next.state (past_after mode past done) (so.state past of));
 }
 
 -- one more is done

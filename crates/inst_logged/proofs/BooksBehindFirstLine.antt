@@ -15,14 +15,14 @@ use Rattle.inst_model.specs.Opening.{BooksCanOpen}
 use Rattle.inst_world.specs.NextOpening.{CanOpenFrom, kept_by, books_of}
 use Rattle.inst_books.specs.declared.fault.BookFault.{BookFault}
 use Rattle.inst_books.specs.declared.fault.BookFault.TheVariants.{Memory}
-use Rattle.inst_books.specs.Reading.{GivesUnlessMemory}
+use Rattle.inst_books.specs.Reading.{GivesBookUnlessMemory}
 use Rattle.inst_books.specs.Books.{all_events, books_text, books_of_text}
 use Rattle.inst_books.specs.Laws.{AreBooksOf}
 use Rattle.inst_books.proofs.WrittenEventReadsBack.{quiet}
 use Rattle.inst_books.proofs.WrittenBooksReadBack.{plain_lines, books_read_back}
 use Rattle.inst_log.specs.Layout.{recovered_lines, blocks, at_rest}
 use Rattle.inst_log.specs.Escape.{raw_of}
-use Rattle.inst_log.specs.Opening.{kept, Begins}
+use Rattle.inst_log.specs.Opening.{lines_after_settings, Begins}
 use Rattle.inst_log.proofs.Lines.{IsLine, AllLines, AllLines-append, all_lines, blocks-append, recovered_at_rest}
 use Rattle.inst_log.proofs.Pieces.{lines_back}
 use Rattle.inst_chain.specs.Chain.{mark_of, front_of}
@@ -132,11 +132,11 @@ same_books a b same = λ i p. at p i
     events (Some es) = es
 
     kept : (o : Option History) → kept_by o ≡ events (option_map (λ journal. journal.events) o)
-    kept None = refl
-    kept (Some journal) = refl
+    lines_after_settings None = refl
+    lines_after_settings (Some journal) = refl
 
     by_events : (journals : List History) (p : ℕ) → books_of journals p ≡ events (slice_get (all_events journals) p)
-    by_events journals p = kept (slice_get journals p) ∙ ap events (sym (slice_get-map (λ journal. journal.events) journals p))
+    by_events journals p = lines_after_settings (slice_get journals p) ∙ ap events (sym (slice_get-map (λ journal. journal.events) journals p))
 
     at : (p : ℕ) → books_of a p ≡ books_of b p
     at p = by_events a p ∙ ap (λ (ess : List (List Event)). events (slice_get ess p)) same ∙ sym (by_events b p)
@@ -150,19 +150,19 @@ can_open_same s a b same can = record {
 -- ---- books that are read
 
 module _ {V : Type 0} (view : V → List (List Event)) (read : Result V BookFault) (s : HubSettings) (journals : List History) (of : AreBooksOf s (all_events journals)) (text : List ℕ)
-    (is : text ≡ books_text s (all_events journals)) (gives : GivesUnlessMemory view read (books_of_text s text)) where
+    (is : text ≡ books_text s (all_events journals)) (gives : GivesBookUnlessMemory view read (books_of_text s text)) where
   there : books_of_text s text ≡ Ok (all_events journals)
   there = ap (books_of_text s) is ∙ books_read_back s (all_events journals) of
 
   pub read_same : (found : V) → read ≡ Ok found → view found ≡ all_events journals
   read_same found some =
-      let given : GivesUnlessMemory view (Ok found) (books_of_text s text) = subst (λ (r : Result V BookFault). GivesUnlessMemory view r (books_of_text s text)) some gives in
+      let given : GivesBookUnlessMemory view (Ok found) (books_of_text s text) = subst (λ (r : Result V BookFault). GivesBookUnlessMemory view r (books_of_text s text)) some gives in
       let same : Ok (view found) ≡ Ok (all_events journals) = given ∙ there in
       cc same
 
   pub read_fails : (fault : BookFault) → read ≡ Err fault → fault ≡ Memory
   read_fails fault none =
-      let given : GivesUnlessMemory view (Err fault) (books_of_text s text) = subst (λ (r : Result V BookFault). GivesUnlessMemory view r (books_of_text s text)) none gives in
+      let given : GivesBookUnlessMemory view (Err fault) (books_of_text s text) = subst (λ (r : Result V BookFault). GivesBookUnlessMemory view r (books_of_text s text)) none gives in
       elim given [
         | inl memory ↦ memory
         | inr bad ↦ let no : Err fault ≡ Ok (all_events journals) = bad ∙ there in absurd (cc no)
@@ -227,16 +227,16 @@ marked_long One lines = omega arith
 marked_long Two lines = omega (arith, length-append lines (mark_of (blocks lines) ∷ []))
 
 pub has_books : (version : Version) (s : HubSettings) (journals : List History) (line : List ℕ) (kept : Lines) (file text : List ℕ) (k : ℕ) → length (lines_of_books s journals) + 2 ≤ k
-    → recovered_lines file ≡ lines_and_mark version (line ∷ lines_of_books s journals) ++ kept → text ≡ blocks (take k (recovered_lines file)) → HasBooks version s journals text
-has_books version s journals line kept file text k long begins is =
+    → recovered_lines file ≡ lines_and_mark version (line ∷ lines_of_books s journals) ++ lines_after_settings → text ≡ blocks (take k (recovered_lines file)) → HasBooks version s journals text
+has_books version s journals line lines_after_settings file text k long begins is =
     let first = lines_and_mark version (line ∷ lines_of_books s journals) in
     let split : k ≡ length first + (k - length first) = omega (arith, marked_long version (line ∷ lines_of_books s journals)) in
     let lines : recovered_lines text ≡ take k (recovered_lines file) = ap recovered_lines is ∙ lines_back (take k (recovered_lines file)) (all_take k (recovered_lines file) (all_lines file)) in
     record {
       line = line;
-      rest = take (k - length first) kept;
+      rest = take (k - length first) lines_after_settings;
       whole = is ∙ ap blocks (sym lines);
-      lines = lines ∙ ap (take k) begins ∙ ap (λ (n : ℕ). take n (first ++ kept)) split ∙ take-append-add first kept (k - length first);
+      lines = lines ∙ ap (take k) begins ∙ ap (λ (n : ℕ). take n (first ++ lines_after_settings)) split ∙ take-append-add first lines_after_settings (k - length first);
     }
 
 -- ---- the first line that was read
@@ -244,8 +244,8 @@ has_books version s journals line kept file text k long begins is =
 -- the first line of a log that opened for the first time, or from these journals
 first_read : (version : Version) (header file : List ℕ) (line : List ℕ) (others : Lines) → recovered_lines header ≡ lines_and_mark version (line ∷ others) → Begins header file
     → blocks (take 1 (recovered_lines file)) ≡ line ++ newline ∷ []
-first_read One header file line others is begins = ap (λ (ls : Lines). blocks (take 1 ls)) (begins ∙ ap (λ (ls : Lines). ls ++ kept header file) is)
-first_read Two header file line others is begins = ap (λ (ls : Lines). blocks (take 1 ls)) (begins ∙ ap (λ (ls : Lines). ls ++ kept header file) is)
+first_read One header file line others is begins = ap (λ (ls : Lines). blocks (take 1 ls)) (begins ∙ ap (λ (ls : Lines). ls ++ lines_after_settings header file) is)
+first_read Two header file line others is begins = ap (λ (ls : Lines). blocks (take 1 ls)) (begins ∙ ap (λ (ls : Lines). ls ++ lines_after_settings header file) is)
 
 pub first_of_header : (version : Version) (mode : Mode) (s : HubSettings) (file text : List ℕ) → AreOfAHub s → Begins (header version mode s) file
     → text ≡ blocks (take 1 (recovered_lines file)) → IsHeaderLine version mode s None text
@@ -267,8 +267,8 @@ first_of_books version mode s journals file text can begins is = record {
 -- the first line of a log, without its newline
 first_alone : (version : Version) (header file : List ℕ) (line : List ℕ) (others : Lines) (found : List ℕ) → recovered_lines header ≡ lines_and_mark version (line ∷ others) → Begins header file
     → HasFirst (recovered_lines file) found → found ≡ line
-first_alone One header file line others found is begins has = first_is (sym has.split ∙ begins ∙ ap (λ (ls : Lines). ls ++ kept header file) is)
-first_alone Two header file line others found is begins has = first_is (sym has.split ∙ begins ∙ ap (λ (ls : Lines). ls ++ kept header file) is)
+first_alone One header file line others found is begins has = first_is (sym has.split ∙ begins ∙ ap (λ (ls : Lines). ls ++ lines_after_settings header file) is)
+first_alone Two header file line others found is begins has = first_is (sym has.split ∙ begins ∙ ap (λ (ls : Lines). ls ++ lines_after_settings header file) is)
 
 pub header_of_first : (version : Version) (mode : Mode) (s : HubSettings) (header file found : List ℕ) → AreFirstLines version mode s header → Begins header file → HasFirst (recovered_lines file) found
     → (books : Option ℕ) × IsHeaderLine version mode s books found
@@ -299,8 +299,8 @@ header_of_text version mode s h file text (inr (journals, can, same)) begins is 
 
 -- a log has a line
 begins_some : (version : Version) (header file : List ℕ) (line : List ℕ) (others : Lines) → recovered_lines header ≡ lines_and_mark version (line ∷ others) → Begins header file → recovered_lines file ≡ [] → ⊥
-begins_some One header file line others is begins none = cc (sym none ∙ begins ∙ ap (λ (ls : Lines). ls ++ kept header file) is)
-begins_some Two header file line others is begins none = cc (sym none ∙ begins ∙ ap (λ (ls : Lines). ls ++ kept header file) is)
+begins_some One header file line others is begins none = cc (sym none ∙ begins ∙ ap (λ (ls : Lines). ls ++ lines_after_settings header file) is)
+begins_some Two header file line others is begins none = cc (sym none ∙ begins ∙ ap (λ (ls : Lines). ls ++ lines_after_settings header file) is)
 
 pub log_has_a_line : (version : Version) (mode : Mode) (s : HubSettings) (header file : List ℕ) → AreFirstLines version mode s header → Begins header file → recovered_lines file ≡ [] → ⊥
 log_has_a_line version mode s h file (inl (of, same)) begins =

@@ -11,7 +11,7 @@ use Rattle.inst_chain.specs.declared.prefix.Prefix.{Prefix}
 use Rattle.inst_logged.specs.declared.version.Version.{Version}
 use Rattle.inst_logged.specs.declared.version.Version.TheVariants.{Two}
 use Rattle.inst_logged.specs.Marking.{IsIntact}
-use Rattle.inst_logged.specs.Refused.{OpensAs, IsRefused, IsCause, IsTaken}
+use Rattle.inst_logged.specs.Refused.{OpensAs, IsRefused, IsCause, IsLogTaken}
 
 no_line : (file : List ℕ) → 0 < length (recovered_lines file) → recovered_lines file ≡ [] → ⊥
 no_line file some none = omega (arith, some, ap length none)
@@ -44,7 +44,7 @@ cause_of_none version header told wanted file Changed not alone = absurd (alone 
 
 -- whatever cause a refusal has, the log isn't one that is taken
 pub not_taken : (version : Version) (header : List ℕ) (told : Option ℕ) (wanted : Option Digest) (file : List ℕ) (e : LoggedError) → IsRefused e → IsCause version header told wanted file e
-    → IsTaken version header told wanted file → ⊥
+    → IsLogTaken version header told wanted file → ⊥
 not_taken version header told wanted file (Log OtherSettings) is why taken = other_settings header file why.0 why.1 taken.opens
 not_taken version header told wanted file (Log NoLog) is why taken = why.1 taken.opens
 not_taken version header told wanted file (Log Told) is why taken = omega (arith, why, taken.enough)

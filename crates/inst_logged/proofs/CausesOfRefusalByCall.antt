@@ -3,7 +3,7 @@ use Rattle.std.proofs.Common.{◌≡◌, inl, inr, ℕ, ◌<◌, false, List, []
 use Rattle.std.specs.Prelude.{is_some}
 use Rattle.inst_log.specs.Log.{HasCause}
 use Rattle.inst_log.specs.Layout.{recovered_lines, IsBatch}
-use Rattle.inst_log.specs.Opening.{kept, IsNewFile, Unopened}
+use Rattle.inst_log.specs.Opening.{lines_after_settings, IsNewFile, Unopened}
 use Rattle.inst_log.specs.Pieces.{Starts}
 use Rattle.inst_log.specs.declared.start.Start.{Start}
 use Rattle.inst_log.specs.declared.start.Start.TheVariants as start
@@ -40,7 +40,7 @@ module _ (version : Version) (header : List ℕ) (told : Option ℕ) (wanted : O
   -- a file without a line doesn't begin with the first lines of a log
   not_as : IsBatch header → recovered_lines file ≡ [] → (IsNewFile header file → ⊥) → OpensAs header file → ⊥
   not_as batch none not (inl begins) =
-      omega (arith, batch.some, ap length (sym begins ∙ none), length-append (recovered_lines header) (kept header file))
+      omega (arith, batch.some, ap length (sym begins ∙ none), length-append (recovered_lines header) (lines_after_settings header file))
   not_as batch none not (inr new) = not new.1
 
   pub unopened_cause : IsBatch header → (clean untouched failed : Type 0) (e : LogError) → clean → Unopened header file clean untouched failed e → IsCause version header told wanted file (Log e)

@@ -8,13 +8,13 @@ use Rattle.inst_base.specs.Handing.{WritesPart}
 use Rattle.inst_base.proofs.Streams.{Appends-append, Appends-keeps, Keeps-same}
 use Rattle.inst_agenda.specs.declared.runner.Runner.{Runner}
 use Rattle.inst_lines.specs.declared.mode.Mode.{Mode}
-use Rattle.inst_lines.specs.Answering.{HubPast, Keeps}
+use Rattle.inst_lines.specs.Answering.{HubPast, IsRunnerAt}
 use Rattle.inst_log.specs.Layout.{recovered_lines, blocks, IsBatch}
-use Rattle.inst_log.specs.Opening.{kept, Begins}
+use Rattle.inst_log.specs.Opening.{lines_after_settings, Begins}
 use Rattle.inst_log.specs.Pieces.{IsReading, has_more}
 use Rattle.inst_log.specs.declared.file_lines.FileLines.{FileLines}
 use Rattle.inst_log.proofs.Pieces.{file_lines, all_cut, through, header_split, header_lines, header_end}
-use Rattle.inst_log.specs.inner.Serving.{TellsPart}
+use Rattle.inst_log.specs.inner.Serving.{TellsFront}
 use Rattle.inst_chain.specs.Chain.{said}
 use Rattle.inst_chain.proofs.LinesWithoutMarks.{said-append}
 use Rattle.inst_logged.specs.Answering.{replies_at, past_after, told_count}
@@ -142,7 +142,7 @@ module _ (mode : Mode) where
       let b : AnswersAgain mode left left' mid new e at after = subst (λ (m : Mode). AnswersAgain m left left' mid new e at after) same b' in
       record {
         state = λ past keeps.
-            subst (λ (p : HubPast). Keeps mode p new) (sym (past-append mode past d e)) (b.state (past_after mode past d) (a.state past keeps));
+            subst (λ (p : HubPast). IsRunnerAt mode p new) (sym (past-append mode past d e)) (b.state (past_after mode past d) (a.state past keeps));
         left_is = b.left_is ∙ ap (λ (o : Option ℕ). left_of o e) a.left_is ∙ sym (left-append told d e);
         handed = λ past keeps.
             let owed_e = ap (λ (o : Option ℕ). debt mode (past_after mode past d) o e) a.left_is in
@@ -156,14 +156,14 @@ module _ (mode : Mode) where
   again_few old new out out' lines start count left before f some =
       let all : recovered_lines lines ≡ f.done = f.split ∙ ap (λ (ls : Lines). f.done ++ ls) (f.full some) ∙ append-nil f.done in
       record {
-        state = λ past keeps. subst (λ (ls : Lines). Keeps mode (past_after mode past ls) new) (sym all) (f.answered.state past keeps);
+        state = λ past keeps. subst (λ (ls : Lines). IsRunnerAt mode (past_after mode past ls) new) (sym all) (f.answered.state past keeps);
         left_is = ap (λ (n : ℕ). Some n) (f.left_is ∙ ap (λ (ls : Lines). count - length (said ls)) (sym all));
         handed = λ past keeps.
             subst (Appends before before) (sym (ap (debt mode past (Some count)) all ∙ debt_few past f.done count f.few)) (Appends-keeps before before (Keeps-same before));
       }
 
   -- those that have been told are there, and the others were answered too
-  pub rest_out : (past : HubPast) (old mid new : Runner) (out out' out'' lines : List ℕ) (start count left : ℕ) (mode' : Mode) → mode' ≡ mode → Keeps mode past old → AnswersFirst mode old mid out out' lines start count left → left ≡ 0
+  pub rest_out : (past : HubPast) (old mid new : Runner) (out out' out'' lines : List ℕ) (start count left : ℕ) (mode' : Mode) → mode' ≡ mode → IsRunnerAt mode past old → AnswersFirst mode old mid out out' lines start count left → left ≡ 0
       → AnswersLines mode' mid new [] out'' (recovered_lines (drop start lines)) → out'' ≡ debt mode past (Some count) (recovered_lines lines)
   rest_out past old mid new out out' out'' lines start count left mode' same keeps f none rest =
       let later = past_after mode past f.done in
@@ -180,7 +180,7 @@ module _ (mode : Mode) where
       omega (arith, f.few, f.left_is, none, ap (λ (ls : Lines). length (said ls)) f.split, ap length (said-append f.done (recovered_lines (drop start lines))), length-append (said f.done) (said (recovered_lines (drop start lines)))) in
       record {
         state = λ past keeps.
-            subst (λ (p : HubPast). Keeps mode p new) (sym (past-append mode past f.done (recovered_lines (drop start lines))) ∙ ap (past_after mode past) (sym f.split))
+            subst (λ (p : HubPast). IsRunnerAt mode p new) (sym (past-append mode past f.done (recovered_lines (drop start lines))) ∙ ap (past_after mode past) (sym f.split))
             (r.state (past_after mode past f.done) (f.answered.state past keeps));
         left_is = ap (λ (n : ℕ). Some n) enough;
         handed = λ past keeps. subst (Appends before after) (rest_out past old mid new out out' out'' lines start count left mode' same keeps f none rest) wrote;
@@ -231,7 +231,7 @@ module _ (mode : Mode) where
 
   -- a part of what is owed
   pub part_of : (past : HubPast) (told : Option ℕ) (first d e : Lines) (part rest : List ℕ) (before now : Option (List ℕ)) → first ≡ said (d ++ e) → debt mode past told (d ++ e) ≡ part ++ rest → Appends before now part
-      → TellsPart (AreReplies (unsent_replies_at mode past first (told_count told first))) [] before now
+      → TellsFront (AreReplies (unsent_replies_at mode past first (told_count told first))) [] before now
   part_of past told first d e part rest before now is split handed = record {
     told = part;
     handed = handed;
@@ -242,18 +242,18 @@ module _ (mode : Mode) where
   }
 
   -- so far
-  pub part_so_far : (past : HubPast) (told left : Option ℕ) (old mid : Runner) (first d e : Lines) (before now : Option (List ℕ)) → first ≡ said (d ++ e) → Keeps mode past old
-      → AnswersAgain mode told left old mid d before now → TellsPart (AreReplies (unsent_replies_at mode past first (told_count told first))) [] before now
+  pub part_so_far : (past : HubPast) (told left : Option ℕ) (old mid : Runner) (first d e : Lines) (before now : Option (List ℕ)) → first ≡ said (d ++ e) → IsRunnerAt mode past old
+      → AnswersAgain mode told left old mid d before now → TellsFront (AreReplies (unsent_replies_at mode past first (told_count told first))) [] before now
   part_so_far past told left old mid first d e before now is keeps a =
       part_of past told first d e (debt mode past told d) (debt mode (past_after mode past d) (left_of told d) e) before now is (debt-append past told d e) (a.handed past keeps)
 
   -- and of the lines that were answered last
-  pub part_more : (past : HubPast) (told left : Option ℕ) (old mid : Runner) (first d p e : Lines) (before at now : Option (List ℕ)) (mode' : Mode) → mode' ≡ mode → first ≡ said ((d ++ p) ++ e) → Keeps mode past old
-      → AnswersAgain mode told left old mid d before at → ((later : HubPast) → Keeps mode' later mid → WritesPart at now (debt mode' later left p)) → TellsPart (AreReplies (unsent_replies_at mode past first (told_count told first))) [] before now
+  pub part_more : (past : HubPast) (told left : Option ℕ) (old mid : Runner) (first d p e : Lines) (before at now : Option (List ℕ)) (mode' : Mode) → mode' ≡ mode → first ≡ said ((d ++ p) ++ e) → IsRunnerAt mode past old
+      → AnswersAgain mode told left old mid d before at → ((later : HubPast) → IsRunnerAt mode' later mid → WritesPart at now (debt mode' later left p)) → TellsFront (AreReplies (unsent_replies_at mode past first (told_count told first))) [] before now
   part_more past told left old mid first d p e before at now mode' same is keeps a parts =
       let later = past_after mode past d in
       let w : WritesPart at now (debt mode later left p) =
-      subst (λ (m : Mode). WritesPart at now (debt m later left p)) same (parts later (subst (λ (m : Mode). Keeps m later mid) (sym same) (a.state past keeps))) in
+      subst (λ (m : Mode). WritesPart at now (debt m later left p)) same (parts later (subst (λ (m : Mode). IsRunnerAt m later mid) (sym same) (a.state past keeps))) in
       let whole : debt mode past told d ++ debt mode later left p ≡ (debt mode past told d ++ w.part) ++ w.rest =
       ap (λ (l : List ℕ). debt mode past told d ++ l) w.whole ∙ sym (append_assoc (debt mode past told d) w.part w.rest) in
       let both : debt mode past told (d ++ p) ≡ (debt mode past told d ++ w.part) ++ w.rest =
@@ -264,18 +264,18 @@ module _ (mode : Mode) where
       (Appends-append before at now (debt mode past told d) w.part (a.handed past keeps) w.appends)
 
 -- the lines behind a log's first ones
-pub kept_is : (header file : List ℕ) (d : Lines) → recovered_lines file ≡ recovered_lines header ++ d → kept header file ≡ d
+pub kept_is : (header file : List ℕ) (d : Lines) → recovered_lines file ≡ recovered_lines header ++ d → lines_after_settings header file ≡ d
 kept_is header file d is =
     ap (drop (length (recovered_lines header))) is ∙ drop_at (recovered_lines header) d (length (recovered_lines header)) refl
 
 -- so far they are those that were read, and then others
 pub kept_so_far : (header file : List ℕ) (reader : FileLines) (d : Lines) → IsReading file reader (recovered_lines header ++ d)
-    → kept header file ≡ d ++ recovered_lines (reader.cutter.held.items ++ drop reader.cutter.at file)
+    → lines_after_settings header file ≡ d ++ recovered_lines (reader.cutter.held.items ++ drop reader.cutter.at file)
 kept_so_far header file reader d r =
     let e = recovered_lines (reader.cutter.held.items ++ drop reader.cutter.at file) in
     kept_is header file (d ++ e) (file_lines file reader.cutter (recovered_lines header ++ d) r.cut ∙ append_assoc (recovered_lines header) d e)
 
-pub kept_at_end : (header file : List ℕ) (reader : FileLines) (d : Lines) → IsReading file reader (recovered_lines header ++ d) → has_more reader ≡ false → kept header file ≡ d
+pub kept_at_end : (header file : List ℕ) (reader : FileLines) (d : Lines) → IsReading file reader (recovered_lines header ++ d) → has_more reader ≡ false → lines_after_settings header file ≡ d
 kept_at_end header file reader d r no_more =
     kept_is header file d (all_cut file reader.cutter (recovered_lines header ++ d) r.cut (through file reader (recovered_lines header ++ d) r no_more))
 
@@ -313,5 +313,5 @@ not_zero left n is some zero = omega (arith, some, some_is (sym is ∙ zero))
     some_is e = cc e
 
 -- a file without a line has none behind the first ones
-pub kept_none : (header file : List ℕ) → recovered_lines file ≡ [] → kept header file ≡ []
+pub kept_none : (header file : List ℕ) → recovered_lines file ≡ [] → lines_after_settings header file ≡ []
 kept_none header file none = ap (drop (length (recovered_lines header))) none ∙ drop_all (length (recovered_lines header)) [] (omega arith)

@@ -13,14 +13,14 @@ use Rattle.inst_log.specs.declared.error.LogError.TheVariants.{Disk, Memory, Ful
 use Rattle.inst_chain.specs.Verifying.{Unverified}
 use Rattle.inst_chain.specs.declared.error.ChainError.{ChainError}
 use Rattle.inst_chain.specs.declared.error.ChainError.TheVariants as chain
-use Rattle.inst_logged.specs.Refused.{HasFailed}
+use Rattle.inst_logged.specs.Refused.{HasLogFailed}
 use Rattle.inst_logged.specs.inner.Errors.{of_chain}
-use Rattle.inst_logged.specs.inner.Failing.{Fails, FailsBy}
+use Rattle.inst_logged.specs.inner.Failing.{FailsAtLog, FailsBy}
 use Rattle.inst_logged.specs.declared.error.LoggedError.{LoggedError}
 use Rattle.inst_logged.specs.declared.error.LoggedError.TheVariants.{Log, Read, Books, Damaged, OtherDigest, Changed}
 
 pub failed_so : (failed failed' no_room no_room' at_rest at_rest' : Type 0) (e : LoggedError) → (failed → failed') → (no_room → no_room') → (at_rest → at_rest')
-    → HasFailed failed no_room at_rest e → HasFailed failed' no_room' at_rest' e
+    → HasLogFailed failed no_room at_rest e → HasLogFailed failed' no_room' at_rest' e
 failed_so failed failed' no_room no_room' at_rest at_rest' (Log (Disk error)) f n r is = f is
 failed_so failed failed' no_room no_room' at_rest at_rest' (Log Full) f n r is = n is
 failed_so failed failed' no_room no_room' at_rest at_rest' (Log Write) f n r is = r is
@@ -35,11 +35,11 @@ failed_so failed failed' no_room no_room' at_rest at_rest' OtherDigest f n r is 
 failed_so failed failed' no_room no_room' at_rest at_rest' Changed f n r is = tt
 
 pub fails_so : (failed failed' no_room no_room' at_rest at_rest' : Type 0) (e : LoggedError) → (failed → failed') → (no_room → no_room') → (at_rest → at_rest')
-    → Fails failed no_room at_rest e → Fails failed' no_room' at_rest' e
+    → FailsAtLog failed no_room at_rest e → FailsAtLog failed' no_room' at_rest' e
 fails_so failed failed' no_room no_room' at_rest at_rest' e f n r is = (is.0, failed_so failed failed' no_room no_room' at_rest at_rest' e f n r is.1)
 
 -- the disk failed, or there was no memory
-pub log_fails : (failed failed' no_memory no_room at_rest : Type 0) (e : LogError) → (failed → failed') → HasCause failed no_memory ⊥ e → Fails failed' no_room at_rest (Log e)
+pub log_fails : (failed failed' no_memory no_room at_rest : Type 0) (e : LogError) → (failed → failed') → HasCause failed no_memory ⊥ e → FailsAtLog failed' no_room at_rest (Log e)
 log_fails failed failed' no_memory no_room at_rest (Disk error) so cause = ((λ is. cc is), so cause)
 log_fails failed failed' no_memory no_room at_rest Memory so cause = ((λ is. cc is), tt)
 log_fails failed failed' no_memory no_room at_rest Full so cause = absurd cause
@@ -48,11 +48,11 @@ log_fails failed failed' no_memory no_room at_rest Told so cause = absurd cause
 log_fails failed failed' no_memory no_room at_rest OtherSettings so cause = absurd cause
 log_fails failed failed' no_memory no_room at_rest NoLog so cause = absurd cause
 
-pub chain_fails : (file : List ℕ) (clean failed no_room at_rest : Type 0) (e : ChainError) → clean → Unverified file clean failed e → Fails failed no_room at_rest (of_chain e)
+pub chain_fails : (file : List ℕ) (clean failed no_room at_rest : Type 0) (e : ChainError) → clean → Unverified file clean failed e → FailsAtLog failed no_room at_rest (of_chain e)
 chain_fails file clean failed no_room at_rest (chain.Log e) is u = log_fails _ failed _ no_room at_rest e (λ so. so is) u
 chain_fails file clean failed no_room at_rest (chain.Damaged right) is u = ((λ i. cc i), tt)
 
-pub unopened_fails : (settings file : List ℕ) (clean untouched failed no_room at_rest : Type 0) (e : LogError) → Unopened settings file clean untouched failed e → HasFailed failed no_room at_rest (Log e)
+pub unopened_fails : (settings file : List ℕ) (clean untouched failed no_room at_rest : Type 0) (e : LogError) → Unopened settings file clean untouched failed e → HasLogFailed failed no_room at_rest (Log e)
 unopened_fails settings file clean untouched failed no_room at_rest (Disk error) u = u
 unopened_fails settings file clean untouched failed no_room at_rest Memory u = tt
 unopened_fails settings file clean untouched failed no_room at_rest Full u = absurd u
@@ -62,7 +62,7 @@ unopened_fails settings file clean untouched failed no_room at_rest OtherSetting
 unopened_fails settings file clean untouched failed no_room at_rest NoLog u = tt
 
 pub unanswered_fails : (failed failed' no_room no_room' at_rest at_rest' : Type 0) (e : LogError) → (failed → failed') → (no_room → no_room') → (at_rest → at_rest')
-    → Unanswered (HasCause failed ⊤ ⊥) no_room ⊥ at_rest e → Fails failed' no_room' at_rest' (Log e)
+    → Unanswered (HasCause failed ⊤ ⊥) no_room ⊥ at_rest e → FailsAtLog failed' no_room' at_rest' (Log e)
 unanswered_fails failed failed' no_room no_room' at_rest at_rest' (Disk error) f n r u = ((λ is. cc is), f u)
 unanswered_fails failed failed' no_room no_room' at_rest at_rest' Memory f n r u = ((λ is. cc is), tt)
 unanswered_fails failed failed' no_room no_room' at_rest at_rest' Full f n r u = ((λ is. cc is), n u)
@@ -81,9 +81,9 @@ err_of_fails (Err e) calm P is = is
 
 -- more was told than the log has
 pub fails_told : {T : Type 0} (calm clean failed no_room at_rest : Type 0) (r : Result T LoggedError) → calm → IfErr r (λ e. e ≡ Log Told)
-    → MatchResult r (λ _. calm) (λ e. clean → Fails failed no_room at_rest e)
+    → MatchResult r (λ _. calm) (λ e. clean → FailsAtLog failed no_room at_rest e)
 fails_told calm clean failed no_room at_rest (Ok v) none is = none
-fails_told calm clean failed no_room at_rest (Err e) none is = λ _. subst (Fails failed no_room at_rest) (sym is) ((λ i. cc i), tt)
+fails_told calm clean failed no_room at_rest (Err e) none is = λ _. subst (FailsAtLog failed no_room at_rest) (sym is) ((λ i. cc i), tt)
 
 -- no fault was counted before
 pub more_faults : (old mid new : ℕ) → mid ≡ old → MoreFaults mid new → MoreFaults old new
@@ -92,7 +92,7 @@ more_faults old mid new calm more = subst (λ (n : ℕ). MoreFaults n new) calm 
 pub fails_after : {D T : Type 0} (disks : Ghosts D) (old mid new : D) (no_room at_rest : Type 0) (r : Result T LoggedError) → disks.faults mid ≡ disks.faults old → FailsBy disks mid new no_room at_rest r
     → FailsBy disks old new no_room at_rest r
 fails_after disks old mid new no_room at_rest r calm by =
-    subst (λ (n : ℕ). MatchResult r (λ _. disks.faults new ≡ n) (λ e. IsTrue (disks.is_clean new) → Fails (MoreFaults n (disks.faults new)) no_room at_rest e)) calm by
+    subst (λ (n : ℕ). MatchResult r (λ _. disks.faults new ≡ n) (λ e. IsTrue (disks.is_clean new) → FailsAtLog (MoreFaults n (disks.faults new)) no_room at_rest e)) calm by
 
 -- a log whose lines have so many bytes has no fewer later
 pub no_room_now : (file new : List ℕ) (batch : List (List ℕ)) (most end : ℕ) → end ≡ length (blocks (recovered_lines file)) → most ≤ end → IsBeforeOrAfter (recovered_lines file) batch new

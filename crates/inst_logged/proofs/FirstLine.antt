@@ -40,8 +40,8 @@ use Rattle.inst_lines.specs.declared.mode.Mode.TheVariants.{Run, Play}
 use Rattle.inst_logged.specs.declared.version.Version.{Version}
 use Rattle.inst_logged.specs.declared.version.Version.TheVariants.{One, Two}
 use Rattle.inst_logged.specs.LogHeader.{IsHeaderLine}
-use Rattle.inst_logged.specs.Header.{header_line, version_word, field, books_field, mode_field, participants_field, mode_word, quoted_codes, comma_if, quoted}
-use Rattle.inst_logged.specs.inner.LogHeader.{Says, number_of}
+use Rattle.inst_logged.specs.Header.{header_line, version_word, header_field, books_field, mode_field, participants_field, mode_word, quoted_codes, comma_if, quoted}
+use Rattle.inst_logged.specs.inner.LogHeader.{HeaderSays, version_number}
 
 -- ---- the line as an object
 
@@ -64,9 +64,9 @@ header_data version mode s books = object (members (
     ∷ (codes "margin", whole s.margin)
     ∷ (codes "participants", array (items (map string s.codes)))
     ∷ (codes "places", whole s.places)
-    ∷ (codes "version", whole (number_of version)) ∷ [])))
+    ∷ (codes "version", whole (version_number version)) ∷ [])))
 
-header_says : (version : Version) (mode : Mode) (s : HubSettings) (books : Option ℕ) → Says version mode s books (header_data version mode s books)
+header_says : (version : Version) (mode : Mode) (s : HubSettings) (books : Option ℕ) → HeaderSays version mode s books (header_data version mode s books)
 header_says version mode s None = record {
   version_is = refl;
   mode_is = refl;
@@ -98,7 +98,7 @@ unfolding escape_byte
 mode_plain Run = refl
 mode_plain Play = refl
 
-version_text : (version : Version) → version_word version ≡ codes "\"version\":" ++ (decimal (number_of version) ++ 125 ∷ [])
+version_text : (version : Version) → version_word version ≡ codes "\"version\":" ++ (decimal (version_number version) ++ 125 ∷ [])
 unfolding digits
 version_text One = refl
 version_text Two = refl
@@ -117,12 +117,12 @@ module _ (version : Version) (mode : Mode) (s : HubSettings) (formed : list_all 
   line_is : (books : Option ℕ) → header_line version mode s books ≡ compact_text (header_data version mode s books)
   unfolding serde_json_on_literals
   line_is None =
-      flat (field (codes "{\"ahead\":") s.ahead) (field (codes ",\"base\":") s.base) [] (field (codes ",\"ceiling\":") s.ceiling) (field (codes ",\"fundings\":") s.fundings)
-      (field (codes ",\"limit\":") s.limit) (mode_field mode) (field (codes ",\"margin\":") s.margin) (participants_field s.codes) (field (codes ",\"places\":") s.places) (44 ∷ version_word version)
+      flat (header_field (codes "{\"ahead\":") s.ahead) (header_field (codes ",\"base\":") s.base) [] (header_field (codes ",\"ceiling\":") s.ceiling) (header_field (codes ",\"fundings\":") s.fundings)
+      (header_field (codes ",\"limit\":") s.limit) (mode_field mode) (header_field (codes ",\"margin\":") s.margin) (participants_field s.codes) (header_field (codes ",\"places\":") s.places) (44 ∷ version_word version)
       ∙ rw (codes_text, version_text version, mode_plain mode) refl
   line_is (Some count) =
-      flat (field (codes "{\"ahead\":") s.ahead) (field (codes ",\"base\":") s.base) (field (codes ",\"books\":") count) (field (codes ",\"ceiling\":") s.ceiling) (field (codes ",\"fundings\":") s.fundings)
-      (field (codes ",\"limit\":") s.limit) (mode_field mode) (field (codes ",\"margin\":") s.margin) (participants_field s.codes) (field (codes ",\"places\":") s.places) (44 ∷ version_word version)
+      flat (header_field (codes "{\"ahead\":") s.ahead) (header_field (codes ",\"base\":") s.base) (header_field (codes ",\"books\":") count) (header_field (codes ",\"ceiling\":") s.ceiling) (header_field (codes ",\"fundings\":") s.fundings)
+      (header_field (codes ",\"limit\":") s.limit) (mode_field mode) (header_field (codes ",\"margin\":") s.margin) (participants_field s.codes) (header_field (codes ",\"places\":") s.places) (44 ∷ version_word version)
       ∙ rw (codes_text, version_text version, mode_plain mode) refl
 
 -- ---- it reads back
@@ -142,7 +142,7 @@ texts_depth : (texts : List (List ℕ)) → tree.items_depth (items_outline (ite
 texts_depth [] = refl
 texts_depth (text ∷ texts) = omega (arith, texts_depth texts)
 
-version_small : (version : Version) → IsSmall (number_of version)
+version_small : (version : Version) → IsSmall (version_number version)
 version_small One = omega arith
 version_small Two = omega arith
 
@@ -168,7 +168,7 @@ module _ (version : Version) (mode : Mode) (s : HubSettings) (of : AreOfAHub s) 
   places : IsSmall s.places
   places = omega (arith, of.lawful.places_most)
 
-  told : IsSmall (number_of version)
+  told : IsSmall (version_number version)
   told = version_small version
 
   data_reads : (books : Option ℕ) → IfSome books IsSmall → ReadsBack (header_data version mode s books)
@@ -185,7 +185,7 @@ module _ (version : Version) (mode : Mode) (s : HubSettings) (of : AreOfAHub s) 
                 IsNumber-decimal s.fundings fundings,
                 (
                   IsNumber-decimal s.limit limit,
-                  (tt, (IsNumber-decimal s.margin margin, (texts_numbers s.codes, (IsNumber-decimal s.places places, (IsNumber-decimal (number_of version) told, tt))))),
+                  (tt, (IsNumber-decimal s.margin margin, (texts_numbers s.codes, (IsNumber-decimal s.places places, (IsNumber-decimal (version_number version) told, tt))))),
                 ),
               ),
             ),
@@ -200,7 +200,7 @@ module _ (version : Version) (mode : Mode) (s : HubSettings) (of : AreOfAHub s) 
           number_of-decimal s.margin margin,
           texts_again s.codes,
           number_of-decimal s.places places,
-          number_of-decimal (number_of version) told,
+          number_of-decimal (version_number version) told,
         ) refl;
         shallow = omega (arith, texts_depth s.codes);
       }
@@ -218,7 +218,7 @@ module _ (version : Version) (mode : Mode) (s : HubSettings) (of : AreOfAHub s) 
                   IsNumber-decimal s.fundings fundings,
                   (
                     IsNumber-decimal s.limit limit,
-                    (tt, (IsNumber-decimal s.margin margin, (texts_numbers s.codes, (IsNumber-decimal s.places places, (IsNumber-decimal (number_of version) told, tt))))),
+                    (tt, (IsNumber-decimal s.margin margin, (texts_numbers s.codes, (IsNumber-decimal s.places places, (IsNumber-decimal (version_number version) told, tt))))),
                   ),
                 ),
               ),
@@ -235,7 +235,7 @@ module _ (version : Version) (mode : Mode) (s : HubSettings) (of : AreOfAHub s) 
           number_of-decimal s.margin margin,
           texts_again s.codes,
           number_of-decimal s.places places,
-          number_of-decimal (number_of version) told,
+          number_of-decimal (version_number version) told,
         ) refl;
         shallow = omega (arith, texts_depth s.codes);
       }
@@ -263,7 +263,7 @@ onto (suc k) n acc h =
       | false ↦ onto k (n / 10) (digit_glyph false (n % 10) ∷ acc) (rw (last, h) refl)
     ]
 
-printed : (name : List ℕ) (n : ℕ) → Printable name → Printable (field name n)
+printed : (name : List ℕ) (n : ℕ) → Printable name → Printable (header_field name n)
 unfolding digits
 printed name n h = joined name (decimal n) h (onto 64 n [] refl)
 
@@ -296,26 +296,26 @@ printed_participants cs formed =
 
 pub line_printed : (version : Version) (mode : Mode) (s : HubSettings) (books : Option ℕ) → list_all is_code s.codes ≡ true → Printable (header_line version mode s books)
 line_printed version mode s books formed =
-    let x1 : List ℕ = field (codes "{\"ahead\":") s.ahead in
-    let x2 = x1 ++ field (codes ",\"base\":") s.base in
+    let x1 : List ℕ = header_field (codes "{\"ahead\":") s.ahead in
+    let x2 = x1 ++ header_field (codes ",\"base\":") s.base in
     let x3 = x2 ++ books_field books in
-    let x4 = x3 ++ field (codes ",\"ceiling\":") s.ceiling in
-    let x5 = x4 ++ field (codes ",\"fundings\":") s.fundings in
-    let x6 = x5 ++ field (codes ",\"limit\":") s.limit in
+    let x4 = x3 ++ header_field (codes ",\"ceiling\":") s.ceiling in
+    let x5 = x4 ++ header_field (codes ",\"fundings\":") s.fundings in
+    let x6 = x5 ++ header_field (codes ",\"limit\":") s.limit in
     let x7 = x6 ++ mode_field mode in
-    let x8 = x7 ++ field (codes ",\"margin\":") s.margin in
+    let x8 = x7 ++ header_field (codes ",\"margin\":") s.margin in
     let x9 = x8 ++ participants_field s.codes in
-    let x10 = x9 ++ field (codes ",\"places\":") s.places in
+    let x10 = x9 ++ header_field (codes ",\"places\":") s.places in
     joined x10 (44 ∷ version_word version) (
-    joined x9 (field (codes ",\"places\":") s.places) (
+    joined x9 (header_field (codes ",\"places\":") s.places) (
     joined x8 (participants_field s.codes) (
-    joined x7 (field (codes ",\"margin\":") s.margin) (
+    joined x7 (header_field (codes ",\"margin\":") s.margin) (
     joined x6 (mode_field mode) (
-    joined x5 (field (codes ",\"limit\":") s.limit) (
-    joined x4 (field (codes ",\"fundings\":") s.fundings) (
-    joined x3 (field (codes ",\"ceiling\":") s.ceiling) (
+    joined x5 (header_field (codes ",\"limit\":") s.limit) (
+    joined x4 (header_field (codes ",\"fundings\":") s.fundings) (
+    joined x3 (header_field (codes ",\"ceiling\":") s.ceiling) (
     joined x2 (books_field books) (
-    joined x1 (field (codes ",\"base\":") s.base)
+    joined x1 (header_field (codes ",\"base\":") s.base)
     (printed (codes "{\"ahead\":") s.ahead refl) (printed (codes ",\"base\":") s.base refl))
     (printed_books books)) (printed (codes ",\"ceiling\":") s.ceiling refl)) (printed (codes ",\"fundings\":") s.fundings refl)) (printed (codes ",\"limit\":") s.limit refl))
     (printed_mode mode)) (printed (codes ",\"margin\":") s.margin refl)) (printed_participants s.codes formed)) (printed (codes ",\"places\":") s.places refl)) (printed_version version)
@@ -343,11 +343,11 @@ module _ (version : Version) (mode : Mode) (s : HubSettings) (books : Option ℕ
       let again : read text ≡ Some d = ap read (line_is version mode s formed books) ∙ from_parts d (data_reads version mode s first.settings books first.word) in
       json_of-value text d utf8 again ∙ ap json_of (sym bare_line)
 
-  pub says : (read : Option Value) (value : Value) → as_json read ≡ json_of line → read ≡ Some value → Says version mode s books (view value)
+  pub says : (read : Option Value) (value : Value) → as_json read ≡ json_of line → read ≡ Some value → HeaderSays version mode s books (view value)
   says read value json is =
       let same : Ok (header_data version mode s books) ≡ Ok (view value) = its_json ∙ sym json ∙ ap as_json is in
       let here : header_data version mode s books ≡ view value = cc same in
-      subst (Says version mode s books) here (header_says version mode s books)
+      subst (HeaderSays version mode s books) here (header_says version mode s books)
 
   pub no_json : (read : Option Value) → as_json read ≡ json_of line → read ≡ None → ⊥
   no_json read json is =

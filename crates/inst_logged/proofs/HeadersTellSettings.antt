@@ -16,7 +16,7 @@ use Rattle.inst_chain.specs.Chain.{mark_of}
 use Rattle.inst_chain.proofs.LinesWithoutMarks.{length-mark_of}
 use Rattle.inst_logged.specs.declared.version.Version.{Version}
 use Rattle.inst_logged.specs.declared.version.Version.TheVariants.{One, Two}
-use Rattle.inst_logged.specs.Header.{header, header_line, lines_and_mark, version_word, field, mode_field, participants_field, mode_word, quoted_codes, comma_if, quoted, HeadersTellTheirSettings}
+use Rattle.inst_logged.specs.Header.{header, header_line, lines_and_mark, version_word, header_field, mode_field, participants_field, mode_word, quoted_codes, comma_if, quoted, HeadersTellTheirSettings}
 
 -- no byte is this one
 abbrev Lacks : ℕ → List ℕ → Type 0
@@ -156,8 +156,8 @@ module _ (version : Version) where
 
   line_is : (mode : Mode) (u : HubSettings) → header_line version mode u None ≡ codes "{\"ahead\":" ++ (decimal u.ahead ++ 44 ∷ after_ahead mode u)
   line_is mode u =
-      flat (field (codes "{\"ahead\":") u.ahead) (field (codes ",\"base\":") u.base) [] (field (codes ",\"ceiling\":") u.ceiling) (field (codes ",\"fundings\":") u.fundings)
-      (field (codes ",\"limit\":") u.limit) (mode_field mode) (field (codes ",\"margin\":") u.margin) (participants_field u.codes) (field (codes ",\"places\":") u.places) (44 ∷ version_word version)
+      flat (header_field (codes "{\"ahead\":") u.ahead) (header_field (codes ",\"base\":") u.base) [] (header_field (codes ",\"ceiling\":") u.ceiling) (header_field (codes ",\"fundings\":") u.fundings)
+      (header_field (codes ",\"limit\":") u.limit) (mode_field mode) (header_field (codes ",\"margin\":") u.margin) (participants_field u.codes) (header_field (codes ",\"places\":") u.places) (44 ∷ version_word version)
 
   module _ (mode other : Mode) (s t : HubSettings) (of : AreOfAHub s) (of' : AreOfAHub t) where
     codes_tell : after_margin s ≡ after_margin t → (s.codes ≡ t.codes) × (s.places ≡ t.places)

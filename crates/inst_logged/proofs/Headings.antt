@@ -12,7 +12,7 @@ use Rattle.inst_chain.specs.declared.marker.Marker.{Marker}
 use Rattle.inst_chain.proofs.BatchBehindChain.{Marks, first_chain, first_sealed}
 use Rattle.inst_logged.specs.declared.version.Version.{Version}
 use Rattle.inst_logged.specs.declared.version.Version.TheVariants.{One, Two}
-use Rattle.inst_logged.specs.Marking.{IsFirst, BeginsBy}
+use Rattle.inst_logged.specs.Marking.{IsFirstMark, BeginsWithMarker}
 use Rattle.inst_logged.specs.Header.{lines_and_mark, quoted_codes, comma_if, quoted}
 
 pub listed_next : (codes : List (List ℕ)) (n : ℕ) (text new out : List ℕ) → n < length codes → new ≡ text ++ (comma_if (nat_lt 0 n) ++ quoted (unwrap_or (slice_get codes n) []))
@@ -60,17 +60,17 @@ pub marked_some : (version : Version) (old new : List (List ℕ)) → 0 < length
 marked_some One old new some is = subst (λ (ls : List (List ℕ)). 0 < length ls) (sym is) some
 marked_some Two old new some is = omega (arith, some, ap length is, length-append old (mark_of (blocks old) ∷ []))
 
-begins_at : (header header' : List ℕ) (marker : Marker) → recovered_lines header' ≡ recovered_lines header → IsFirst header marker → IsFirst header' marker
+begins_at : (header header' : List ℕ) (marker : Marker) → recovered_lines header' ≡ recovered_lines header → IsFirstMark header marker → IsFirstMark header' marker
 begins_at header header' marker same first = record {
   chain = λ file is. first.chain file (is ∙ same);
   sealed = λ file is shut. first.sealed file (is ∙ same) shut;
 }
 
-pub begins_closed : (version : Version) (header header' : List ℕ) (marker : Marker) → recovered_lines header' ≡ recovered_lines header → BeginsBy version header marker → BeginsBy version header' marker
+pub begins_closed : (version : Version) (header header' : List ℕ) (marker : Marker) → recovered_lines header' ≡ recovered_lines header → BeginsWithMarker version header marker → BeginsWithMarker version header' marker
 begins_closed One header header' marker same begins = tt
 begins_closed Two header header' marker same first = begins_at header header' marker same first
 
-pub is_first : (none first : Marker) (batch header : List ℕ) → Digests none [] → AreWholeLines batch → HasNoMark (recovered_lines batch) → Marks none first batch (recovered_lines header) → IsFirst header first
+pub is_first : (none first : Marker) (batch header : List ℕ) → Digests none [] → AreWholeLines batch → HasNoMark (recovered_lines batch) → Marks none first batch (recovered_lines header) → IsFirstMark header first
 is_first none first batch header fresh whole plain m = record {
   chain = λ file same. first_chain first none fresh batch (recovered_lines header) whole plain m file same;
   sealed = λ file same shut. first_sealed first none fresh batch (recovered_lines header) whole plain m file same shut;

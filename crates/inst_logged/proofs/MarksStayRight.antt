@@ -5,14 +5,14 @@ use Rattle.std.proofs.lemmas.Bool.Decides.{nat_tests}
 use Rattle.std.proofs.lemmas.List.{append-nil, drop_all}
 use Rattle.inst_log.specs.Layout.{recovered_lines, IsShut, EndsWell}
 use Rattle.inst_log.specs.Log.{IsBeforeOrAfter}
-use Rattle.inst_log.specs.Opening.{kept, IsSameOrBegun}
+use Rattle.inst_log.specs.Opening.{lines_after_settings, IsSameOrBegun}
 use Rattle.inst_chain.specs.Chain.{IsChain, IsTaken}
 use Rattle.inst_chain.specs.Verifying.{SealedBy}
 use Rattle.inst_chain.specs.declared.marker.Marker.{Marker}
 use Rattle.inst_chain.proofs.BatchBehindChain.{again_sealed, not_empty}
 use Rattle.inst_logged.specs.declared.version.Version.{Version}
 use Rattle.inst_logged.specs.declared.version.Version.TheVariants.{One, Two}
-use Rattle.inst_logged.specs.Marking.{IsIntact, IsIntactBy, IsFirst, BeginsBy}
+use Rattle.inst_logged.specs.Marking.{IsIntact, IsIntactBy, IsFirstMark, BeginsWithMarker}
 use Rattle.inst_logged.specs.inner.Finding.{IsVerified}
 
 -- what was verified is no damaged log
@@ -29,18 +29,18 @@ taken_well : (file : List ℕ) → IsTaken file → EndsWell file
 taken_well file (inl none) = inl none
 taken_well file (inr sealed) = inr sealed.shut
 
-taken_then : (header old c : List ℕ) (marker : Marker) → IsFirst header marker → IsTaken old → IsSameOrBegun header old c → EndsWell c → IsTaken c
+taken_then : (header old c : List ℕ) (marker : Marker) → IsFirstMark header marker → IsTaken old → IsSameOrBegun header old c → EndsWell c → IsTaken c
 taken_then header old c marker first taken at (inl none) = inl none
 taken_then header old c marker first (inl none) (inl same) (inr shut) = inl (same ∙ none)
 taken_then header old c marker first (inr sealed) (inl same) (inr shut) = inr (record { chain = subst IsChain (sym same) sealed.chain; shut = shut })
 taken_then header old c marker first taken (inr begun) (inr shut) = inr (record { chain = first.chain c begun.1; shut = shut })
 
 -- what a crash leaves of a log while it is opened
-pub opening_intact : (version : Version) (header old c : List ℕ) (marker : Marker) → BeginsBy version header marker → IsIntact version old → IsSameOrBegun header old c → (EndsWell old → EndsWell c) → IsIntact version c
+pub opening_intact : (version : Version) (header old c : List ℕ) (marker : Marker) → BeginsWithMarker version header marker → IsIntact version old → IsSameOrBegun header old c → (EndsWell old → EndsWell c) → IsIntact version c
 opening_intact One header old c marker first taken at well = tt
 opening_intact Two header old c marker first taken at well = taken_then header old c marker first taken at (well (taken_well old taken))
 
-new_lines : (header old new : List ℕ) → recovered_lines old ≡ [] → recovered_lines new ≡ recovered_lines header ++ kept header old → recovered_lines new ≡ recovered_lines header
+new_lines : (header old new : List ℕ) → recovered_lines old ≡ [] → recovered_lines new ≡ recovered_lines header ++ lines_after_settings header old → recovered_lines new ≡ recovered_lines header
 new_lines header old new none lines =
     lines ∙ ap (λ (l : List (List ℕ)). recovered_lines header ++ l) (ap (drop (length (recovered_lines header))) none ∙ drop_all (length (recovered_lines header)) [] (omega arith)) ∙ append-nil (recovered_lines header)
 
@@ -58,8 +58,8 @@ opened_found Two header old new (Some n) m marker is s at shut = subst (SealedBy
     again (inl same) = again_sealed old new n s same (shut (inr s.sealed.shut))
     again (inr begun) = absurd (not_empty old s.sealed.chain begun.0)
 
-pub opened_none : (version : Version) (header old new : List ℕ) (found : Option Marker) (marker : Marker) → found ≡ None → BeginsBy version header marker → IsVerified version old found
-    → recovered_lines new ≡ recovered_lines header ++ kept header old → (EndsWell old → IsShut new) → IsIntactBy version new marker
+pub opened_none : (version : Version) (header old new : List ℕ) (found : Option Marker) (marker : Marker) → found ≡ None → BeginsWithMarker version header marker → IsVerified version old found
+    → recovered_lines new ≡ recovered_lines header ++ lines_after_settings header old → (EndsWell old → IsShut new) → IsIntactBy version new marker
 opened_none One header old new found marker is first v lines shut = tt
 opened_none Two header old new None marker is first none lines shut = first.sealed new (new_lines header old new none lines) (shut (inl none))
 opened_none Two header old new (Some n) marker is first s lines shut = absurd (cc is)

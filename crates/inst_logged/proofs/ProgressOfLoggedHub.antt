@@ -13,7 +13,7 @@ use Rattle.inst_log.proofs.ToldRepliesAreKept.{on_more, tells_more, kept_after}
 use Rattle.inst_chain.specs.Chain.{said}
 use Rattle.inst_chain.proofs.LinesWithoutMarks.{said-append}
 use Rattle.inst_logged.specs.Answering.{SaysLines}
-use Rattle.inst_logged.specs.Intake.{held}
+use Rattle.inst_logged.specs.Intake.{line_part}
 use Rattle.inst_logged.specs.Input.{shortened_line, logged_line}
 use Rattle.inst_logged.specs.inner.Input.{lines_from, rest_from, last_line}
 use Rattle.inst_logged.specs.inner.Logged.{Turned, Ended, Came, IsInput, CameIn, ServedOn, KeptOn, HasCome}
@@ -57,7 +57,7 @@ module _ {D : Type 0} (seen : D → List ℕ) (may_leave : D → List ℕ → Ty
   says_now recorder = SaysLines recorder.answers.mode recorder.answers.runner
 
   -- nothing yet
-  pub come_none : (clean : Type 0) (intake : Intake) → (clean → IsSettled seen may_leave old.log) → held intake ≡ []
+  pub come_none : (clean : Type 0) (intake : Intake) → (clean → IsSettled seen may_leave old.log) → line_part intake ≡ []
       → HasCome seen may_leave clean old old intake left left before before
   come_none clean intake settled nothing =
       record {

@@ -7,12 +7,12 @@ use Rattle.inst_chain.specs.Chain.{HasNoMark}
 use Rattle.inst_chain.proofs.LinesWithoutMarks.{HasNoMark-append, raw_plain}
 use Rattle.inst_logged.specs.Input.{shortened_line, logged_line}
 use Rattle.inst_logged.specs.inner.Input.{lines_from, last_line}
-use Rattle.inst_logged.specs.Intake.{held}
+use Rattle.inst_logged.specs.Intake.{line_part}
 use Rattle.inst_logged.specs.inner.Intake.{TakesIn, TakesLast}
 use Rattle.inst_logged.specs.inner.Logged.{Turned, Ended, Came}
 use Rattle.inst_logged.specs.declared.intake.Intake.{Intake}
 
-pub turned_of : (old new : Intake) (before after part : List ℕ) (left left' : Option (List ℕ)) (more : Bool) → before ≡ [] → held old ≡ shortened_line part
+pub turned_of : (old new : Intake) (before after part : List ℕ) (left left' : Option (List ℕ)) (more : Bool) → before ≡ [] → line_part old ≡ shortened_line part
     → MatchBool more (TakesIn old new before after left left') (TakesLast old before after left left')
     → MatchBool more (Turned part new (recovered_lines after) left left') (Ended part (recovered_lines after) left left')
 turned_of old new before after part left left' true none same t = record {

@@ -8,9 +8,9 @@ use Rattle.inst_lines.specs.Answering.{HubPast}
 use Rattle.inst_lines.specs.Headline.{run_through}
 use Rattle.inst_base.proofs.Streams.{Consumes-keeps, Appends-append, Keeps-same}
 use Rattle.inst_log.specs.Layout.{recovered_lines}
-use Rattle.inst_log.specs.Opening.{kept, Begins, IsSameOrBegun}
+use Rattle.inst_log.specs.Opening.{lines_after_settings, Begins, IsSameOrBegun}
 use Rattle.inst_log.specs.Serving.{Covers, Replies, Tells, TellsKept, SaysOn}
-use Rattle.inst_log.specs.inner.Serving.{TellsPart}
+use Rattle.inst_log.specs.inner.Serving.{TellsFront}
 use Rattle.inst_log.specs.declared.recorder.Recorder.{Recorder}
 use Rattle.inst_log.proofs.ToldRepliesAreKept.{run_kept}
 use Rattle.sqlite_disk.specs.declared.Disk.{Ghosts}
@@ -61,7 +61,7 @@ ends_still disks told wanted old new still still' no_room e more x = record {
 module _ (mode : Mode) (past : HubPast) (header : List ℕ) (told : Option ℕ) (file : List ℕ) where
   -- the lines that were in the log, with marks among them and without
   abbrev pub first : List (List ℕ)
-  first = kept header file
+  first = lines_after_settings header file
 
   abbrev pub debt : Replies
   debt = unsent_replies_at mode past (kept_said header file) (told_count told (kept_said header file))
@@ -76,8 +76,8 @@ module _ (mode : Mode) (past : HubPast) (header : List ℕ) (told : Option ℕ) 
       ap (drop n) (sym (replies_said mode past (before ++ said lines)) ∙ ap (replies_at mode past) same ∙ replies_said mode past (before ++ lines))
 
   -- nothing was read yet
-  pub survives_none : (may_leave : List ℕ → Type 0) (left before now : Option (List ℕ)) → TellsPart (AreReplies debt) [] before now
-      → ((c : List ℕ) → may_leave c → kept header c ≡ first) → SurvivesACrash mode past header told file may_leave left left before now
+  pub survives_none : (may_leave : List ℕ → Type 0) (left before now : Option (List ℕ)) → TellsFront (AreReplies debt) [] before now
+      → ((c : List ℕ) → may_leave c → lines_after_settings header c ≡ first) → SurvivesACrash mode past header told file may_leave left left before now
   survives_none may_leave left before now part same = record {
     bytes = [];
     consumes = Consumes-keeps left left (Keeps-same left);
@@ -96,7 +96,7 @@ module _ (mode : Mode) (past : HubPast) (header : List ℕ) (told : Option ℕ) 
   }
 
   -- what covers lines with marks covers those without
-  said_kept : (may_leave : List ℕ → Type 0) (lines : List (List ℕ)) (before after : Option (List ℕ)) → TellsKept (kept header) may_leave (AreReplies debt) first lines before after
+  said_kept : (may_leave : List ℕ → Type 0) (lines : List (List ℕ)) (before after : Option (List ℕ)) → TellsKept (lines_after_settings header) may_leave (AreReplies debt) first lines before after
       → TellsKept (kept_said header) may_leave (AreReplies debt) (kept_said header file) (said lines) before after
   said_kept may_leave lines before after t = record {
     told = t.told;
@@ -139,7 +139,7 @@ module _ (mode : Mode) (past : HubPast) (header : List ℕ) (told : Option ℕ) 
       goes v.lines ∙ ap (λ (l : List ℕ). l ++ g v.lines) (tells.whole debt (λ lines. refl)) ∙ ap (λ (l : List ℕ). tells.told ++ l) (v.tells.whole g said_g) in
       let now : recovered_lines (seen new.log.disk) ≡ recovered_lines header ++ (first ++ v.lines) =
       (v.settled is).1 ∙ ap (λ (ls : List (List ℕ)). ls ++ v.lines) same ∙ append_assoc (recovered_lines header) first v.lines in
-      let behind : kept header (seen new.log.disk) ≡ first ++ v.lines = kept_is header (seen new.log.disk) (first ++ v.lines) now in
+      let behind : lines_after_settings header (seen new.log.disk) ≡ first ++ v.lines = kept_is header (seen new.log.disk) (first ++ v.lines) now in
       record {
         bytes = v.came.bytes;
         consumes = v.came.consumes;
@@ -148,5 +148,5 @@ module _ (mode : Mode) (past : HubPast) (header : List ℕ) (told : Option ℕ) 
         lines = ap said behind ∙ said-append first v.lines ∙ ap (λ (ls : List (List ℕ)). kept_said header file ++ ls) v.came.lines_are;
         replies = subst (λ (l : List ℕ). Appends before after l) (sym all ∙ sym (debt_said v.lines) ∙ ap debt v.came.lines_are)
             (Appends-append before at after tells.told v.tells.told tells.handed v.tells.handed);
-        headline = headline (kept header (seen new.log.disk));
+        headline = headline (lines_after_settings header (seen new.log.disk));
       }

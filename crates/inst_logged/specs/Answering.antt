@@ -7,7 +7,7 @@ use Rattle.inst_world.specs.NextOpening.{opening_from, AreCarried}
 use Rattle.inst_agenda.specs.declared.runner.Runner.{Runner}
 use Rattle.inst_lines.specs.declared.mode.Mode.{Mode}
 use Rattle.inst_lines.specs.Answers.{output, state_after}
-use Rattle.inst_lines.specs.Answering.{HubPast, Keeps, hub_answerer}
+use Rattle.inst_lines.specs.Answering.{HubPast, IsRunnerAt, hub_answerer}
 use Rattle.inst_log.specs.Escape.{unescaped_line}
 use Rattle.inst_chain.specs.Chain.{said}
 use Rattle.inst_log.specs.Serving.{Replies}
@@ -27,7 +27,7 @@ past_after mode past lines = state_after (hub_answerer mode) past (map unescaped
 -- these are the replies to the lines that come next, by what the hub has gone through
 pub record SaysLines (mode : Mode) (runner : Runner) (replies : Replies) : Type 0 where
   pub past : HubPast
-  pub keeps : Keeps mode past runner
+  pub keeps : IsRunnerAt mode past runner
   pub are : (lines : List (List ℕ)) → replies lines ≡ replies_at mode past lines
 
 -- the journals are the books of a hub that had gone through this, answered these lines and was

@@ -10,7 +10,7 @@ use Rattle.inst_world.specs.HasRun.{world_settings}
 use Rattle.inst_lines.specs.Answering.{HubPast}
 use Rattle.inst_lines.specs.declared.mode.Mode.{Mode}
 use Rattle.inst_log.specs.Layout.{recovered_lines}
-use Rattle.inst_log.specs.Opening.{kept}
+use Rattle.inst_log.specs.Opening.{lines_after_settings}
 use Rattle.inst_chain.specs.declared.digest.Digest.{Digest}
 use Rattle.inst_logged.specs.Answering.{AreBooksAfter, past_after}
 use Rattle.inst_logged.specs.Running.{file_of, HasGone, Takes}
@@ -31,14 +31,14 @@ pub record ClosesWith {D : Type 0} (disks : Ghosts D) (wanted : Option Digest)
     (old new : LoggedHub D) (books : Option (Vec History Global)) : Type 0 where
   pub taken : Takes disks old None wanted
   pub lines : recovered_lines (file_of disks new)
-      ≡ recovered_lines old.header.items ++ kept old.header.items (file_of disks old)
+      ≡ recovered_lines old.header.items ++ lines_after_settings old.header.items (file_of disks old)
   pub are : IfSome books (λ journals. (past : HubPast) → HasGone old past
-      → AreBooksAfter old.recorder.answers.mode past (kept old.header.items (file_of disks old))
+      → AreBooksAfter old.recorder.answers.mode past (lines_after_settings old.header.items (file_of disks old))
       journals.items)
   pub settings : (past : HubPast) → HasGone old past
       → world_settings new.recorder.answers.runner.world
       ≡ (past_after old.recorder.answers.mode past
-      (kept old.header.items (file_of disks old))).settings
+      (lines_after_settings old.header.items (file_of disks old))).settings
   pub last : books ≡ None → (past : HubPast) → HasGone old past
       → ¬ (HaveOpeningsLeft old.recorder.answers.mode past
-      (kept old.header.items (file_of disks old)))
+      (lines_after_settings old.header.items (file_of disks old)))

@@ -36,8 +36,8 @@ quoted_codes later [] = []
 quoted_codes later (code ∷ codes) = comma_if later ++ quoted code ++ quoted_codes true codes
 
 -- a name, with what stands before it, and a number
-abbrev pub field : List ℕ → ℕ → List ℕ
-field name number = name ++ decimal number
+abbrev pub header_field : List ℕ → ℕ → List ℕ
+header_field name number = name ++ decimal number
 
 -- what the lines stand for, with its name
 abbrev pub mode_field : Mode → List ℕ
@@ -51,7 +51,7 @@ participants_field participants =
 -- how many lines of books stand behind the settings, with its name, where the hub opened from books
 abbrev pub books_field : Option ℕ → List ℕ
 books_field None = []
-books_field (Some count) = field (codes ",\"books\":") count
+books_field (Some count) = header_field (codes ",\"books\":") count
 
 -- the version, with its name and the end of the line
 abbrev pub version_word : Version → List ℕ
@@ -62,12 +62,12 @@ version_word Two = codes "\"version\":2}"
 -- their bytes
 abbrev pub header_line : Version → Mode → HubSettings → Option ℕ → List ℕ
 header_line version mode s books =
-    field (codes "{\"ahead\":") s.ahead ++ field (codes ",\"base\":") s.base ++ books_field books
-    ++ field (codes ",\"ceiling\":") s.ceiling
-    ++ field (codes ",\"fundings\":") s.fundings ++ field (codes ",\"limit\":") s.limit
+    header_field (codes "{\"ahead\":") s.ahead ++ header_field (codes ",\"base\":") s.base ++ books_field books
+    ++ header_field (codes ",\"ceiling\":") s.ceiling
+    ++ header_field (codes ",\"fundings\":") s.fundings ++ header_field (codes ",\"limit\":") s.limit
     ++ mode_field mode
-    ++ field (codes ",\"margin\":") s.margin ++ participants_field s.codes
-    ++ field (codes ",\"places\":") s.places
+    ++ header_field (codes ",\"margin\":") s.margin ++ participants_field s.codes
+    ++ header_field (codes ",\"places\":") s.places
     ++ 44 ∷ version_word version
 
 -- lines, with their mark behind them where the log has marks

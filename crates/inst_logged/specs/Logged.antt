@@ -8,20 +8,20 @@ use Rattle.inst_settings.specs.Settings.{HubSettings}
 use Rattle.inst_journal.specs.History.{History}
 use Rattle.inst_world.specs.NextOpening.{CanOpenFrom}
 use Rattle.inst_world.specs.Headline.{KeepsTheHeadline}
-use Rattle.inst_lines.specs.Answering.{HubPast, opened}
+use Rattle.inst_lines.specs.Answering.{HubPast, new_past}
 use Rattle.inst_lines.specs.Headline.{run_through}
 use Rattle.inst_log.specs.Layout.{IsBatch}
-use Rattle.inst_log.specs.Opening.{kept, Begins}
+use Rattle.inst_log.specs.Opening.{lines_after_settings, Begins}
 use Rattle.inst_log.specs.Serving.{Replies, TellsKept}
 use Rattle.inst_chain.specs.Chain.{kept_said}
 use Rattle.inst_chain.specs.declared.marker.Marker.{Marker}
 use Rattle.inst_logged.specs.declared.version.Version.{Version}
-use Rattle.inst_logged.specs.Marking.{BeginsBy}
+use Rattle.inst_logged.specs.Marking.{BeginsWithMarker}
 use Rattle.inst_logged.specs.Header.{header, header_from}
 use Rattle.inst_logged.specs.Answering.{replies_at, past_after, opened_from, told_count}
 use Rattle.inst_logged.specs.LineAnswers.{HasOpened}
 use Rattle.inst_logged.specs.Input.{logged_line}
-use Rattle.inst_logged.specs.Intake.{held}
+use Rattle.inst_logged.specs.Intake.{line_part}
 use Rattle.inst_logged.specs.declared.line_answers.LineAnswers.{LineAnswers}
 use Rattle.inst_logged.specs.declared.intake.Intake.{Intake}
 
@@ -40,14 +40,14 @@ AreReplies these replies = (lines : List (List ℕ)) → replies lines ≡ these
 pub record IsUnbegun (version : Version) (header : List ℕ) (marker : Marker) (intake : Intake) :
     Type 0 where
   pub batch : IsBatch header
-  pub begins : BeginsBy version header marker
-  pub nothing : held intake ≡ []
+  pub begins : BeginsWithMarker version header marker
+  pub nothing : line_part intake ≡ []
 
 -- A hub of these settings began for the first time, or from journals that it can open from, and a
 -- log of its lines begins so.
 abbrev pub HasBegun : Version → Mode → HubSettings → List ℕ → LineAnswers → Type 0
 HasBegun version mode s first answers =
-    (HasOpened mode (opened s) answers × (first ≡ header version mode s))
+    (HasOpened mode (new_past s) answers × (first ≡ header version mode s))
     ⊎ ((journals : List History) × CanOpenFrom s journals
     × HasOpened mode (opened_from s journals) answers
     × (first ≡ header_from version mode s journals))
@@ -71,7 +71,7 @@ pub record HasLogged (mode : Mode) (past : HubPast) (header : List ℕ) (told : 
       (unsent_replies_at mode past (kept_said header old) (told_count told (kept_said header old))
       (map logged_line (lines_of bytes)))
   pub headline : KeepsTheHeadline past.settings
-      (run_through (past_after mode past (kept header new)))
+      (run_through (past_after mode past (lines_after_settings header new)))
 
 -- Some bytes were read. Each file that a crash may leave has the lines that were in the log and
 -- then a front of those read, none skipped and none in part, and all that was handed to the writer
@@ -83,7 +83,7 @@ pub record SurvivesACrash (mode : Mode) (past : HubPast) (header : List ℕ) (to
   pub consumes : Consumes left left' bytes
   pub lines : List (List ℕ)
   pub lines_are : AreLinesOf bytes left' lines
-  pub kept : TellsKept (kept_said header) may_leave
+  pub lines_after_settings : TellsKept (kept_said header) may_leave
       (AreReplies
       (unsent_replies_at mode past (kept_said header old)
       (told_count told (kept_said header old))))

@@ -18,12 +18,12 @@ IsIntactBy One file marker = Unit {0}
 IsIntactBy Two file marker = SealedBy file marker
 
 -- a log that has just these lines has right marks, and this makes the next one
-pub record IsFirst (header : List ℕ) (marker : Marker) : Type 0 where
+pub record IsFirstMark (header : List ℕ) (marker : Marker) : Type 0 where
   pub chain : (file : List ℕ) → recovered_lines file ≡ recovered_lines header →
       IsChain (recovered_lines file)
   pub sealed : (file : List ℕ) → recovered_lines file ≡ recovered_lines header → IsShut file →
       SealedBy file marker
 
-abbrev pub BeginsBy : Version → List ℕ → Marker → Type 0
-BeginsBy One header marker = Unit {0}
-BeginsBy Two header marker = IsFirst header marker
+abbrev pub BeginsWithMarker : Version → List ℕ → Marker → Type 0
+BeginsWithMarker One header marker = Unit {0}
+BeginsWithMarker Two header marker = IsFirstMark header marker

@@ -26,7 +26,7 @@ HasWanted Two wanted file = has_wanted wanted (recovered_lines file) ≡ true
 
 -- The log is taken: its marks are right, it opens with the header, has as many lines behind it as
 -- have been told, and the mark that was asked for.
-pub record IsTaken (version : Version) (header : List ℕ) (told : Option ℕ) (wanted : Option Digest)
+pub record IsLogTaken (version : Version) (header : List ℕ) (told : Option ℕ) (wanted : Option Digest)
     (file : List ℕ) : Type 0 where
   pub intact : IsIntact version file
   pub opens : OpensAs header file
@@ -73,19 +73,19 @@ IsCause version header told wanted file Changed = ⊥
 
 -- what must have been where a hub ends by an error of its log that is no refusal: of the disk's,
 -- that it failed, of `Full`, that there was no room, and of `Write`, that the log was at rest
-abbrev pub HasFailed : Type 0 → Type 0 → Type 0 → LoggedError → Type 0
-HasFailed failed no_room at_rest (Log (Disk error)) = failed
-HasFailed failed no_room at_rest (Log Full) = no_room
-HasFailed failed no_room at_rest (Log Write) = at_rest
-HasFailed failed no_room at_rest (Log Memory) = Unit {0}
-HasFailed failed no_room at_rest (Log Told) = Unit {0}
-HasFailed failed no_room at_rest (Log OtherSettings) = Unit {0}
-HasFailed failed no_room at_rest (Log NoLog) = Unit {0}
-HasFailed failed no_room at_rest Read = Unit {0}
-HasFailed failed no_room at_rest Books = Unit {0}
-HasFailed failed no_room at_rest (Damaged right) = Unit {0}
-HasFailed failed no_room at_rest OtherDigest = Unit {0}
-HasFailed failed no_room at_rest Changed = Unit {0}
+abbrev pub HasLogFailed : Type 0 → Type 0 → Type 0 → LoggedError → Type 0
+HasLogFailed failed no_room at_rest (Log (Disk error)) = failed
+HasLogFailed failed no_room at_rest (Log Full) = no_room
+HasLogFailed failed no_room at_rest (Log Write) = at_rest
+HasLogFailed failed no_room at_rest (Log Memory) = Unit {0}
+HasLogFailed failed no_room at_rest (Log Told) = Unit {0}
+HasLogFailed failed no_room at_rest (Log OtherSettings) = Unit {0}
+HasLogFailed failed no_room at_rest (Log NoLog) = Unit {0}
+HasLogFailed failed no_room at_rest Read = Unit {0}
+HasLogFailed failed no_room at_rest Books = Unit {0}
+HasLogFailed failed no_room at_rest (Damaged right) = Unit {0}
+HasLogFailed failed no_room at_rest OtherDigest = Unit {0}
+HasLogFailed failed no_room at_rest Changed = Unit {0}
 
 -- what is refused for a cause isn't taken
 abbrev pub ARefusedLogIsNotTaken : Type 0
@@ -93,4 +93,4 @@ ARefusedLogIsNotTaken =
     (version : Version) (header : List ℕ) (told : Option ℕ) (wanted : Option Digest) (file : List ℕ)
     (error : LoggedError) →
     IsRefused error → IsCause version header told wanted file error →
-    ¬ (IsTaken version header told wanted file)
+    ¬ (IsLogTaken version header told wanted file)

@@ -4,15 +4,15 @@ use Rattle.std.specs.Prelude.{◌≡◌, ◌⊎◌, ◌≤◌, ◌-◌, ◌^◌,
 use Rattle.std.specs.Io.KnownBytes.{Consumes}
 use Rattle.sqlite_disk.specs.Disk.{Only, MoreFaults}
 use Rattle.sqlite_disk.specs.declared.Disk.{Ghosts}
-use Rattle.inst_lines.specs.Answering.{HubPast, Keeps}
+use Rattle.inst_lines.specs.Answering.{HubPast, IsRunnerAt}
 use Rattle.inst_log.specs.Layout.{recovered_lines, blocks}
 use Rattle.inst_log.specs.Log.{IsSettled}
-use Rattle.inst_log.specs.Opening.{kept, Begins, Opens, OpensAlike, IsSameOrBegun}
+use Rattle.inst_log.specs.Opening.{lines_after_settings, Begins, OpensLog, OpensAlike, IsSameOrBegun}
 use Rattle.inst_chain.specs.declared.digest.Digest.{Digest}
 use Rattle.inst_logged.specs.Answering.{past_after}
 use Rattle.inst_logged.specs.Logged.{HasLogged, IsUnbegun, SurvivesACrash}
 use Rattle.inst_logged.specs.Marking.{IsIntact}
-use Rattle.inst_logged.specs.Refused.{IsCause, IsRefused, IsTaken, HasFailed}
+use Rattle.inst_logged.specs.Refused.{IsCause, IsRefused, IsLogTaken, HasLogFailed}
 use Rattle.inst_logged.specs.Streams.{Streams}
 use Rattle.inst_logged.specs.declared.error.LoggedError.{LoggedError}
 use Rattle.inst_logged.specs.declared.hub.LoggedHub.{LoggedHub}
@@ -48,7 +48,7 @@ file_of disks hub = disks.seen (disk_of hub)
 
 -- a hub has gone through this
 abbrev pub HasGone : {D : Type 0} → LoggedHub D → HubPast → Type 0
-HasGone hub past = Keeps hub.recorder.answers.mode past hub.recorder.answers.runner
+HasGone hub past = IsRunnerAt hub.recorder.answers.mode past hub.recorder.answers.runner
 
 -- it has answered nothing, and what is read of its disk is what is on it, as after a restart
 pub record IsReadyHub {D : Type 0} (disks : Ghosts D) (hub : LoggedHub D) : Type 0 where
@@ -59,7 +59,7 @@ pub record IsReadyHub {D : Type 0} (disks : Ghosts D) (hub : LoggedHub D) : Type
 
 -- its log is one that it takes
 abbrev pub Takes : {D : Type 0} → Ghosts D → LoggedHub D → Option ℕ → Option Digest → Type 0
-Takes disks hub told wanted = IsTaken hub.version hub.header.items told wanted (file_of disks hub)
+Takes disks hub told wanted = IsLogTaken hub.version hub.header.items told wanted (file_of disks hub)
 
 -- It took the log, and answered all that the reader had left. All is synced, and the log's marks
 -- are right.
@@ -83,8 +83,8 @@ pub record SurvivesEachCrash {D : Type 0} (disks : Ghosts D) (told : Option ℕ)
       (disks.may_leave (disk_of new)) t.left t.left' t.held t.held'
   pub begins : Begins old.header.items (file_of disks old) → (c : List ℕ) →
       disks.may_leave (disk_of new) c → Begins old.header.items c
-  pub opens : Opens old.header.items (file_of disks old) → (c : List ℕ) →
-      disks.may_leave (disk_of new) c → Opens old.header.items c
+  pub opens : OpensLog old.header.items (file_of disks old) → (c : List ℕ) →
+      disks.may_leave (disk_of new) c → OpensLog old.header.items c
   pub intact : ((d : D) → IsTrue (disks.is_mixing d)) → IsIntact old.version (file_of disks old)
       → (c : List ℕ) → disks.may_leave (disk_of new) c → IsIntact old.version c
 
@@ -118,7 +118,7 @@ pub record StopsBy {D : Type 0} (disks : Ghosts D) (told : Option ℕ) (wanted :
   pub cause : HasKeptFaith disks (disk_of new) →
       IsCause old.version old.header.items told wanted (file_of disks old) error
   pub failure : HasKeptFaith disks (disk_of new) →
-      HasFailed (MoreFaults (disks.faults (disk_of old)) (disks.faults (disk_of new))) no_room
+      HasLogFailed (MoreFaults (disks.faults (disk_of old)) (disks.faults (disk_of new))) no_room
       (IsSettled disks.seen disks.may_leave new.recorder.log
       ⊎ HasSameFile disks (disk_of old) (disk_of new)) error
 
@@ -127,10 +127,10 @@ pub record OpensAgain {D : Type 0} (disks : Ghosts D) (wanted : Option Digest)
     (old new : LoggedHub D) : Type 0 where
   pub taken : Takes disks old None wanted
   pub state : (past : HubPast) → HasGone old past
-      → Keeps old.recorder.answers.mode
-      (past_after old.recorder.answers.mode past (kept old.header.items (file_of disks old)))
+      → IsRunnerAt old.recorder.answers.mode
+      (past_after old.recorder.answers.mode past (lines_after_settings old.header.items (file_of disks old)))
       new.recorder.answers.runner
   pub settled : IsSettled disks.seen disks.may_leave new.recorder.log
   pub lines : recovered_lines (file_of disks new)
-      ≡ recovered_lines old.header.items ++ kept old.header.items (file_of disks old)
+      ≡ recovered_lines old.header.items ++ lines_after_settings old.header.items (file_of disks old)
   pub intact : IsIntact old.version (file_of disks new)

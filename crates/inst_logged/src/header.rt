@@ -8,10 +8,10 @@ ghost use Rattle.inst_log.specs.Layout.{recovered_lines, at_rest, IsBatch, AreWh
 ghost use Rattle.inst_log.specs.Escape.{raw_of};
 ghost use Rattle.inst_world.specs.NextOpening.{CanOpenFrom};
 ghost use Rattle.inst_chain.specs.Chain.{HasNoMark};
-ghost use Rattle.inst_logged.specs.Marking.{BeginsBy};
+ghost use Rattle.inst_logged.specs.Marking.{BeginsWithMarker};
 ghost use Rattle.inst_logged.specs.Header.{lines_and_mark, header, header_from, CanBeginFrom};
 ghost use Rattle.inst_logged.specs.Header.{header_line};
-ghost use Rattle.inst_logged.specs.Header.{books_field, field, mode_field, participants_field};
+ghost use Rattle.inst_logged.specs.Header.{books_field, header_field, mode_field, participants_field};
 ghost use Rattle.inst_logged.specs.Header.{mode_word, version_word, quoted_codes, comma_if, quoted};
 
 use crate::Version;
@@ -196,7 +196,7 @@ fn push_header(
 
 /// Puts a name and a number at the end of a text.
 fn push_field(text: &mut String, name: &str, number: u64) -> Result<(), AllocError>
-    ensures { OnOk result (string_bytes text.new ≡ string_bytes text.old ++ field name.now number) }
+    ensures { OnOk result (string_bytes text.new ≡ string_bytes text.old ++ header_field name.now number) }
 {
     text.push_str(name)?;
     let digits = number.to_string(*text.allocator())?;

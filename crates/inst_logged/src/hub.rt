@@ -5,12 +5,12 @@ ghost use Rattle.std.specs.Io.KnownBytes.{IsAtEnd};
 ghost use Rattle.inst_base.specs.Newline.{NoNewline};
 ghost use Rattle.inst_log.specs.Layout.{recovered_lines, blocks};
 ghost use Rattle.inst_log.specs.Log.{IsSettled};
-ghost use Rattle.inst_log.specs.inner.Serving.{TellsPart};
+ghost use Rattle.inst_log.specs.inner.Serving.{TellsFront};
 ghost use Rattle.inst_chain.specs.Chain.{kept_said};
 ghost use Rattle.inst_lines.specs.Answering.{HubPast};
 ghost use Rattle.inst_world.specs.HasRun.{world_settings};
 ghost use Rattle.inst_logged.specs.Input.{shortened_line};
-ghost use Rattle.inst_logged.specs.Intake.{held};
+ghost use Rattle.inst_logged.specs.Intake.{line_part};
 ghost use Rattle.inst_logged.specs.Answering.{SaysLines, told_count};
 ghost use Rattle.inst_logged.specs.Marking.{IsIntact, IsIntactBy};
 ghost use Rattle.inst_logged.specs.Refused.{IsRefused};
@@ -137,7 +137,7 @@ impl<D: Disk + Drop> LoggedHub<D> {
             StaysAlike D.Disk self.old self.new }
         ensures part { HasKeptFaith D.Disk (disk_of self.new) → (past : HubPast) →
             HasGone self.old past
-            → TellsPart
+            → TellsFront
             (AreReplies (unsent_replies_at self.old.recorder.answers.mode past
             (kept_said self.old.header.items (file_of D.Disk self.old))
             (told_count told (kept_said self.old.header.items (file_of D.Disk self.old))))) []
@@ -174,7 +174,7 @@ impl<D: Disk + Drop> LoggedHub<D> {
         requires usable { IsTrue (D.Disk.is_usable self.old.recorder.log.disk) }
         requires settled { IsTrue (D.Disk.is_clean self.old.recorder.log.disk)
             → IsSettled D.Disk.seen D.Disk.may_leave self.old.recorder.log }
-        requires nothing { held self.old.intake ≡ [] }
+        requires nothing { line_part self.old.intake ≡ [] }
         requires intact { IsTrue (D.Disk.is_clean self.old.recorder.log.disk)
             → IsIntactBy self.old.version (D.Disk.seen self.old.recorder.log.disk) self.old.marker }
         requires size { IsTrue (D.Disk.is_clean self.old.recorder.log.disk)
@@ -222,12 +222,12 @@ impl<D: Disk + Drop> LoggedHub<D> {
         requires usable { IsTrue (D.Disk.is_usable self.old.recorder.log.disk) }
         requires settled { IsTrue (D.Disk.is_clean self.old.recorder.log.disk)
             → IsSettled D.Disk.seen D.Disk.may_leave self.old.recorder.log }
-        requires part { NoNewline (held self.old.intake) }
+        requires part { NoNewline (line_part self.old.intake) }
         requires intact { IsTrue (D.Disk.is_clean self.old.recorder.log.disk)
             → IsIntactBy self.old.version (D.Disk.seen self.old.recorder.log.disk) self.old.marker }
         requires size { IsTrue (D.Disk.is_clean self.old.recorder.log.disk)
             → self.old.size ≡ length (D.Disk.seen self.old.recorder.log.disk) }
-        ensures ok { (part : List ℕ) → held self.old.intake ≡ shortened_line part →
+        ensures ok { (part : List ℕ) → line_part self.old.intake ≡ shortened_line part →
             IfOk result (λ more.
             ServedOn D.Disk.seen D.Disk.may_leave
             (IsTrue (D.Disk.is_clean self.new.recorder.log.disk))
@@ -238,7 +238,7 @@ impl<D: Disk + Drop> LoggedHub<D> {
             (Ended part lines (R.remaining reader.old) (R.remaining reader.new)))
             self.old.recorder self.new.recorder (W.contents writer.old) (W.contents writer.new)) }
         ensures any_moment { IsTrue (D.Disk.is_clean self.new.recorder.log.disk) → (part : List ℕ)
-            → held self.old.intake ≡ shortened_line part
+            → line_part self.old.intake ≡ shortened_line part
             → KeptOn (D.Disk.may_leave self.new.recorder.log.disk)
             (λ lines. Came part lines (R.remaining reader.old) (R.remaining reader.new))
             (SaysLines self.old.recorder.answers.mode self.old.recorder.answers.runner)
@@ -251,7 +251,7 @@ impl<D: Disk + Drop> LoggedHub<D> {
         ensures intact_now { OnOk result (IsTrue (D.Disk.is_clean self.new.recorder.log.disk)
             → IsIntactBy self.old.version (D.Disk.seen self.new.recorder.log.disk) self.new.marker) }
         ensures version { self.new.version ≡ self.old.version }
-        ensures part { OnOk result (NoNewline (held self.new.intake)) }
+        ensures part { OnOk result (NoNewline (line_part self.new.intake)) }
         ensures unrefused { IfErr result (λ error. ¬ IsRefused error) }
         ensures usable { OnOk result (IsTrue (D.Disk.is_usable self.new.recorder.log.disk)) }
         ensures size { OnOk result (IsTrue (D.Disk.is_clean self.new.recorder.log.disk)

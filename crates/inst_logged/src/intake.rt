@@ -32,10 +32,10 @@ pub struct Intake {
 }
 
 impl Intake {
-    ghost use Rattle.inst_logged.specs.Intake.{held};
+    ghost use Rattle.inst_logged.specs.Intake.{line_part};
     ghost use Rattle.inst_logged.specs.inner.Intake.{TakesIn, TakesLast};
     ghost use Rattle.inst_logged.specs.Refused.{IsRefused};
-    ghost use Rattle.inst_logged.specs.inner.Failing.{Fails};
+    ghost use Rattle.inst_logged.specs.inner.Failing.{FailsAtLog};
 
     /// Nothing was read yet.
     pub(crate) fn new(alloc: Global) -> Result<Intake, AllocError>
@@ -53,7 +53,7 @@ impl Intake {
         reader: &mut R,
         batch: &mut Vec<u8>,
     ) -> Result<bool, LoggedError>
-        requires part { NoNewline (held self.old) }
+        requires part { NoNewline (line_part self.old) }
         requires whole { AreWholeLines batch.old.items }
         ensures lines { IfOk result (λ more. MatchBool more
             (TakesIn self.old self.new batch.old.items batch.new.items (R.remaining reader.old)
@@ -62,12 +62,12 @@ impl Intake {
             (R.remaining reader.new))) }
         ensures err { OnErr result ((read : List ℕ)
             × Consumes (R.remaining reader.old) (R.remaining reader.new) read) }
-        ensures part { OnOk result (NoNewline (held self.new)) }
+        ensures part { OnOk result (NoNewline (line_part self.new)) }
         ensures whole { OnOk result (AreWholeLines batch.new.items) }
         ensures plain { OnOk result (HasNoMark (recovered_lines batch.old.items) →
             HasNoMark (recovered_lines batch.new.items)) }
         ensures unrefused { IfErr result (λ error. ¬ IsRefused error) }
-        ensures failure { IfErr result (Fails ⊥ ⊥ ⊥) }
+        ensures failure { IfErr result (FailsAtLog ⊥ ⊥ ⊥) }
     {
         let count = read_bytes(reader, &mut self.bytes[self.len..])?;
         if count == 0 {
@@ -80,12 +80,12 @@ impl Intake {
 
     /// Adds what is held to a batch as a line, if it isn't empty.
     fn take_last(&mut self, batch: &mut Vec<u8>) -> Result<(), AllocError>
-        requires part { NoNewline (held self.old) }
+        requires part { NoNewline (line_part self.old) }
         requires whole { AreWholeLines batch.old.items }
         ensures lines { OnOk result (recovered_lines batch.new.items
-            ≡ recovered_lines batch.old.items ++ map raw_of (last_line (held self.old))) }
+            ≡ recovered_lines batch.old.items ++ map raw_of (last_line (line_part self.old))) }
         ensures whole { OnOk result (AreWholeLines batch.new.items) }
-        ensures part { OnOk result (held self.new ≡ []) }
+        ensures part { OnOk result (line_part self.new ≡ []) }
     {
         if self.len > 0 {
             push_line(batch, &self.bytes[..self.len])?;
@@ -102,7 +102,7 @@ impl Intake {
             ≡ recovered_lines batch.old.items
             ++ map logged_line (lines_from [] (take end self.old.bytes.items))) }
         ensures whole { OnOk result (AreWholeLines batch.new.items) }
-        ensures held { OnOk result (held self.new
+        ensures held { OnOk result (line_part self.new
             ≡ shortened_line (rest_from [] (take end self.old.bytes.items))) }
     {
         let start = push_lines(&self.bytes[..end], batch)?;

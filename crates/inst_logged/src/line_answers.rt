@@ -26,14 +26,14 @@ pub struct LineAnswers {
 }
 
 impl LineAnswers {
-    ghost use Rattle.inst_lines.specs.Answering.{opened};
+    ghost use Rattle.inst_lines.specs.Answering.{new_past};
     ghost use Rattle.inst_world.specs.NextOpening.{CanOpenFrom};
     ghost use Rattle.inst_logged.specs.LineAnswers.{HasOpened};
     ghost use Rattle.inst_logged.specs.Answering.{opened_from};
 
     /// A hub that opens for the first time.
     pub fn open(alloc: Global, mode: Mode, settings: &Settings) -> Result<LineAnswers, AllocError>
-        ensures opened { IfOk result (λ answers. HasOpened mode (opened settings.now) answers) }
+        ensures opened { IfOk result (λ answers. HasOpened mode (new_past settings.now) answers) }
     {
         let runner = Runner::open(alloc, settings)?;
         Ok(LineAnswers {

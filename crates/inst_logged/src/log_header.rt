@@ -13,8 +13,8 @@ ghost use Rattle.inst_json.specs.Replies.{items};
 ghost use Rattle.inst_json.specs.Lines.{json_of};
 ghost use Rattle.inst_logged.specs.Header.{mode_word};
 ghost use Rattle.inst_logged.specs.LogHeader.{IsHeaderLine, beginning_with};
-ghost use Rattle.inst_logged.specs.inner.LogHeader.{Says, SaysSettings, number_in, text_in};
-ghost use Rattle.inst_logged.specs.inner.LogHeader.{list_in, number_of};
+ghost use Rattle.inst_logged.specs.inner.LogHeader.{HeaderSays, SaysSettings, number_in, header_text};
+ghost use Rattle.inst_logged.specs.inner.LogHeader.{list_in, version_number};
 ghost use Rattle.inst_logged.specs.declared.version.Version.TheVariants.{Two};
 
 use crate::Version;
@@ -71,7 +71,7 @@ fn value_of(alloc: Global, line: &[u8]) -> Result<Option<Value>, AllocError>
 /// Returns what a first line says that is this JSON, or `None` if no log begins so.
 fn beginning_in(alloc: Global, value: &Value) -> Result<Option<LogHeader>, AllocError>
     ensures { (version : Version) (mode : Mode) (s : HubSettings) (books : Option ℕ) → AreOfAHub s →
-        Says version mode s books (view value.now)
+        HeaderSays version mode s books (view value.now)
         → IfOk result (λ beginning. beginning ≡ Some (beginning_with mode s books)) }
 {
     let Some(mode) = mode_of(value) else {
@@ -89,7 +89,7 @@ fn beginning_in(alloc: Global, value: &Value) -> Result<Option<LogHeader>, Alloc
 }
 
 fn mode_of(value: &Value) -> Option<Mode>
-    ensures { (mode : Mode) → text_in (codes "log") (view value.now) ≡ Some (mode_word mode) →
+    ensures { (mode : Mode) → header_text (codes "log") (view value.now) ≡ Some (mode_word mode) →
         result ≡ Some mode }
 {
     match value.get("log")?.as_str()? {
@@ -205,7 +205,7 @@ pub fn version_of(alloc: Global, line: &[u8]) -> Result<Option<Version>, AllocEr
 /// Returns the version that a first line tells that is this JSON, or `None` if no log begins so.
 fn version_in(value: &Value) -> Option<Version>
     ensures { (version : Version) →
-        number_in (codes "version") (view value.now) ≡ Some (number_of version) →
+        number_in (codes "version") (view value.now) ≡ Some (version_number version) →
         result ≡ Some version }
 {
     if value.get("log").is_none() && value.get("version").is_none() {

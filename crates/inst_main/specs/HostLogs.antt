@@ -27,7 +27,7 @@ host_files {D} disks closed out is_known =
     }
 
 -- a file as it was opened, when no byte of it is known: what is read of it is on the disk
-pub record IsNew {D : Type 0} (disks : Ghosts D) (log : D) : Type 0 where
+pub record IsFileAsOpened {D : Type 0} (disks : Ghosts D) (log : D) : Type 0 where
   pub usable : IsTrue (disks.is_usable log)
   pub empty : disks.seen log ≡ []
   pub on_disk : Only (disks.seen log) (disks.may_leave log)

@@ -1,7 +1,7 @@
 //! Logs in the files of the machine.
 ghost use Rattle.std.specs.Prelude.{◌≡◌, None, is_some, option_map, string_bytes, IfErr, IfOk};
 ghost use Rattle.inst_program.specs.Logs.{IsLogsError};
-ghost use Rattle.inst_main.specs.HostLogs.{IsNew, host_files, last_closed};
+ghost use Rattle.inst_main.specs.HostLogs.{IsFileAsOpened, host_files, last_closed};
 
 use inst_options::LogFault;
 use inst_program::{Logs, LogsError};
@@ -120,7 +120,7 @@ impl<'a> Logs for HostLogs<'a> {
 
 /// Opens the file at this path as a disk, for this program alone, and makes it if it isn't there.
 fn open_file(rt: &HostRuntime, path: &str) -> Result<FileFrom<Unknown>, LogsError>
-    ensures new { IfOk result (IsNew ⟦<FileFrom<Unknown> as Disk>⟧) }
+    ensures new { IfOk result (IsFileAsOpened ⟦<FileFrom<Unknown> as Disk>⟧) }
     ensures cause { IfErr result (IsLogsError (Unit {0}) ⊥) }
 {
     match sqlite_std_file::open(rt, path, Unknown) {

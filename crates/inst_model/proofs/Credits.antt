@@ -12,7 +12,7 @@ use Rattle.inst_journal.specs.Sound.{Fits, IsSound}
 use Rattle.inst_journal.specs.Sums.{if_accepted, credit, credits}
 use Rattle.inst_journal.proofs.Soundness.{sound_induction}
 use Rattle.inst_model.specs.Transfer.{Transfer, transfers, transfer}
-use Rattle.inst_model.specs.Untold.{sum_below, total}
+use Rattle.inst_model.specs.Untold.{sum_below, sum_over_participants}
 use Rattle.inst_model.proofs.TextsTestsAndFirstThings.{Each, Each_push, Each_weaker}
 use Rattle.inst_model.proofs.Sums.{sum_by_same}
 use Rattle.inst_model.proofs.Transfers.{each_place_found, each_to_participant}
@@ -107,7 +107,7 @@ both_each P Q [] p q = tt
 both_each P Q (x ∷ xs) p q = ((p.0, q.0), both_each P Q xs p.1 q.1)
 
 -- what the participants are credited, by originator and transfer
-credits_by_transfer : (s : HubSettings) (J : ℕ → List Event) → Together s J → total s (λ q. credits (J q)) ≡ sum_below (participants s) (λ from. sum_below (participants s) (λ q. sum_by (weighed_there (credit_of (J q) from) from (J q)) (transfers (J from))))
+credits_by_transfer : (s : HubSettings) (J : ℕ → List Event) → Together s J → sum_over_participants s (λ q. credits (J q)) ≡ sum_below (participants s) (λ from. sum_below (participants s) (λ q. sum_by (weighed_there (credit_of (J q) from) from (J q)) (transfers (J from))))
 credits_by_transfer s J t =
     let n : ℕ = participants s in
     sum_below_same n (λ q. credits (J q)) (λ q. sum_below n (λ from. sum_by (weighed_there (credit_of (J q) from) from (J q)) (transfers (J from))))
@@ -127,7 +127,7 @@ credited_from s J out agree from =
     (both_each (λ (x : Transfer). transfer x.id (J from) ≡ Some x) (λ (x : Transfer). x.to < n) (transfers (J from)) (each_place_found s from (J from) (agree.all.sound from)) (each_to_participant s from (J from) (agree.all.sound from))))
 
 -- what is credited is what is accepted
-pub credited_is_accepted : (s : HubSettings) (J : ℕ → List Event) (out : ℕ → List ℕ → Option Outcome) → Agree s J out → total s (λ q. credits (J q)) ≡ total s (accepted_in J out)
+pub credited_is_accepted : (s : HubSettings) (J : ℕ → List Event) (out : ℕ → List ℕ → Option Outcome) → Agree s J out → sum_over_participants s (λ q. credits (J q)) ≡ sum_over_participants s (accepted_in J out)
 credited_is_accepted s J out agree =
     credits_by_transfer s J agree.all
     ∙ sum_below_same (participants s) (λ from. sum_below (participants s) (λ q. sum_by (weighed_there (credit_of (J q) from) from (J q)) (transfers (J from)))) (accepted_in J out)

@@ -19,7 +19,7 @@ use Rattle.inst_journal.specs.Reply.{unread}
 use Rattle.inst_model.specs.Transfer.{Transfer, transfers, at_place, deadline}
 use Rattle.inst_model.specs.Found.{found}
 use Rattle.inst_model.specs.View.{Seen, sees}
-use Rattle.inst_model.specs.Kept.{kept, with_entries}
+use Rattle.inst_model.specs.Kept.{events_of_entry, with_entries}
 use Rattle.inst_model.specs.Hub.{decided, view, outcome, history}
 use Rattle.inst_model.proofs.TextsTestsAndFirstThings.{Each, Each_weaker, Each_at, same_text_refl}
 use Rattle.inst_model.proofs.KeptCases.{FundKept, TakenKept, kept_cases}
@@ -28,7 +28,7 @@ use Rattle.inst_model.proofs.Steps.{Comes, sees_cases}
 
 pub with_entries-append : (s : HubSettings) (p : ℕ) (J : List Event) (v w : List Seen) → with_entries s p J (v ++ w) ≡ with_entries s p (with_entries s p J v) w
 with_entries-append s p J [] w = refl
-with_entries-append s p J (seen ∷ v) w = with_entries-append s p (J ++ kept s p J seen) v w
+with_entries-append s p J (seen ∷ v) w = with_entries-append s p (J ++ events_of_entry s p J seen) v w
 
 each_taken : (J : List Event) → Each (λ (x : Transfer). is_taken x.id J ≡ true) (transfers J)
 each_taken [] = tt

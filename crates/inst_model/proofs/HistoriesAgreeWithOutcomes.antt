@@ -8,7 +8,7 @@ use Rattle.inst_journal.specs.declared.event.Event.{Event}
 use Rattle.inst_journal.specs.Booked.{is_forwarded, booked}
 use Rattle.inst_journal.specs.Money.{reserved}
 use Rattle.inst_journal.specs.Sound.{IsSound}
-use Rattle.inst_journal.specs.Sums.{if_accepted, if_unbooked, debits}
+use Rattle.inst_journal.specs.Sums.{if_accepted, amount_unbooked, debits}
 use Rattle.inst_journal.proofs.OneMoreElement.{sum_by-both}
 use Rattle.inst_model.specs.Transfer.{Transfer, transfers, transfer}
 use Rattle.inst_model.specs.Untold.{if_untold}
@@ -44,7 +44,7 @@ accepted_is s J out agree p =
     (each_of (λ (x : Transfer). if_accepted (out p x.id) x.cents ≡ f x + g x) (transfers (J p)) (λ x. told_or_untold (out p x.id) (booked p x.id (J p)) x.cents (λ o some. agree.booked_is p p x.id o some)))
     ∙ sum_by-both f g (transfers (J p)) ∙ ap (λ n. n + sum_by g (transfers (J p))) (sym (debits_by_transfer s p (J p) (agree.all.sound p)))
 
-untold_le : (o b : Option Outcome) (cents : ℕ) → if_untold o b cents ≤ if_unbooked b cents
+untold_le : (o b : Option Outcome) (cents : ℕ) → if_untold o b cents ≤ amount_unbooked b cents
 untold_le None None cents = omega arith
 untold_le (Some Accepted) None cents = omega arith
 untold_le (Some (Rejected reason)) None cents = omega arith
@@ -54,7 +54,7 @@ untold_le o (Some x) cents = omega arith
 pub untold_reserved : (s : HubSettings) (J : ℕ → List Event) (out : ℕ → List ℕ → Option Outcome) (p : ℕ) → IsSound s p (J p) → untold_in J out p ≤ reserved (J p)
 untold_reserved s J out p sound =
     let g : Transfer → ℕ = λ x. if_untold (out p x.id) (booked p x.id (J p)) x.cents in
-    let h : Transfer → ℕ = λ x. if_unbooked (booked p x.id (J p)) x.cents in
+    let h : Transfer → ℕ = λ x. amount_unbooked (booked p x.id (J p)) x.cents in
     let le : sum_by g (transfers (J p)) ≤ sum_by h (transfers (J p)) = sum_by_le g h (transfers (J p)) (each_of (λ (x : Transfer). g x ≤ h x) (transfers (J p)) (λ x. untold_le (out p x.id) (booked p x.id (J p)) x.cents)) in
     omega (arith, le, reserved_by_transfer s p (J p) sound)
 

@@ -21,7 +21,7 @@ use Rattle.inst_journal.specs.Booked.{is_taken, is_forwarded, booked}
 use Rattle.inst_journal.specs.Money.{available}
 use Rattle.inst_journal.specs.Opened.{live_submissions}
 use Rattle.inst_journal.specs.Keys.{is_fund_repeat, is_defund_repeat, is_submission_repeat, has_reference, fundings}
-use Rattle.inst_journal.specs.Reply.{answered, keeping, funding, kept_events, handle, standing, still_pending, answer_forwarded, hand_out, unread}
+use Rattle.inst_journal.specs.Reply.{reply_without_event, reply_with_event, funding, kept_events, handle, state_reply, still_pending, answer_forwarded, hand_out, unread}
 use Rattle.inst_model.specs.Found.{found}
 
 -- why a funding or defunding is kept
@@ -53,7 +53,7 @@ pub record KeptCases (s : HubSettings) (who : ℕ) (J : List Event) (command : C
 
 standing_cases : (from : ℕ) (id : List ℕ) (pending : Result Handled Fault) (before o : Option Outcome) (P : List Event → Type 0)
     → P [] → P (kept_events pending) → ((outcome : Outcome) → o ≡ Some outcome → before ≡ None → P (Booked from id outcome ∷ []))
-    → P (kept_events (standing from id pending before o))
+    → P (kept_events (state_reply from id pending before o))
 standing_cases from id pending (Some before) o P nothing none books = nothing
 standing_cases from id pending None (Some outcome) P nothing none books = books outcome refl refl
 standing_cases from id pending None None P nothing none books = none
@@ -71,19 +71,19 @@ funding_shape false false true reference new P nothing keeps = nothing
 funding_shape false false false reference new P nothing keeps = keeps refl refl
 
 covered_shape : (d : Bool) (reply : Reply) (event : Event) (P : List Event → Type 0) → P [] → (d ≡ false → P (event ∷ []))
-    → P (kept_events (if d then Err Shortage else keeping event reply))
+    → P (kept_events (if d then Err Shortage else reply_with_event event reply))
 covered_shape true reply event P nothing keeps = nothing
 covered_shape false reply event P nothing keeps = keeps refl
 
 submit_shape : (a b c d e f g : Bool) (reply : Reply) (event : Event) (P : List Event → Type 0) → P [] → (a ≡ false → c ≡ false → f ≡ false → g ≡ false → P (event ∷ [])) →
     P (kept_events (if a then Err SelfTransfer
-    else (if b then answered reply
+    else (if b then reply_without_event reply
     else (if c then Err Duplicate
     else (if d then Err StampAhead
     else (if e then Err Expired
     else (if f then Err Full
     else (if g then Err Shortage
-    else keeping event reply))))))))
+    else reply_with_event event reply))))))))
 submit_shape true b c d e f g reply event P nothing keeps = nothing
 submit_shape false true c d e f g reply event P nothing keeps = nothing
 submit_shape false false true d e f g reply event P nothing keeps = nothing
@@ -103,7 +103,7 @@ answer_shape : (s : HubSettings) (who : ℕ) (J : List Event) (command : Command
     → ((after : ℕ → List ℕ → Option Outcome) → is_forwarded from id J ≡ true → found after who J command ≡ after from id)
     → P (kept_events (answer_forwarded J from id pending o))
 answer_shape s who J command from id pending o P c none named =
-    decide_shape (is_forwarded from id J) (standing from id pending (booked from id J) o) P c.nothing
+    decide_shape (is_forwarded from id J) (state_reply from id pending (booked from id J) o) P c.nothing
     (λ there. standing_cases from id pending (booked from id J) o P c.nothing none
     (λ outcome some new. c.books from id outcome (record { found_here = some; new = new; party = inr there; named = λ after. named after there })))
 
@@ -126,7 +126,7 @@ kept_cases s who J (Confirm from id) at o P c =
 kept_cases s who J (Reject from id reason) at o P c =
     answer_shape s who J (Reject from id reason) from id (still_pending from id) o P c c.nothing (λ after there. cond-true (is_forwarded from id J) (after from id) None there)
 kept_cases s who J (Investigate id) at o P c =
-    decide_shape (is_taken id J) (standing who id (still_pending who id) (booked who id J) o) P c.nothing
+    decide_shape (is_taken id J) (state_reply who id (still_pending who id) (booked who id J) o) P c.nothing
     (λ there. standing_cases who id (still_pending who id) (booked who id J) o P c.nothing c.nothing
     (λ outcome some none. c.books who id outcome (record { found_here = some; new = none; party = inl (refl, there); named = λ after. cond-true (is_taken id J) (after who id) None there })))
 kept_cases s who J (Fetch max) at o P c =

@@ -6,7 +6,7 @@ use Rattle.inst_command.specs.declared.outcome.Outcome.{Outcome}
 use Rattle.inst_command.specs.declared.outcome.Outcome.TheVariants.{Accepted, Rejected, TimedOut}
 use Rattle.inst_journal.specs.declared.event.Event.{Event}
 use Rattle.inst_journal.specs.Booked.{booked, own_booked}
-use Rattle.inst_journal.specs.Sums.{if_accepted, if_unbooked}
+use Rattle.inst_journal.specs.Sums.{if_accepted, amount_unbooked}
 use Rattle.inst_journal.specs.OneOfThree.{if_released, IsOneOf}
 use Rattle.inst_journal.specs.Sound.{IsSound}
 use Rattle.inst_journal.proofs.CountsOfEvents.{booked_once}
@@ -23,18 +23,18 @@ not_accepted (Some (Rejected reason)) cents other = refl
 not_accepted (Some TimedOut) cents other = refl
 
 -- a booked transfer isn't reserved any more
-booked_unreserved : (o : Option Outcome) (x : Outcome) (cents : ℕ) → o ≡ Some x → if_unbooked o cents ≡ 0
-booked_unreserved o x cents e = ap (λ p. if_unbooked p cents) e
+booked_unreserved : (o : Option Outcome) (x : Outcome) (cents : ℕ) → o ≡ Some x → amount_unbooked o cents ≡ 0
+booked_unreserved o x cents e = ap (λ p. amount_unbooked p cents) e
 
 settled_once : (s : HubSettings) (p : ℕ) (J : List Event) → IsSound s p J → IsSettledOnce p J
 settled_once s p J sound = record {
   booked_once = booked_once s p J sound;
   one_place = λ id to cents stamp there.
-      subst (λ (o : Option Outcome). IsOneOf cents (if_unbooked (own_booked id J) cents) (if_accepted (own_booked id J) cents) (if_released o cents))
+      subst (λ (o : Option Outcome). IsOneOf cents (amount_unbooked (own_booked id J) cents) (if_accepted (own_booked id J) cents) (if_released o cents))
       (own_booked-booked s p J id sound) (in_one_place (own_booked id J) cents);
   reserved_until_booked = λ id to cents stamp there none.
       let own : own_booked id J ≡ None = own_booked-booked s p J id sound ∙ none in
-      (ap (λ o. if_unbooked o cents) own, ap (λ o. if_accepted o cents) own);
+      (ap (λ o. amount_unbooked o cents) own, ap (λ o. if_accepted o cents) own);
   debited_if_accepted = λ id to cents stamp there accepted.
       let own : own_booked id J ≡ Some Accepted = own_booked-booked s p J id sound ∙ accepted in
       (booked_unreserved (own_booked id J) Accepted cents own, ap (λ o. if_accepted o cents) own);

@@ -26,7 +26,7 @@ use Rattle.inst_journal.specs.Booked.{is_taken, is_forwarded, books, booked, sam
 use Rattle.inst_journal.specs.Money.{available}
 use Rattle.inst_journal.specs.Opened.{live_submissions}
 use Rattle.inst_journal.specs.Keys.{is_submission_repeat}
-use Rattle.inst_journal.specs.Reply.{told, is_new_funding, funding, handle, standing, still_pending, hand_out, unread}
+use Rattle.inst_journal.specs.Reply.{reply_result, is_new_funding, funding, handle, state_reply, still_pending, hand_out, unread}
 use Rattle.inst_model.specs.Wants.{wants}
 use Rattle.inst_model.specs.Found.{found}
 use Rattle.inst_model.specs.Hub.{outcome, history}
@@ -123,7 +123,7 @@ IsRight outcomes (StatementReply lines) = Unit {0}
 IsRight outcomes (Refused fault) = Unit {0}
 
 abbrev Right : (ℕ → List ℕ → Option Outcome) → Result Handled Fault → Type 0
-Right outcomes h = IsRight outcomes (as_reply (told h))
+Right outcomes h = IsRight outcomes (as_reply (reply_result h))
 
 abbrev AnswerRight : (ℕ → List ℕ → Option Outcome) → Answer → Type 0
 AnswerRight outcomes (Reply r) = IsRight outcomes r
@@ -134,7 +134,7 @@ chosen outcomes true x y first second = first refl
 chosen outcomes false x y first second = second refl
 
 standing_right : (outcomes : ℕ → List ℕ → Option Outcome) (from : ℕ) (id : List ℕ) (pending : Result Handled Fault) (before o : Option Outcome)
-    → Right outcomes pending → ((x : Outcome) → before ≡ Some x → outcomes from id ≡ Some x) → o ≡ outcomes from id → Right outcomes (standing from id pending before o)
+    → Right outcomes pending → ((x : Outcome) → before ≡ Some x → outcomes from id ≡ Some x) → o ≡ outcomes from id → Right outcomes (state_reply from id pending before o)
 standing_right outcomes from id pending (Some x) o none known same = known x refl
 standing_right outcomes from id pending None (Some x) none known same = sym same
 standing_right outcomes from id pending None None none known same = none

@@ -14,7 +14,7 @@ use Rattle.inst_journal.specs.Statement.{statement}
 use Rattle.inst_model.specs.Found.{found}
 use Rattle.inst_model.specs.View.{Seen, sees}
 use Rattle.inst_model.specs.View.Seen.{Asked, Came, Told}
-use Rattle.inst_model.specs.Kept.{kept, with_entries}
+use Rattle.inst_model.specs.Kept.{events_of_entry, with_entries}
 use Rattle.inst_model.specs.Hub.{decided, view, outcome, history}
 use Rattle.inst_model.specs.Trace.{as_reply, answer, own_answer, replies}
 use Rattle.inst_model.specs.Isolation.{EqualViewsGiveEqualReplies}
@@ -24,16 +24,16 @@ use Rattle.inst_model.proofs.Steps.{sees_cases}
 abbrev replies_on : HubSettings → ℕ → List Event → List Seen → List Answer
 replies_on s p J [] = []
 replies_on s p J (Asked command at found ∷ view) =
-    Reply (as_reply (reply s p J command at found)) ∷ replies_on s p (J ++ kept s p J (Asked command at found)) view
-replies_on s p J (Came from id cents deadline ∷ view) = replies_on s p (J ++ kept s p J (Came from id cents deadline)) view
-replies_on s p J (Told from id o ∷ view) = replies_on s p (J ++ kept s p J (Told from id o)) view
+    Reply (as_reply (reply s p J command at found)) ∷ replies_on s p (J ++ events_of_entry s p J (Asked command at found)) view
+replies_on s p J (Came from id cents deadline ∷ view) = replies_on s p (J ++ events_of_entry s p J (Came from id cents deadline)) view
+replies_on s p J (Told from id o ∷ view) = replies_on s p (J ++ events_of_entry s p J (Told from id o)) view
 
 replies_on-append : (s : HubSettings) (p : ℕ) (J : List Event) (v w : List Seen) → replies_on s p J (v ++ w) ≡ replies_on s p J v ++ replies_on s p (with_entries s p J v) w
 replies_on-append s p J [] w = refl
 replies_on-append s p J (Asked command at found ∷ v) w =
-    ap (λ rest. Reply (as_reply (reply s p J command at found)) ∷ rest) (replies_on-append s p (J ++ kept s p J (Asked command at found)) v w)
-replies_on-append s p J (Came from id cents deadline ∷ v) w = replies_on-append s p (J ++ kept s p J (Came from id cents deadline)) v w
-replies_on-append s p J (Told from id o ∷ v) w = replies_on-append s p (J ++ kept s p J (Told from id o)) v w
+    ap (λ rest. Reply (as_reply (reply s p J command at found)) ∷ rest) (replies_on-append s p (J ++ events_of_entry s p J (Asked command at found)) v w)
+replies_on-append s p J (Came from id cents deadline ∷ v) w = replies_on-append s p (J ++ events_of_entry s p J (Came from id cents deadline)) v w
+replies_on-append s p J (Told from id o ∷ v) w = replies_on-append s p (J ++ events_of_entry s p J (Told from id o)) v w
 
 own_is : (s : HubSettings) (O : Opening) (past : List Step) (step : Step) (p : ℕ) → own_answer s O past step p ≡ replies_on s p (history s O past p) (sees s (history s O past) (outcome s O past) (decided s (history s O past) (outcome s O past) step) step p)
 own_is s O past (Ask ask) p = at_ask (eqb ask.who p) refl

@@ -7,7 +7,7 @@ use Rattle.inst_journal.specs.declared.event.Event.TheVariants.{Funded, Defunded
 use Rattle.inst_journal.specs.Booked.{booked, own_booked}
 use Rattle.inst_journal.specs.Money.{reserved}
 use Rattle.inst_journal.specs.Sound.{IsSound}
-use Rattle.inst_journal.specs.Sums.{if_accepted, if_unbooked, debit, debits, reservation}
+use Rattle.inst_journal.specs.Sums.{if_accepted, amount_unbooked, debit, debits, reservation}
 use Rattle.inst_journal.proofs.OwnBookings.{own_booked-booked}
 use Rattle.inst_model.specs.Transfer.{Transfer, transfers}
 use Rattle.inst_model.proofs.Sums.{sum_by_same, each_of}
@@ -43,8 +43,8 @@ debit_taken p J own (Booked from id o) = refl
 debit_taken p J own (Fetched count) = refl
 debit_taken p J own Opened = refl
 
-reservation_taken : (p : ℕ) (J : List Event) → ((id : List ℕ) → own_booked id J ≡ booked p id J) → (event : Event) → reservation J event ≡ at_taken (λ x. if_unbooked (booked p x.id J) x.cents) event
-reservation_taken p J own (Taken id to cents stamp) = ap (λ o. if_unbooked o cents) (own id)
+reservation_taken : (p : ℕ) (J : List Event) → ((id : List ℕ) → own_booked id J ≡ booked p id J) → (event : Event) → reservation J event ≡ at_taken (λ x. amount_unbooked (booked p x.id J) x.cents) event
+reservation_taken p J own (Taken id to cents stamp) = ap (λ o. amount_unbooked o cents) (own id)
 reservation_taken p J own (Funded funding) = refl
 reservation_taken p J own (Defunded funding) = refl
 reservation_taken p J own (Forwarded from id cents d) = refl
@@ -58,7 +58,7 @@ debits_by_transfer s p J sound =
     let h : Transfer → ℕ = λ x. if_accepted (booked p x.id J) x.cents in
     sum_by_same (debit J) (at_taken h) J (each_of (λ event. debit J event ≡ at_taken h event) J (debit_taken p J (λ id. own_booked-booked s p J id sound))) ∙ sum_taken h J
 
-pub reserved_by_transfer : (s : HubSettings) (p : ℕ) (J : List Event) → IsSound s p J → reserved J ≡ sum_by (λ (x : Transfer). if_unbooked (booked p x.id J) x.cents) (transfers J)
+pub reserved_by_transfer : (s : HubSettings) (p : ℕ) (J : List Event) → IsSound s p J → reserved J ≡ sum_by (λ (x : Transfer). amount_unbooked (booked p x.id J) x.cents) (transfers J)
 reserved_by_transfer s p J sound =
-    let h : Transfer → ℕ = λ x. if_unbooked (booked p x.id J) x.cents in
+    let h : Transfer → ℕ = λ x. amount_unbooked (booked p x.id J) x.cents in
     sum_by_same (reservation J) (at_taken h) J (each_of (λ event. reservation J event ≡ at_taken h event) J (reservation_taken p J (λ id. own_booked-booked s p J id sound))) ∙ sum_taken h J

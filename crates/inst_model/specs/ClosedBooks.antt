@@ -7,9 +7,9 @@ use Rattle.inst_journal.specs.Sums.{net}
 use Rattle.inst_journal.specs.Money.{position}
 use Rattle.inst_journal.specs.Sound.{IsSound}
 use Rattle.inst_model.specs.Fit.{BooksAreClosed}
-use Rattle.inst_model.specs.Untold.{total, signed_total}
+use Rattle.inst_model.specs.Untold.{sum_over_participants, signed_total}
 
 abbrev pub ClosedBooksSumToTheNet : Type 0
 ClosedBooksSumToTheNet =
     (s : HubSettings) (J : ℕ → List Event) → ((p : ℕ) → IsSound s p (J p)) → BooksAreClosed s J →
-    pos (total s (λ p. position (J p))) ≡ signed_total s (λ p. net (J p))
+    pos (sum_over_participants s (λ p. position (J p))) ≡ signed_total s (λ p. net (J p))

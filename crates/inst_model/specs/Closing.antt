@@ -19,7 +19,7 @@ use Rattle.inst_model.specs.Interleaving.{IsInterleaving}
 use Rattle.inst_model.specs.Opening.{Opening, IsOpening}
 use Rattle.inst_model.specs.Fit.{BooksAreClosed}
 use Rattle.inst_model.specs.Hub.{outcome, history}
-use Rattle.inst_model.specs.Untold.{total, signed_total, untold}
+use Rattle.inst_model.specs.Untold.{sum_over_participants, signed_total, untold}
 
 -- whether the step tells a participant of a transfer, without a reading
 abbrev pub is_telling : Step → Bool
@@ -119,7 +119,7 @@ NothingLeftIsClosed =
 -- after a closing nothing is untold, and the positions sum to the net funding
 pub record IsSettledUp (s : HubSettings) (O : Opening) (L : List Step) : Type 0 where
   pub all_told : untold s O L ≡ 0
-  pub sum : pos (total s (λ p. position (history s O L p)))
+  pub sum : pos (sum_over_participants s (λ p. position (history s O L p)))
       ≡ signed_total s (λ p. net (history s O L p))
 
 abbrev pub ClosingSettlesUp : Type 0

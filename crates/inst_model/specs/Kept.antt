@@ -11,15 +11,15 @@ use Rattle.inst_model.specs.View.{Seen}
 use Rattle.inst_model.specs.View.Seen.{Asked, Came, Told}
 
 -- the event that an entry leaves in the history J of p
-abbrev pub kept : HubSettings → ℕ → List Event → Seen → List Event
-kept s p J (Asked command at found) = kept_events (handle s p J command at found)
-kept s p J (Came from id cents deadline) = Forwarded from id cents deadline ∷ []
-kept s p J (Told from id outcome) = Booked from id outcome ∷ []
+abbrev pub events_of_entry : HubSettings → ℕ → List Event → Seen → List Event
+events_of_entry s p J (Asked command at found) = kept_events (handle s p J command at found)
+events_of_entry s p J (Came from id cents deadline) = Forwarded from id cents deadline ∷ []
+events_of_entry s p J (Told from id outcome) = Booked from id outcome ∷ []
 
 -- the history J of p after these entries
 abbrev pub with_entries : HubSettings → ℕ → List Event → List Seen → List Event
 with_entries s p J [] = J
-with_entries s p J (seen ∷ view) = with_entries s p (J ++ kept s p J seen) view
+with_entries s p J (seen ∷ view) = with_entries s p (J ++ events_of_entry s p J seen) view
 
 -- the history that a view makes, from what it begins with
 abbrev pub history_of : HubSettings → Opening → ℕ → List Seen → List Event

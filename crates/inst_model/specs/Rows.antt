@@ -21,24 +21,24 @@ use Rattle.inst_model.specs.Opening.Opening.{First, FromBooks}
 use Rattle.inst_journal.specs.declared.event.Event.{Event}
 pub use Rattle.inst_journal.specs.Rows.{settings, A, B, C}
 
-abbrev pub fund : ℕ → List ℕ → ℕ → ℕ → Step
-fund who reference cents at = asks who (Fund (record { reference = reference; cents = cents })) at
+abbrev pub fund_step : ℕ → List ℕ → ℕ → ℕ → Step
+fund_step who reference cents at = asks who (Fund (record { reference = reference; cents = cents })) at
 
-abbrev pub submit : ℕ → List ℕ → ℕ → ℕ → ℕ → ℕ → Step
-submit who id to cents stamp at =
+abbrev pub submit_step : ℕ → List ℕ → ℕ → ℕ → ℕ → ℕ → Step
+submit_step who id to cents stamp at =
     asks who (Submit (record { id = id; to = to; cents = cents; stamp = stamp })) at
 
-abbrev pub confirm : ℕ → ℕ → List ℕ → ℕ → Step
-confirm who from id at = asks who (Confirm from id) at
+abbrev pub confirm_step : ℕ → ℕ → List ℕ → ℕ → Step
+confirm_step who from id at = asks who (Confirm from id) at
 
-abbrev pub reject : ℕ → ℕ → List ℕ → List ℕ → ℕ → Step
-reject who from id reason at = asks who (Reject from id reason) at
+abbrev pub reject_step : ℕ → ℕ → List ℕ → List ℕ → ℕ → Step
+reject_step who from id reason at = asks who (Reject from id reason) at
 
-abbrev pub investigate : ℕ → List ℕ → ℕ → Step
-investigate who id at = asks who (Investigate id) at
+abbrev pub investigate_step : ℕ → List ℕ → ℕ → Step
+investigate_step who id at = asks who (Investigate id) at
 
-abbrev pub position : ℕ → ℕ → Step
-position who at = asks who (Query Position) at
+abbrev pub position_step : ℕ → ℕ → Step
+position_step who at = asks who (Query Position) at
 
 -- who sees it, the originator, the place
 abbrev pub deliver : ℕ → ℕ → ℕ → Step
@@ -53,24 +53,24 @@ expire who index at = Expire who index at
 abbrev pub is_done : List ℕ → Answer
 is_done reference = Reply (Done reference)
 
-abbrev pub is_taken : List ℕ → ℕ → Answer
-is_taken id deadline = Reply (Taken id deadline)
+abbrev pub answer_of_taken : List ℕ → ℕ → Answer
+answer_of_taken id deadline = Reply (Taken id deadline)
 
 abbrev pub is_state : ℕ → List ℕ → StateValue → Answer
 is_state from id state = Reply (State from id state)
 
 abbrev pub is_position : ℕ → ℕ → ℕ → Answer
-is_position position reserved available = Reply (PositionReply position reserved available)
+is_position position_step reserved available = Reply (PositionReply position_step reserved available)
 
-abbrev pub is_refused : Fault → Answer
-is_refused fault = Reply (Refused fault)
+abbrev pub answer_of_fault : Fault → Answer
+answer_of_fault fault = Reply (Refused fault)
 
 abbrev pub is_new : Bool → Answer
 is_new new = New new
 
 -- the answers to a script
-abbrev pub answers : List Step → List Answer
-answers script = trace settings First (reverse script)
+abbrev pub script_answers : List Step → List Answer
+script_answers script = trace settings First (reverse script)
 
 -- the same hub with a margin of two seconds, and the answers there
 abbrev pub settings_with_margin : HubSettings
@@ -80,35 +80,35 @@ abbrev pub answers_with_margin : List Step → List Answer
 answers_with_margin script = trace settings_with_margin First (reverse script)
 
 -- A is funded and submits a transfer to B
-abbrev pub submitted : List Step
-submitted =
-    fund A (codes "F1") 50000 0
-    ∷ submit A (codes "T1") B 20000 1000 1000
+abbrev pub submitted_steps : List Step
+submitted_steps =
+    fund_step A (codes "F1") 50000 0
+    ∷ submit_step A (codes "T1") B 20000 1000 1000
     ∷ []
 
 -- and the transfer comes to B
 abbrev pub delivered : List Step
-delivered = submitted ++ deliver B A 0 ∷ []
+delivered = submitted_steps ++ deliver B A 0 ∷ []
 
 -- the positions of A and B
 abbrev pub positions : ℕ → List Step
-positions at = position A at ∷ position B at ∷ []
+positions at = position_step A at ∷ position_step B at ∷ []
 
 abbrev pub confirm_before_expire : List Step
 confirm_before_expire =
-    delivered ++ confirm B A (codes "T1") 10999 ∷ expire A 0 11000 ∷ learn A A 0 ∷ positions 11000
+    delivered ++ confirm_step B A (codes "T1") 10999 ∷ expire A 0 11000 ∷ learn A A 0 ∷ positions 11000
 
 abbrev pub expire_before_confirm : List Step
 expire_before_confirm =
-    delivered ++ expire A 0 11000 ∷ confirm B A (codes "T1") 10999 ∷ positions 11000
+    delivered ++ expire A 0 11000 ∷ confirm_step B A (codes "T1") 10999 ∷ positions 11000
 
 -- B has confirmed, and A doesn't know yet
 abbrev pub untold_yet : List Step
-untold_yet = delivered ++ confirm B A (codes "T1") 2000 ∷ []
+untold_yet = delivered ++ confirm_step B A (codes "T1") 2000 ∷ []
 
 abbrev pub untold_then_learnt : List Step
 untold_then_learnt =
-    untold_yet ++ position A 2000 ∷ position B 2000 ∷ learn A A 0 ∷ position A 2000 ∷ []
+    untold_yet ++ position_step A 2000 ∷ position_step B 2000 ∷ learn A A 0 ∷ position_step A 2000 ∷ []
 
 -- what B asks beside other traffic
 abbrev pub fetch_B : Step
@@ -118,45 +118,45 @@ abbrev pub statement_B : Step
 statement_B = asks B (Query (Statement 0 10)) 2100
 
 abbrev pub alone : List Step
-alone = delivered ++ fetch_B ∷ confirm B A (codes "T1") 2000 ∷ statement_B ∷ position B 2100 ∷ []
+alone = delivered ++ fetch_B ∷ confirm_step B A (codes "T1") 2000 ∷ statement_B ∷ position_step B 2100 ∷ []
 
 abbrev pub among_others : List Step
 among_others =
-    fund C (codes "F9") 700 5
-    ∷ submit C (codes "Z1") A 300 1200 1200
-    ∷ fund A (codes "F7") 90000 3
-    ∷ submit A (codes "T0") C 100 900 950
-    ∷ submit A (codes "T1") B 20000 1000 1000
+    fund_step C (codes "F9") 700 5
+    ∷ submit_step C (codes "Z1") A 300 1200 1200
+    ∷ fund_step A (codes "F7") 90000 3
+    ∷ submit_step A (codes "T0") C 100 900 950
+    ∷ submit_step A (codes "T1") B 20000 1000 1000
     ∷ deliver B A 1
     ∷ deliver A C 0
     ∷ fetch_B
-    ∷ confirm A C (codes "Z1") 1600
-    ∷ confirm B A (codes "T1") 2000
+    ∷ confirm_step A C (codes "Z1") 1600
+    ∷ confirm_step B A (codes "T1") 2000
     ∷ learn C C 0
     ∷ statement_B
-    ∷ position B 2100
+    ∷ position_step B 2100
     ∷ []
 
 abbrev pub confirmed_late : List Step
-confirmed_late = delivered ++ confirm B A (codes "T1") 11000 ∷ learn A A 0 ∷ positions 11000
+confirmed_late = delivered ++ confirm_step B A (codes "T1") 11000 ∷ learn A A 0 ∷ positions 11000
 
 abbrev pub confirmed_before_delivery : List Step
 confirmed_before_delivery =
-    submitted ++ confirm B A (codes "T1") 2000 ∷ investigate A (codes "T1") 2000 ∷ deliver B A 0
+    submitted_steps ++ confirm_step B A (codes "T1") 2000 ∷ investigate_step A (codes "T1") 2000 ∷ deliver B A 0
     ∷ []
 
 abbrev pub expired_before_taken : List Step
 expired_before_taken =
-    fund A (codes "F1") 50000 0 ∷ expire A 0 11000 ∷ submit A (codes "T1") B 20000 1000 1000
+    fund_step A (codes "F1") 50000 0 ∷ expire A 0 11000 ∷ submit_step A (codes "T1") B 20000 1000 1000
     ∷ deliver B A 0 ∷ []
 
 abbrev pub one_of_two_expired : List Step
 one_of_two_expired =
-    submitted
-    ++ submit A (codes "T2") B 100 1000 1000
+    submitted_steps
+    ++ submit_step A (codes "T2") B 100 1000 1000
     ∷ expire A 0 11000
-    ∷ investigate A (codes "T1") 2000
-    ∷ investigate A (codes "T2") 2000
+    ∷ investigate_step A (codes "T1") 2000
+    ∷ investigate_step A (codes "T2") 2000
     ∷ []
 
 abbrev pub wrong_deliveries_and_stamp_ahead : List Step
@@ -165,75 +165,75 @@ wrong_deliveries_and_stamp_ahead =
     ++ deliver B A 0
     ∷ deliver C A 0
     ∷ deliver B A 1
-    ∷ submit A (codes "T2") B 1 2001 1000
-    ∷ submit A (codes "T2") B 1 2000 1000
+    ∷ submit_step A (codes "T2") B 1 2001 1000
+    ∷ submit_step A (codes "T2") B 1 2000 1000
     ∷ []
 
 abbrev pub expired_before_delivery : List Step
 expired_before_delivery =
-    submitted ++ expire A 0 11000 ∷ deliver B A 0 ∷ confirm B A (codes "T1") 11000 ∷ []
+    submitted_steps ++ expire A 0 11000 ∷ deliver B A 0 ∷ confirm_step B A (codes "T1") 11000 ∷ []
 
 abbrev pub rejected_with_reason : List Step
 rejected_with_reason =
     delivered
-    ++ reject B A (codes "T1") (codes "AC04") 2000
-    ∷ investigate A (codes "T1") 2100
-    ∷ confirm B A (codes "T1") 2200
-    ∷ position A 2200
+    ++ reject_step B A (codes "T1") (codes "AC04") 2000
+    ∷ investigate_step A (codes "T1") 2100
+    ∷ confirm_step B A (codes "T1") 2200
+    ∷ position_step A 2200
     ∷ []
 
 abbrev pub investigate_at_the_deadline : List Step
 investigate_at_the_deadline =
     delivered
-    ++ investigate A (codes "T1") 10999
-    ∷ investigate A (codes "T1") 11000
-    ∷ position A 11000
+    ++ investigate_step A (codes "T1") 10999
+    ∷ investigate_step A (codes "T1") 11000
+    ∷ position_step A 11000
     ∷ []
 
 abbrev pub confirmed_by_another : List Step
 confirmed_by_another =
-    delivered ++ confirm C A (codes "T1") 2000 ∷ confirm A A (codes "T1") 2000
-    ∷ investigate A (codes "T1") 2000 ∷ []
+    delivered ++ confirm_step C A (codes "T1") 2000 ∷ confirm_step A A (codes "T1") 2000
+    ∷ investigate_step A (codes "T1") 2000 ∷ []
 
 abbrev pub learnt_twice : List Step
 learnt_twice =
     delivered
-    ++ confirm B A (codes "T1") 2000
+    ++ confirm_step B A (codes "T1") 2000
     ∷ learn A A 0
     ∷ learn A A 0
     ∷ learn B A 0
-    ∷ position A 2000
+    ∷ position_step A 2000
     ∷ []
 
 -- an expiry and a rejection one millisecond before the deadline, and at it
 abbrev pub on_either_side : List Step
 on_either_side =
     delivered
-    ++ submit A (codes "T2") B 100 1000 1000
+    ++ submit_step A (codes "T2") B 100 1000 1000
     ∷ deliver B A 1
     ∷ expire A 0 10999
-    ∷ reject B A (codes "T1") (codes "AC04") 10999
-    ∷ reject B A (codes "T2") (codes "AC04") 11000
+    ∷ reject_step B A (codes "T1") (codes "AC04") 10999
+    ∷ reject_step B A (codes "T2") (codes "AC04") 11000
     ∷ expire A 1 11000
     ∷ []
 
 -- four fundings, and then a reference that is kept with other cents, and one that isn't
 abbrev pub fundings_full : List Step
 fundings_full =
-    fund A (codes "F1") 1 0
-    ∷ fund A (codes "F2") 1 0
-    ∷ fund A (codes "F3") 1 0
-    ∷ fund A (codes "F4") 1 0
-    ∷ fund A (codes "F1") 2 0
-    ∷ fund A (codes "F5") 1 0
-    ∷ fund A (codes "F4") 1 0
+    fund_step A (codes "F1") 1 0
+    ∷ fund_step A (codes "F2") 1 0
+    ∷ fund_step A (codes "F3") 1 0
+    ∷ fund_step A (codes "F4") 1 0
+    ∷ fund_step A (codes "F1") 2 0
+    ∷ fund_step A (codes "F5") 1 0
+    ∷ fund_step A (codes "F4") 1 0
     ∷ []
 
 -- two transfers come to B, in another order than they were taken
 abbrev pub a_page_of_two : List Step
 a_page_of_two =
-    submitted
-    ++ submit A (codes "T2") B 200 1000 1000
+    submitted_steps
+    ++ submit_step A (codes "T2") B 200 1000 1000
     ∷ deliver B A 1
     ∷ deliver B A 0
     ∷ asks B (Fetch 2) 1500
@@ -242,23 +242,23 @@ a_page_of_two =
 
 -- confirmations at a margin of two seconds
 abbrev pub margin_confirmed_before : List Step
-margin_confirmed_before = delivered ++ confirm B A (codes "T1") 8999 ∷ []
+margin_confirmed_before = delivered ++ confirm_step B A (codes "T1") 8999 ∷ []
 
 abbrev pub margin_confirmation_refused : List Step
 margin_confirmation_refused =
     delivered
-    ++ confirm B A (codes "T1") 9000
-    ∷ position A 9000
-    ∷ reject B A (codes "T1") (codes "AC04") 10999
-    ∷ confirm B A (codes "T1") 9000
+    ++ confirm_step B A (codes "T1") 9000
+    ∷ position_step A 9000
+    ∷ reject_step B A (codes "T1") (codes "AC04") 10999
+    ∷ confirm_step B A (codes "T1") 9000
     ∷ []
 
 abbrev pub margin_then_timed_out : List Step
 margin_then_timed_out =
-    delivered ++ confirm B A (codes "T1") 10999 ∷ confirm B A (codes "T1") 11000 ∷ []
+    delivered ++ confirm_step B A (codes "T1") 10999 ∷ confirm_step B A (codes "T1") 11000 ∷ []
 
 abbrev pub margin_after_expire : List Step
-margin_after_expire = delivered ++ expire A 0 11000 ∷ confirm B A (codes "T1") 9500 ∷ []
+margin_after_expire = delivered ++ expire A 0 11000 ∷ confirm_step B A (codes "T1") 9500 ∷ []
 
 -- the books that a script leaves, and the answers at the next opening
 abbrev pub books_after : List Step → ℕ → List Event
@@ -270,11 +270,11 @@ answers_from before script = trace settings (FromBooks (books_after before)) (re
 -- A's transfer is pending when the hub closes, and goes on at the next opening
 abbrev pub carried_over_an_opening : List Step
 carried_over_an_opening =
-    position A 1002
-    ∷ submit A (codes "T1") B 20000 1000 1002
-    ∷ submit A (codes "T1") B 19999 1000 1002
+    position_step A 1002
+    ∷ submit_step A (codes "T1") B 20000 1000 1002
+    ∷ submit_step A (codes "T1") B 19999 1000 1002
     ∷ asks A (Query (Statement 0 10)) 1002
-    ∷ confirm B A (codes "T1") 2000
+    ∷ confirm_step B A (codes "T1") 2000
     ∷ learn A A 0
     ∷ asks A (Query (Statement 0 10)) 2000
     ∷ []
@@ -282,21 +282,21 @@ carried_over_an_opening =
 -- A has an accepted and a pending transfer when the hub closes, and two places
 abbrev pub one_settled : List Step
 one_settled =
-    fund A (codes "F1") 50000 0
-    ∷ submit A (codes "T1") B 100 1000 1000
-    ∷ submit A (codes "T2") B 100 1000 1000
+    fund_step A (codes "F1") 50000 0
+    ∷ submit_step A (codes "T1") B 100 1000 1000
+    ∷ submit_step A (codes "T2") B 100 1000 1000
     ∷ deliver B A 0
     ∷ deliver B A 1
-    ∷ confirm B A (codes "T1") 2000
+    ∷ confirm_step B A (codes "T1") 2000
     ∷ learn A A 0
     ∷ []
 
 abbrev pub places_given_back : List Step
 places_given_back =
-    submit A (codes "T3") B 100 3000 3000
-    ∷ submit A (codes "T4") B 100 3000 3000
-    ∷ investigate A (codes "T1") 3000
-    ∷ submit A (codes "T1") B 100 1000 3000
+    submit_step A (codes "T3") B 100 3000 3000
+    ∷ submit_step A (codes "T4") B 100 3000 3000
+    ∷ investigate_step A (codes "T1") 3000
+    ∷ submit_step A (codes "T1") B 100 1000 3000
     ∷ expire A 0 11000
-    ∷ investigate A (codes "T2") 3000
+    ∷ investigate_step A (codes "T2") 3000
     ∷ []

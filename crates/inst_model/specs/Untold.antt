@@ -21,8 +21,8 @@ signed_sum_below zero f = pos 0
 signed_sum_below (suc n) f = signed_sum_below n f +ℤ f n
 
 -- the sum over all participants
-abbrev pub total : HubSettings → (ℕ → ℕ) → ℕ
-total s f = sum_below (participants s) f
+abbrev pub sum_over_participants : HubSettings → (ℕ → ℕ) → ℕ
+sum_over_participants s f = sum_below (participants s) f
 
 abbrev pub signed_total : HubSettings → (ℕ → ℤ) → ℤ
 signed_total s f = signed_sum_below (participants s) f
@@ -40,4 +40,4 @@ untold_by s O L p =
     (transfers (history s O L p))
 
 abbrev pub untold : HubSettings → Opening → List Step → ℕ
-untold s O L = total s (untold_by s O L)
+untold s O L = sum_over_participants s (untold_by s O L)

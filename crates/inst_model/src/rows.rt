@@ -11,10 +11,10 @@ ghost use Rattle.inst_journal.specs.Money.{position};
 ghost use Rattle.inst_journal.specs.Sums.{net};
 ghost use Rattle.inst_model.specs.Hub.{history};
 ghost use Rattle.inst_model.specs.Opening.Opening.{First};
-ghost use Rattle.inst_model.specs.Untold.{total, signed_total, untold};
+ghost use Rattle.inst_model.specs.Untold.{sum_over_participants, signed_total, untold};
 ghost use Rattle.inst_model.specs.Trace.{replies};
-ghost use Rattle.inst_model.specs.Rows.{A, B, settings, answers, is_done, is_taken, is_state};
-ghost use Rattle.inst_model.specs.Rows.{is_position, is_refused};
+ghost use Rattle.inst_model.specs.Rows.{A, B, settings, script_answers, is_done, answer_of_taken, is_state};
+ghost use Rattle.inst_model.specs.Rows.{is_position, answer_of_fault};
 ghost use Rattle.inst_model.specs.Rows.{is_new, confirm_before_expire, expire_before_confirm};
 ghost use Rattle.inst_model.specs.Rows.{untold_yet};
 ghost use Rattle.inst_model.specs.Rows.{untold_then_learnt, alone, among_others, confirmed_late};
@@ -34,16 +34,16 @@ ghost use Rattle.inst_model.specs.Rows.{one_settled, places_given_back};
 /// A confirmation just in time stands, though the deadline passes before the originator learns of
 /// it.
 pub fn confirm_before_expire()
-    ensures { answers confirm_before_expire ≡
-        is_done (codes "F1") ∷ is_taken (codes "T1") 11000 ∷ is_new true
+    ensures { script_answers confirm_before_expire ≡
+        is_done (codes "F1") ∷ answer_of_taken (codes "T1") 11000 ∷ is_new true
         ∷ is_state A (codes "T1") (State.Decided Outcome.Accepted) ∷ is_new true ∷ is_new false
         ∷ is_position 30000 0 30000 ∷ is_position 20000 0 20000 ∷ [] }
 {}
 
 /// A time-out that comes first stands against a confirmation with an earlier reading.
 pub fn expire_before_confirm()
-    ensures answers { answers expire_before_confirm ≡
-        is_done (codes "F1") ∷ is_taken (codes "T1") 11000 ∷ is_new true ∷ is_new true
+    ensures answers { script_answers expire_before_confirm ≡
+        is_done (codes "F1") ∷ answer_of_taken (codes "T1") 11000 ∷ is_new true ∷ is_new true
         ∷ is_state A (codes "T1") (State.Decided Outcome.TimedOut)
         ∷ is_position 50000 0 50000 ∷ is_position 0 0 0 ∷ [] }
     ensures history { history settings First (reverse expire_before_confirm) B ≡
@@ -54,12 +54,12 @@ pub fn expire_before_confirm()
 /// Until the originator learns of an accepted transfer its amount stays reserved, and the positions
 /// sum to 20000 more than the net funding.
 pub fn untold_then_learnt()
-    ensures answers { answers untold_then_learnt ≡
-        is_done (codes "F1") ∷ is_taken (codes "T1") 11000 ∷ is_new true
+    ensures answers { script_answers untold_then_learnt ≡
+        is_done (codes "F1") ∷ answer_of_taken (codes "T1") 11000 ∷ is_new true
         ∷ is_state A (codes "T1") (State.Decided Outcome.Accepted)
         ∷ is_position 50000 20000 30000 ∷ is_position 20000 0 20000 ∷ is_new true
         ∷ is_position 30000 0 30000 ∷ [] }
-    ensures positions { total settings (λ p.
+    ensures positions { sum_over_participants settings (λ p.
         position (history settings First (reverse untold_yet) p)) ≡ 70000 }
     ensures net { signed_total settings (λ p. net (history settings First (reverse untold_yet) p))
         ≡ pos 50000 }
@@ -94,23 +94,23 @@ pub fn other_traffic_unseen()
 /// A transfer comes once, to its beneficiary; a time stamp may lie one second after the reading and
 /// no more.
 pub fn wrong_deliveries_and_stamp_ahead()
-    ensures { answers wrong_deliveries_and_stamp_ahead ≡
-        is_done (codes "F1") ∷ is_taken (codes "T1") 11000 ∷ is_new true
+    ensures { script_answers wrong_deliveries_and_stamp_ahead ≡
+        is_done (codes "F1") ∷ answer_of_taken (codes "T1") 11000 ∷ is_new true
         ∷ is_new false ∷ is_new false ∷ is_new false
-        ∷ is_refused Fault.StampAhead ∷ is_taken (codes "T2") 12000 ∷ [] }
+        ∷ answer_of_fault Fault.StampAhead ∷ answer_of_taken (codes "T2") 12000 ∷ [] }
 {}
 
 /// A transfer that timed out isn't forwarded any more.
 pub fn expired_before_delivery()
-    ensures { answers expired_before_delivery ≡
-        is_done (codes "F1") ∷ is_taken (codes "T1") 11000 ∷ is_new true ∷ is_new false
-        ∷ is_refused Fault.UnknownTransfer ∷ [] }
+    ensures { script_answers expired_before_delivery ≡
+        is_done (codes "F1") ∷ answer_of_taken (codes "T1") 11000 ∷ is_new true ∷ is_new false
+        ∷ answer_of_fault Fault.UnknownTransfer ∷ [] }
 {}
 
 /// A confirmation at the deadline times the transfer out.
 pub fn confirmed_late()
-    ensures { answers confirmed_late ≡
-        is_done (codes "F1") ∷ is_taken (codes "T1") 11000 ∷ is_new true
+    ensures { script_answers confirmed_late ≡
+        is_done (codes "F1") ∷ answer_of_taken (codes "T1") 11000 ∷ is_new true
         ∷ is_state A (codes "T1") (State.Decided Outcome.TimedOut) ∷ is_new true
         ∷ is_position 50000 0 50000 ∷ is_position 0 0 0 ∷ [] }
 {}
@@ -118,21 +118,21 @@ pub fn confirmed_late()
 /// A beneficiary can't confirm what hasn't come to it, and the transfer goes on as if it hadn't
 /// tried.
 pub fn confirmed_before_delivery()
-    ensures { answers confirmed_before_delivery ≡
-        is_done (codes "F1") ∷ is_taken (codes "T1") 11000 ∷ is_refused Fault.UnknownTransfer
+    ensures { script_answers confirmed_before_delivery ≡
+        is_done (codes "F1") ∷ answer_of_taken (codes "T1") 11000 ∷ answer_of_fault Fault.UnknownTransfer
         ∷ is_state A (codes "T1") State.Pending ∷ is_new true ∷ [] }
 {}
 
 /// An expiry of a place that is taken later wants nothing.
 pub fn expired_before_taken()
-    ensures { answers expired_before_taken ≡
-        is_done (codes "F1") ∷ is_new false ∷ is_taken (codes "T1") 11000 ∷ is_new true ∷ [] }
+    ensures { script_answers expired_before_taken ≡
+        is_done (codes "F1") ∷ is_new false ∷ answer_of_taken (codes "T1") 11000 ∷ is_new true ∷ [] }
 {}
 
 /// An expiry times out the transfer at its place and no other.
 pub fn one_of_two_expired()
-    ensures { answers one_of_two_expired ≡
-        is_done (codes "F1") ∷ is_taken (codes "T1") 11000 ∷ is_taken (codes "T2") 11000
+    ensures { script_answers one_of_two_expired ≡
+        is_done (codes "F1") ∷ answer_of_taken (codes "T1") 11000 ∷ answer_of_taken (codes "T2") 11000
         ∷ is_new true
         ∷ is_state A (codes "T1") (State.Decided Outcome.TimedOut)
         ∷ is_state A (codes "T2") State.Pending ∷ [] }
@@ -140,8 +140,8 @@ pub fn one_of_two_expired()
 
 /// A rejection stands, with its reason, and frees the amount.
 pub fn rejected_with_reason()
-    ensures answers { answers rejected_with_reason ≡
-        is_done (codes "F1") ∷ is_taken (codes "T1") 11000 ∷ is_new true
+    ensures answers { script_answers rejected_with_reason ≡
+        is_done (codes "F1") ∷ answer_of_taken (codes "T1") 11000 ∷ is_new true
         ∷ is_state A (codes "T1") (State.Decided (Outcome.Rejected (codes "AC04")))
         ∷ is_state A (codes "T1") (State.Decided (Outcome.Rejected (codes "AC04")))
         ∷ is_state A (codes "T1") (State.Decided (Outcome.Rejected (codes "AC04")))
@@ -154,8 +154,8 @@ pub fn rejected_with_reason()
 /// An investigation before the deadline leaves the transfer pending, one at the deadline times it
 /// out.
 pub fn investigate_at_the_deadline()
-    ensures { answers investigate_at_the_deadline ≡
-        is_done (codes "F1") ∷ is_taken (codes "T1") 11000 ∷ is_new true
+    ensures { script_answers investigate_at_the_deadline ≡
+        is_done (codes "F1") ∷ answer_of_taken (codes "T1") 11000 ∷ is_new true
         ∷ is_state A (codes "T1") State.Pending
         ∷ is_state A (codes "T1") (State.Decided Outcome.TimedOut)
         ∷ is_position 50000 0 50000 ∷ [] }
@@ -163,16 +163,16 @@ pub fn investigate_at_the_deadline()
 
 /// A party that the transfer wasn't forwarded to can't confirm it, nor can its originator.
 pub fn confirmed_by_another()
-    ensures { answers confirmed_by_another ≡
-        is_done (codes "F1") ∷ is_taken (codes "T1") 11000 ∷ is_new true
-        ∷ is_refused Fault.UnknownTransfer ∷ is_refused Fault.UnknownTransfer
+    ensures { script_answers confirmed_by_another ≡
+        is_done (codes "F1") ∷ answer_of_taken (codes "T1") 11000 ∷ is_new true
+        ∷ answer_of_fault Fault.UnknownTransfer ∷ answer_of_fault Fault.UnknownTransfer
         ∷ is_state A (codes "T1") State.Pending ∷ [] }
 {}
 
 /// A second learning changes nothing, nor does that of the beneficiary, who knows.
 pub fn learnt_twice()
-    ensures answers { answers learnt_twice ≡
-        is_done (codes "F1") ∷ is_taken (codes "T1") 11000 ∷ is_new true
+    ensures answers { script_answers learnt_twice ≡
+        is_done (codes "F1") ∷ answer_of_taken (codes "T1") 11000 ∷ is_new true
         ∷ is_state A (codes "T1") (State.Decided Outcome.Accepted)
         ∷ is_new true ∷ is_new false ∷ is_new false ∷ is_position 30000 0 30000 ∷ [] }
     ensures history { history settings First (reverse learnt_twice) A ≡
@@ -184,9 +184,9 @@ pub fn learnt_twice()
 /// One millisecond before the deadline an expiry does nothing and a rejection stands; at the
 /// deadline a rejection comes too late, and the expiry finds the time-out that it made.
 pub fn on_either_side()
-    ensures { answers on_either_side ≡
-        is_done (codes "F1") ∷ is_taken (codes "T1") 11000 ∷ is_new true
-        ∷ is_taken (codes "T2") 11000 ∷ is_new true ∷ is_new false
+    ensures { script_answers on_either_side ≡
+        is_done (codes "F1") ∷ answer_of_taken (codes "T1") 11000 ∷ is_new true
+        ∷ answer_of_taken (codes "T2") 11000 ∷ is_new true ∷ is_new false
         ∷ is_state A (codes "T1") (State.Decided (Outcome.Rejected (codes "AC04")))
         ∷ is_state A (codes "T2") (State.Decided Outcome.TimedOut) ∷ is_new true ∷ [] }
 {}
@@ -194,15 +194,15 @@ pub fn on_either_side()
 /// Where all fundings are used, a kept reference with other cents is a duplicate still, a new one
 /// finds no room, and a repeat is answered.
 pub fn fundings_full()
-    ensures { answers fundings_full ≡
+    ensures { script_answers fundings_full ≡
         is_done (codes "F1") ∷ is_done (codes "F2") ∷ is_done (codes "F3") ∷ is_done (codes "F4")
-        ∷ is_refused Fault.Duplicate ∷ is_refused Fault.Full ∷ is_done (codes "F4") ∷ [] }
+        ∷ answer_of_fault Fault.Duplicate ∷ answer_of_fault Fault.Full ∷ is_done (codes "F4") ∷ [] }
 {}
 
 /// A page has the transfers in the order in which they came, and the next page goes on from there.
 pub fn a_page_of_two()
-    ensures { answers a_page_of_two ≡
-        is_done (codes "F1") ∷ is_taken (codes "T1") 11000 ∷ is_taken (codes "T2") 11000
+    ensures { script_answers a_page_of_two ≡
+        is_done (codes "F1") ∷ answer_of_taken (codes "T1") 11000 ∷ answer_of_taken (codes "T2") 11000
         ∷ is_new true ∷ is_new true
         ∷ Answer.Reply (Reply.Inbox (record {
           from = A;
@@ -218,7 +218,7 @@ pub fn a_page_of_two()
 /// The last millisecond before the margin still accepts.
 pub fn margin_confirmed_before()
     ensures { answers_with_margin margin_confirmed_before ≡
-        is_done (codes "F1") ∷ is_taken (codes "T1") 11000 ∷ is_new true
+        is_done (codes "F1") ∷ answer_of_taken (codes "T1") 11000 ∷ is_new true
         ∷ is_state A (codes "T1") (State.Decided Outcome.Accepted) ∷ [] }
 {}
 
@@ -226,8 +226,8 @@ pub fn margin_confirmed_before()
 /// then the confirmation is answered with it.
 pub fn margin_confirmation_refused()
     ensures { answers_with_margin margin_confirmation_refused ≡
-        is_done (codes "F1") ∷ is_taken (codes "T1") 11000 ∷ is_new true
-        ∷ is_refused Fault.Expired ∷ is_position 50000 20000 30000
+        is_done (codes "F1") ∷ answer_of_taken (codes "T1") 11000 ∷ is_new true
+        ∷ answer_of_fault Fault.Expired ∷ is_position 50000 20000 30000
         ∷ is_state A (codes "T1") (State.Decided (Outcome.Rejected (codes "AC04")))
         ∷ is_state A (codes "T1") (State.Decided (Outcome.Rejected (codes "AC04"))) ∷ [] }
 {}
@@ -235,14 +235,14 @@ pub fn margin_confirmation_refused()
 /// A confirmation in the margin leaves the transfer pending, and one at the deadline times it out.
 pub fn margin_then_timed_out()
     ensures { answers_with_margin margin_then_timed_out ≡
-        is_done (codes "F1") ∷ is_taken (codes "T1") 11000 ∷ is_new true
-        ∷ is_refused Fault.Expired ∷ is_state A (codes "T1") (State.Decided Outcome.TimedOut) ∷ [] }
+        is_done (codes "F1") ∷ answer_of_taken (codes "T1") 11000 ∷ is_new true
+        ∷ answer_of_fault Fault.Expired ∷ is_state A (codes "T1") (State.Decided Outcome.TimedOut) ∷ [] }
 {}
 
 /// A transfer that has timed out is answered so, also at an earlier reading in the margin.
 pub fn margin_after_expire()
     ensures { answers_with_margin margin_after_expire ≡
-        is_done (codes "F1") ∷ is_taken (codes "T1") 11000 ∷ is_new true ∷ is_new true
+        is_done (codes "F1") ∷ answer_of_taken (codes "T1") 11000 ∷ is_new true ∷ is_new true
         ∷ is_state A (codes "T1") (State.Decided Outcome.TimedOut) ∷ [] }
 {}
 
@@ -250,7 +250,7 @@ pub fn margin_after_expire()
 /// apart, the statement begins anew, and the transfer can be confirmed.
 pub fn carried_over_an_opening()
     ensures { answers_from delivered carried_over_an_opening ≡
-        is_position 50000 20000 30000 ∷ is_taken (codes "T1") 11000 ∷ is_refused Fault.Duplicate
+        is_position 50000 20000 30000 ∷ answer_of_taken (codes "T1") 11000 ∷ answer_of_fault Fault.Duplicate
         ∷ Answer.Reply (Reply.Statement [])
         ∷ is_state A (codes "T1") (State.Decided Outcome.Accepted) ∷ is_new true
         ∷ Answer.Reply (Reply.Statement (record {
@@ -267,7 +267,7 @@ pub fn carried_over_an_opening()
 /// one keeps its name and its outcome, and the pending one is at the first place.
 pub fn places_given_back()
     ensures { answers_from one_settled places_given_back ≡
-        is_taken (codes "T3") 13000 ∷ is_refused Fault.Full
-        ∷ is_state A (codes "T1") (State.Decided Outcome.Accepted) ∷ is_taken (codes "T1") 11000
+        answer_of_taken (codes "T3") 13000 ∷ answer_of_fault Fault.Full
+        ∷ is_state A (codes "T1") (State.Decided Outcome.Accepted) ∷ answer_of_taken (codes "T1") 11000
         ∷ is_new true ∷ is_state A (codes "T2") (State.Decided Outcome.TimedOut) ∷ [] }
 {}

@@ -14,7 +14,7 @@ use Rattle.inst_options.specs.Options.{Chooses, Gives, GivesNoneBelow, HasAHub, 
 use Rattle.inst_options.specs.inner.Asking.{IsAsked, IsUnasked}
 use Rattle.inst_options.specs.inner.Options.{AskForNone, ChooseNone, FitNoTask, GivesLog, IsWish}
 use Rattle.inst_options.specs.Options.Task.{Run, Play, Drill, Check}
-use Rattle.inst_options.specs.Asking.{AreChosen, AreUnfit, AreWhole, IsNoWish, IsRefusal, IsWished, GiveTheLog}
+use Rattle.inst_options.specs.Asking.{AreChosen, AreUnfit, AreWhole, IsNoWish, IsBeginRefusal, IsWished, GiveTheLog}
 use Rattle.inst_options.specs.declared.error.WordsError.{WordsError}
 use Rattle.inst_options.specs.declared.error.WordsError.TheVariants as error
 use Rattle.inst_options.specs.declared.invocation.LogOptions.{LogOptions}
@@ -103,15 +103,15 @@ none_narrow (Err d) (Err e) bound n rows name same fits gives = λ m gives'.
       at_least (inr least) large = least
 
 -- bad settings that are passed on, with why
-pub passed_on : {A : Type 0} (P : Type 0) (r : Result A Fault) (fault : Fault) → IsErrAnd r (λ e. e ≡ fault) → fault ≡ BadSettings → P → IfErr r (IsRefusal P)
+pub passed_on : {A : Type 0} (P : Type 0) (r : Result A Fault) (fault : Fault) → IsErrAnd r (λ e. e ≡ fault) → fault ≡ BadSettings → P → IfErr r (IsBeginRefusal P)
 passed_on P (Ok x) fault is bad p = tt
 passed_on P (Err e) fault is bad p = inr (is ∙ bad, p)
 
-pub refused_by : {A : Type 0} (P Q : Type 0) (r : Result A Fault) → IsOkUnless r BadSettings → (Q → P) → OnErr r Q → IfErr r (IsRefusal P)
+pub refused_by : {A : Type 0} (P Q : Type 0) (r : Result A Fault) → IsOkUnless r BadSettings → (Q → P) → OnErr r Q → IfErr r (IsBeginRefusal P)
 refused_by P Q (Ok x) bad weaker q = tt
 refused_by P Q (Err e) bad weaker q = inr (bad, weaker q)
 
-pub passed_more : {A : Type 0} (P Q : Type 0) (r : Result A Fault) (fault : Fault) → IsErrAnd r (λ e. e ≡ fault) → (Q → P) → IsRefusal Q fault → IfErr r (IsRefusal P)
+pub passed_more : {A : Type 0} (P Q : Type 0) (r : Result A Fault) (fault : Fault) → IsErrAnd r (λ e. e ≡ fault) → (Q → P) → IsBeginRefusal Q fault → IfErr r (IsBeginRefusal P)
 passed_more P Q (Ok x) fault is weaker q = tt
 passed_more P Q (Err e) fault is weaker (inl memory) = inl (is ∙ memory)
 passed_more P Q (Err e) fault is weaker (inr bad) = inr (is ∙ bad.0, weaker bad.1)
@@ -147,7 +147,7 @@ no_openings name rows other drill none (Drill transfers openings) s is chosen go
 
 pub numberless : {A : Type 0} (name : List ℕ) (rows : List Row) (r : Result A Fault) (fault : Fault) → HasAHub name → same_text name (codes "play") ≡ false → same_text name (codes "drill") ≡ true →
     IsErrAnd r (λ e. e ≡ fault) → GivesNoneBelow (2 ^ 16) rows (codes "transfers") ⊎ GivesNoneBelow (2 ^ 8) rows (codes "openings") → fault ≡ BadSettings →
-    IfErr r (IsRefusal (AskForNone name rows ⊎ AreOfNoLog rows))
+    IfErr r (IsBeginRefusal (AskForNone name rows ⊎ AreOfNoLog rows))
 numberless name rows r fault hub other drill is none bad =
     passed_on (AskForNone name rows ⊎ AreOfNoLog rows) r fault is bad
     (inl (hub, ⊎_elim (no_transfers name rows other drill) (no_openings name rows other drill) none))
@@ -180,7 +180,7 @@ unfit words name rows whole at none = record {
 }
 
 pub unsettled : (words : List (List ℕ)) (name : List ℕ) (rows : List Row) (fault : Fault) → AreWhole words → subcommand_of command_line words ≡ Some (name, rows) →
-    IsRefusal (AskForNone name rows ⊎ AreOfNoLog rows) fault → IsNoWish words (error.Fault fault)
+    IsBeginRefusal (AskForNone name rows ⊎ AreOfNoLog rows) fault → IsNoWish words (error.Fault fault)
 unsettled words name rows fault whole at (inl memory) = inl memory
 unsettled words name rows fault whole at (inr bad) =
     inr (bad.0, ⊎_elim (λ none. inl (unfit words name rows whole at none)) (λ speaks. inr (whole, (name, rows, at, speaks))) bad.1)

@@ -7,19 +7,19 @@ use Rattle.inst_options.specs.LogFault as log
 use Rattle.inst_options.specs.declared.any_fault.AnyFault.{AnyFault}
 use Rattle.inst_options.specs.declared.any_fault.AnyFault.TheVariants.{Hub, Log, NoInterleaving}
 
-abbrev pub number_of : AnyFault → ℕ
-number_of (Hub fault) = hub.number_of fault
-number_of (Log fault) = log.number_of fault
-number_of NoInterleaving = 29
+abbrev pub any_fault_number : AnyFault → ℕ
+any_fault_number (Hub fault) = hub.number_of fault
+any_fault_number (Log fault) = log.number_of fault
+any_fault_number NoInterleaving = 29
 
-abbrev pub name_of : AnyFault → List ℕ
-name_of (Hub fault) = hub.name_of fault
-name_of (Log fault) = log.name_of fault
-name_of NoInterleaving = codes "NoInterleaving"
+abbrev pub any_fault_name : AnyFault → List ℕ
+any_fault_name (Hub fault) = hub.name_of fault
+any_fault_name (Log fault) = log.name_of fault
+any_fault_name NoInterleaving = codes "NoInterleaving"
 
 -- the word is the fault's name, or its number in digits, which may follow a plus
 abbrev pub IsNamed : List ℕ → AnyFault → Type 0
 IsNamed word fault =
-    (word ≡ name_of fault)
+    (word ≡ any_fault_name fault)
     ⊎ (IsNumeral 10 (without_leading_plus word)
-    × (number_of fault ≡ digits_value 10 (without_leading_plus word)))
+    × (any_fault_number fault ≡ digits_value 10 (without_leading_plus word)))

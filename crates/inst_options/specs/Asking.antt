@@ -23,8 +23,8 @@ use Rattle.inst_options.specs.declared.invocation.Invocation.TheVariants as wish
 
 -- the faults that keep a run from beginning: want of memory, and bad settings where the settings
 -- deserve it
-abbrev pub IsRefusal : Type 0 → Fault → Type 0
-IsRefusal deserved fault = (fault ≡ Memory) ⊎ ((fault ≡ BadSettings) × deserved)
+abbrev pub IsBeginRefusal : Type 0 → Fault → Type 0
+IsBeginRefusal deserved fault = (fault ≡ Memory) ⊎ ((fault ≡ BadSettings) × deserved)
 
 -- what is wrong with the words, where they are no whole command line, or that they ask for a help
 -- text
@@ -148,4 +148,4 @@ IsGivenBy words bad =
 abbrev pub IsNoWish : List (List ℕ) → WordsError → Type 0
 IsNoWish words (error.Words e) = (kind_of e ≢ OutOfMemory) × IsAmong (kind_of e) (faults_of words)
 IsNoWish words (error.Option bad) = (AreUnfit words ⊎ NameABadLog words) × IsGivenBy words bad
-IsNoWish words (error.Fault fault) = IsRefusal (AreUnfit words ⊎ NameABadLog words) fault
+IsNoWish words (error.Fault fault) = IsBeginRefusal (AreUnfit words ⊎ NameABadLog words) fault

@@ -4,8 +4,8 @@ use Rattle.std.specs.Prelude.{nat_lt, if◌then◌else◌, List, length, take, c
 use Rattle.std.specs.List.{flat_map}
 
 -- printable ASCII, but for the backslash
-abbrev pub is_plain : ℕ → Bool
-is_plain c = nat_le 32 c && nat_le c 126 && not (c == 92)
+abbrev pub is_shown_as_is : ℕ → Bool
+is_shown_as_is c = nat_le 32 c && nat_le c 126 && not (c == 92)
 
 -- `0-9 a-f`
 abbrev pub hex_digit : ℕ → ℕ
@@ -14,7 +14,7 @@ hex_digit n = if nat_lt n 10 then 48 + n else 87 + n
 -- such a byte as it is, and any other one as `\x` and its two hexadecimal digits
 abbrev pub shown_byte : ℕ → List ℕ
 shown_byte c =
-    if is_plain c then c ∷ [] else 92 ∷ 120 ∷ hex_digit (c / 16) ∷ hex_digit (c % 16) ∷ []
+    if is_shown_as_is c then c ∷ [] else 92 ∷ 120 ∷ hex_digit (c / 16) ∷ hex_digit (c % 16) ∷ []
 
 -- the first 200 bytes of a text, shown so, and two points if there are more
 abbrev pub excerpt : List ℕ → List ℕ

@@ -7,29 +7,29 @@ use Rattle.inst_options.specs.declared.log_fault.LogFault.TheVariants.{BadBooks,
 use Rattle.inst_options.specs.declared.log_fault.LogFault.TheVariants.{DamagedLog, OtherDigest}
 use Rattle.inst_options.specs.declared.log_fault.LogFault.TheVariants.{ChangedLog}
 
-abbrev pub number_of : LogFault → ℕ
-number_of DiskFault = 19
-number_of OtherSettings = 20
-number_of NoLog = 21
-number_of ToldAhead = 22
-number_of LogInUse = 23
-number_of BadBooks = 24
-number_of LastOpening = 25
-number_of DamagedLog = 26
-number_of OtherDigest = 27
-number_of ChangedLog = 28
+abbrev pub log_fault_number : LogFault → ℕ
+log_fault_number DiskFault = 19
+log_fault_number OtherSettings = 20
+log_fault_number NoLog = 21
+log_fault_number ToldAhead = 22
+log_fault_number LogInUse = 23
+log_fault_number BadBooks = 24
+log_fault_number LastOpening = 25
+log_fault_number DamagedLog = 26
+log_fault_number OtherDigest = 27
+log_fault_number ChangedLog = 28
 
-abbrev pub name_of : LogFault → List ℕ
-name_of DiskFault = codes "DiskFault"
-name_of OtherSettings = codes "OtherSettings"
-name_of NoLog = codes "NoLog"
-name_of ToldAhead = codes "ToldAhead"
-name_of LogInUse = codes "LogInUse"
-name_of BadBooks = codes "BadBooks"
-name_of LastOpening = codes "LastOpening"
-name_of DamagedLog = codes "DamagedLog"
-name_of OtherDigest = codes "OtherDigest"
-name_of ChangedLog = codes "ChangedLog"
+abbrev pub log_fault_name : LogFault → List ℕ
+log_fault_name DiskFault = codes "DiskFault"
+log_fault_name OtherSettings = codes "OtherSettings"
+log_fault_name NoLog = codes "NoLog"
+log_fault_name ToldAhead = codes "ToldAhead"
+log_fault_name LogInUse = codes "LogInUse"
+log_fault_name BadBooks = codes "BadBooks"
+log_fault_name LastOpening = codes "LastOpening"
+log_fault_name DamagedLog = codes "DamagedLog"
+log_fault_name OtherDigest = codes "OtherDigest"
+log_fault_name ChangedLog = codes "ChangedLog"
 
 -- 3: the disk failed, or the log changed during the run; 2: the log was refused
 abbrev pub status_of_log : LogFault → ℕ

@@ -1,5 +1,5 @@
 ghost use Rattle.std.specs.Prelude.{◌≡◌, ◌↔◌, IfSome, None, true};
-ghost use Rattle.inst_options.specs.AnyFault.{number_of, name_of, IsNamed};
+ghost use Rattle.inst_options.specs.AnyFault.{any_fault_number, any_fault_name, IsNamed};
 ghost use Rattle.inst_options.specs.declared.any_fault.AnyFault.{AnyFault as SomeFault};
 
 use crate::log_fault::LogFault;
@@ -52,7 +52,7 @@ const ALL: &'static [AnyFault] = &[
 impl AnyFault {
     /// The number that the reply or the fault line shows.
     pub fn number(self) -> u8
-        ensures { result ≡ number_of self }
+        ensures { result ≡ any_fault_number self }
     {
         match self {
             AnyFault::Hub(fault) => fault.number(),
@@ -63,7 +63,7 @@ impl AnyFault {
 
     /// The name that the reply or the fault line shows.
     pub fn name(self) -> &'static str
-        ensures { result.now ≡ name_of self }
+        ensures { result.now ≡ any_fault_name self }
     {
         match self {
             AnyFault::Hub(fault) => fault.name(),

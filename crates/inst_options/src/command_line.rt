@@ -2,7 +2,7 @@ ghost use Rattle.std.specs.Prelude.{◌≡◌, IfOk, false};
 ghost use Rattle.clap.specs.Words.{app_of, rule_of};
 ghost use Rattle.inst_options.specs.CommandLine.{bare_command_line};
 ghost use Rattle.inst_options.specs.CommandLine.{command_line as the_command_line};
-ghost use Rattle.inst_options.specs.inner.CommandLine.{IsLocal};
+ghost use Rattle.inst_options.specs.inner.CommandLine.{HasOwnOptions};
 ghost use Rattle.inst_options.specs.inner.Table.{app_of_row, rule_of_choice};
 
 use crate::table::{Kind, OptionRow, Subcommand, subcommands};

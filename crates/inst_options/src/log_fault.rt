@@ -1,5 +1,5 @@
 ghost use Rattle.std.specs.Prelude.{◌≡◌};
-ghost use Rattle.inst_options.specs.LogFault.{number_of, name_of, status_of_log};
+ghost use Rattle.inst_options.specs.LogFault.{log_fault_number, log_fault_name, status_of_log};
 
 /// What is wrong with the log of a run. The numbers go on behind those of the faults of a hub.
 #[derive(Clone, Copy, Debug, PartialEq, Eq)]
@@ -30,14 +30,14 @@ pub enum LogFault {
 impl LogFault {
     /// The number that the program's fault line shows, from 19 to 28.
     pub fn number(self) -> u8
-        ensures { result ≡ number_of self }
+        ensures { result ≡ log_fault_number self }
     {
         self as u8 + 19
     }
 
     /// The name that the program's fault line shows.
     pub fn name(self) -> &'static str
-        ensures { result.now ≡ name_of self }
+        ensures { result.now ≡ log_fault_name self }
     {
         match self {
             LogFault::DiskFault => "DiskFault",

@@ -8,7 +8,7 @@ ghost use Rattle.inst_options.specs.Options.{IsFlag, Gives, GivesNoneBelow, Choo
 ghost use Rattle.inst_options.specs.Options.{DescribesALog, GivesDigest, IsGiven, must_resume};
 ghost use Rattle.inst_options.specs.inner.Options.{GivesLog, IsWish};
 ghost use Rattle.inst_options.specs.inner.Options.{ChooseNone, AskForNone};
-ghost use Rattle.inst_options.specs.Asking.{IsRefusal};
+ghost use Rattle.inst_options.specs.Asking.{IsBeginRefusal};
 ghost use Rattle.inst_settings.specs.Lawful.{IsSettings};
 
 use crate::digest::is_digest;
@@ -26,7 +26,7 @@ pub(crate) fn wish<'a>(
     options: &ArgMatches<'a>,
 ) -> Result<Invocation<'a>, Fault>
     ensures wish { IfOk result (IsWish name.now (rows_of (found_of options.now))) }
-    ensures fault { IfErr result (IsRefusal (AskForNone name.now (rows_of (found_of options.now))
+    ensures fault { IfErr result (IsBeginRefusal (AskForNone name.now (rows_of (found_of options.now))
         ⊎ AreOfNoLog (rows_of (found_of options.now)))) }
 {
     if name == "log" {
@@ -54,7 +54,7 @@ fn hub_wish<'a>(
 ) -> Result<Invocation<'a>, Fault>
     requires hub { HasAHub name.now }
     ensures wish { IfOk result (IsWish name.now (rows_of (found_of options.now))) }
-    ensures fault { IfErr result (IsRefusal (AskForNone name.now (rows_of (found_of options.now))
+    ensures fault { IfErr result (IsBeginRefusal (AskForNone name.now (rows_of (found_of options.now))
         ⊎ AreOfNoLog (rows_of (found_of options.now)))) }
 {
     if name == "drill" {
@@ -164,7 +164,7 @@ fn drill_options(options: &ArgMatches<'_>) -> Result<(u16, u8), Fault>
 /// outside its range. The codes come last, so that nothing fails that would let them go.
 fn settings(alloc: Global, options: &ArgMatches<'_>) -> Result<Settings, Fault>
     ensures lawful { IfOk result (λ settings. IsSettings settings) }
-    ensures fault { IfErr result (IsRefusal (ChooseNone (rows_of (found_of options.now)))) }
+    ensures fault { IfErr result (IsBeginRefusal (ChooseNone (rows_of (found_of options.now)))) }
     ensures chosen { IfOk result (λ settings. Chooses (rows_of (found_of options.now)) settings) }
 {
     let participants = text(options, "participants")?;

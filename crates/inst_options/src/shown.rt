@@ -1,6 +1,6 @@
 //! How lines on standard error show texts from outside.
 ghost use Rattle.std.specs.Prelude.{◌≡◌, ◌<◌, ◌++◌, IfOk, OnOk, string_bytes, take};
-ghost use Rattle.inst_options.specs.Excerpt.{excerpt, hex_digit, is_plain, shown_byte};
+ghost use Rattle.inst_options.specs.Excerpt.{excerpt, hex_digit, is_shown_as_is, shown_byte};
 
 use std::alloc::{AllocError, Global};
 
@@ -54,7 +54,7 @@ fn push_byte(text: &mut String, byte: u8) -> Result<(), AllocError>
 
 /// Returns `true` for printable ASCII other than the backslash.
 fn is_plain(byte: u8) -> bool
-    ensures { result ≡ is_plain byte }
+    ensures { result ≡ is_shown_as_is byte }
 {
     b' ' <= byte && byte <= b'~' && byte != b'\\'
 }

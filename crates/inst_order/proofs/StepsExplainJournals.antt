@@ -14,7 +14,7 @@ use Rattle.inst_world.specs.HasRun.{World, world_settings, journal_of}
 use Rattle.inst_world.specs.Headline.{run_of, KeepsTheHeadline}
 use Rattle.inst_world.specs.NextOpening.{kept_by, books_of, AreJournalsOf}
 use Rattle.inst_world.proofs.PromisesFollowFromLaws.{keeps_the_headline}
-use Rattle.inst_order.specs.Order.{Explains, ExplainsJournals}
+use Rattle.inst_order.specs.Order.{ExplainsBooks, ExplainsJournals}
 
 -- the book of a participant is the journal at its number
 pub book_at : (journals : List History) (p i : ℕ) (journal : History) → p < length journals → i ≡ p → journal ≡ get_or journals i journal → books_of journals p ≡ journal.events
@@ -28,7 +28,7 @@ if_given P false x holds = tt
 
 -- steps that explain some books explain other books that have the same for each participant and nothing for anybody else
 pub same_books : (s : HubSettings) (O : Opening) (steps : List Step) (J K : ℕ → List Event) (answers : List Answer) → KeepsTheHeadline s (run_of O steps J answers)
-    → ((p : ℕ) → is_participant s p ≡ true → K p ≡ J p) → ((p : ℕ) → is_participant s p ≡ false → K p ≡ []) → Explains s O steps K
+    → ((p : ℕ) → is_participant s p ≡ true → K p ≡ J p) → ((p : ℕ) → is_participant s p ≡ false → K p ≡ []) → ExplainsBooks s O steps K
 same_books s O steps J K answers kept same nobody = keeps_the_headline s (run_of O steps K (trace s O (reverse steps))) (record {
   opens = kept.is_run.opens;
   fits = kept.is_run.fits;

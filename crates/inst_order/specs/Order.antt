@@ -16,11 +16,11 @@ use Rattle.inst_world.specs.NextOpening.{books_of}
 
 -- the headline is kept by a run of these steps from this opening whose journals are the books; by
 -- `is_run` each step fits, and the books are the model's histories, event by event
-abbrev pub Explains : HubSettings → Opening → List Step → (ℕ → List Event) → Type 0
-Explains s O steps books = KeepsTheHeadline s (run_of O steps books (trace s O (reverse steps)))
+abbrev pub ExplainsBooks : HubSettings → Opening → List Step → (ℕ → List Event) → Type 0
+ExplainsBooks s O steps books = KeepsTheHeadline s (run_of O steps books (trace s O (reverse steps)))
 
 -- the same of journals, one for each participant by number
 pub record ExplainsJournals (s : HubSettings) (O : Opening) (steps : List Step)
     (journals : List History) : Type 0 where
   pub one_each : length journals ≡ participants s
-  pub headline : Explains s O steps (books_of journals)
+  pub headline : ExplainsBooks s O steps (books_of journals)

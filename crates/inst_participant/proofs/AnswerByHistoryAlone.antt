@@ -18,7 +18,7 @@ use Rattle.inst_board.specs.declared.wish.Wish.TheVariants.{Accept, Reject as Wi
 use Rattle.inst_board.specs.declared.about.About.TheVariants.{HasTerms, Due, Decided}
 use Rattle.inst_board.specs.declared.about.Fact.{Fact}
 use Rattle.inst_board.specs.Standing.{Standing, unused, pending, decided, Says, about}
-use Rattle.inst_board.specs.Learning.{IsAnswer, Answers}
+use Rattle.inst_board.specs.Learning.{IsAnswer, AnswersWish}
 use Rattle.inst_board.specs.Wish.{wanted}
 use Rattle.inst_journal.specs.declared.event.Event.{Event}
 use Rattle.inst_journal.specs.declared.event.Event.TheVariants.{Taken, Forwarded}
@@ -150,14 +150,14 @@ module _ {B : Type 0} (settings : B → HubSettings) (knows : B → Fact → Typ
   asked_until b book (Query query) k lawful sound e = let no : ⊥ = cc in absurd no
 
 -- where nothing is answered of a place, nothing is wanted of it by its deadline
-pub nothing_wanted : (margin : ℕ) (stood : Outcome → Type 0) (wish : Wish) (at : ℕ) (p : Standing) (found : Option Outcome) (deadline : ℕ) → Answers margin stood wish at p found → Says p (Due deadline) → found ≡ None
+pub nothing_wanted : (margin : ℕ) (stood : Outcome → Type 0) (wish : Wish) (at : ℕ) (p : Standing) (found : Option Outcome) (deadline : ℕ) → AnswersWish margin stood wish at p found → Says p (Due deadline) → found ≡ None
     → wanted margin wish deadline at ≡ None
 nothing_wanted margin stood wish at unused found deadline answers says none = absurd says
 nothing_wanted margin stood wish at (pending t d) found deadline answers says none = ap (λ (e : ℕ). wanted margin wish e at) says ∙ answers.1
 nothing_wanted margin stood wish at (decided t d o m) found deadline answers says none = let f = answers.0 in let no : ⊥ = cc in absurd no
 
 -- what is answered of a place stood there before, or is what was wanted of it by its deadline
-answered_so : (margin : ℕ) (Stood : Outcome → Type 0) (wish : Wish) (at : ℕ) (p : Standing) (found : Option Outcome) (deadline : ℕ) (o : Outcome) → Answers margin Stood wish at p found → Says p (Due deadline)
+answered_so : (margin : ℕ) (Stood : Outcome → Type 0) (wish : Wish) (at : ℕ) (p : Standing) (found : Option Outcome) (deadline : ℕ) (o : Outcome) → AnswersWish margin Stood wish at p found → Says p (Due deadline)
     → found ≡ Some o → Stood o ⊎ (wanted margin wish deadline at ≡ Some o)
 answered_so margin Stood wish at unused found deadline o answers says is = absurd says
 answered_so margin Stood wish at (pending t d) found deadline o answers says is = let f = answers.0 in let no : ⊥ = cc in absurd no

@@ -14,13 +14,13 @@ use Rattle.inst_cell.specs.declared.shared_board.SharedBoard.{SharedBoard}
 use Rattle.inst_cell.specs.declared.sight.Sight.{Sight}
 use Rattle.inst_cell.specs.Held.{settings_of, knows, has_role, Stays, AtOneTable, roles_same}
 use Rattle.inst_cell.specs.Meeting.{KnowsBoth, KnowsTruth, Vouches}
-use Rattle.inst_cell.specs.Seen.{board_of, sees}
+use Rattle.inst_cell.specs.Seen.{board_of_sight, sight_knows}
 use Rattle.inst_model.specs.Opening.{Opening, IsOpening}
 use Rattle.inst_slot.specs.Book.{Book, place_at, terms_to}
 use Rattle.inst_slot.specs.LawfulBoard.{KnowsEnd, IsLawfulBoard}
 use Rattle.inst_slot.proofs.LiveTransfersAfterEvent.{slice_get_at}
 use Rattle.inst_slot.proofs.BoardStaysLawful.{kept_opening}
-use Rattle.inst_participant.specs.Together.{IsMember, AreTogether}
+use Rattle.inst_participant.specs.Together.{IsMemberBook, AreTogether}
 use Rattle.inst_participant.specs.Parts.{AreParts}
 use Rattle.inst_participant.specs.Uniting.{IsSeparate, AreSeparate, AreAtOne, AreSights, OneKnows, OneSees}
 use Rattle.inst_participant.specs.inner.Uniting.{AreJoined, IsToldMore}
@@ -52,7 +52,7 @@ module _ (a other new : SharedBoard) (both : KnowsBoth a other new) (truth : Kno
         was.answered k t o mine answer got.0 got.1;
   }
 
-  pub member_joined : (O : Opening) (s : HubSettings) (p : ℕ) (x : Book) → ((q : ℕ) → has_role a q → has_role new q) → IsMember settings_of knows has_role a s O p x → IsMember settings_of knows has_role new s O p x
+  pub member_joined : (O : Opening) (s : HubSettings) (p : ℕ) (x : Book) → ((q : ℕ) → has_role a q → has_role new q) → IsMemberBook settings_of knows has_role a s O p x → IsMemberBook settings_of knows has_role new s O p x
   member_joined O s p x role m = record {
     settings_are = m.settings_are;
     who_is = m.who_is;
@@ -105,7 +105,7 @@ first_so_far s slots all rest b e = record {
         one = m.one;
         role = λ p below. let zero_is : p ≡ 0 = omega (arith, below) in subst (λ (q : ℕ). has_role b q) (m.member.who_is ∙ sym zero_is) m.member.lawful.role;
         member = λ p x below at. let zero_is : p ≡ 0 = omega (arith, below) in
-            subst (λ (q : ℕ). IsMember settings_of knows has_role b s O q x) (sym zero_is) (one_slot x (ap (slice_get slots) (sym zero_is) ∙ at)).member;
+            subst (λ (q : ℕ). IsMemberBook settings_of knows has_role b s O q x) (sym zero_is) (one_slot x (ap (slice_get slots) (sym zero_is) ∙ at)).member;
       };
   known = λ f. (
     λ kn. (0, b, refl, kn),
@@ -138,7 +138,7 @@ more_so_far s slots all done rest left a b new e so both truth vouches role one 
           | inl here ↦
               let x_there : slice_get slots (length done) ≡ Some x = ap (slice_get slots) (sym here) ∙ at in
               let m = sep.each (length done) x b x_there there in
-              subst (λ (q : ℕ). IsMember settings_of knows has_role new s O q x) (sym here)
+              subst (λ (q : ℕ). IsMemberBook settings_of knows has_role new s O q x) (sym here)
               (member_joined b a new (swapped a b new both) truth vouches.1 same_b O s (length done) x (λ q h. (role q).1 (inr h)) m.member)
           | inr other ↦
               member_joined a b new both truth vouches.0 one.1 O s p x (λ q h. (role q).1 (inl h)) (was.member p x (less p (length done) (omega (arith, below, long)) other) at)
@@ -185,13 +185,13 @@ pub record ToldSoFar (first : SharedBoard) (all done rest : List Sight) (whole :
   pub more : IsToldMore first whole
   pub known : (f : Fact) → knows whole f ↔ (knows first f ⊎ OneSees done f)
 
-pub more_told : (first : SharedBoard) (all done rest left : List Sight) (a new : SharedBoard) (t : Sight) → rest ≡ t ∷ left → ToldSoFar first all done rest a → KnowsBoth a (board_of t) new → KnowsTruth new → Vouches a (board_of t) → Stays a new → ToldSoFar first all (done ++ t ∷ []) left new
+pub more_told : (first : SharedBoard) (all done rest left : List Sight) (a new : SharedBoard) (t : Sight) → rest ≡ t ∷ left → ToldSoFar first all done rest a → KnowsBoth a (board_of_sight t) new → KnowsTruth new → Vouches a (board_of_sight t) → Stays a new → ToldSoFar first all (done ++ t ∷ []) left new
 more_told first all done rest left a new t e so both truth vouches stays = record {
   split = append_assoc done (t ∷ []) left ∙ (ap (λ (l : List Sight). done ++ l) (sym e) ∙ so.split);
   more = record {
     stays = record { settings = stays.settings ∙ so.more.stays.settings; table = stays.table ∙ so.more.stays.table; roles = stays.roles ∙ so.more.stays.roles };
     kept = λ f h. (both f).1 (inl (so.more.kept f h));
-    lawful = λ x was. lawful_joined a (board_of t) new both truth vouches stays.settings x (λ h. (roles_same a new x.who stays).0 h) (so.more.lawful x was);
+    lawful = λ x was. lawful_joined a (board_of_sight t) new both truth vouches stays.settings x (λ h. (roles_same a new x.who stays).0 h) (so.more.lawful x was);
   };
   known = λ f. (
     λ kn. ⊎_elim
@@ -205,13 +205,13 @@ more_told first all done rest left a new t e so both truth vouches stays = recor
         (λ was. (both f).1 (inl ((so.known f).1 (inl was))))
         (λ o. ⊎_elim
         (λ old. (both f).1 (inl ((so.known f).1 (inr (o.0, o.1, old, o.3)))))
-        (λ last. (both f).1 (inr (subst (λ (v : Sight). sees v f) (sym last.1) o.3)))
+        (λ last. (both f).1 (inr (subst (λ (v : Sight). sight_knows v f) (sym last.1) o.3)))
         (got_snoc done t o.1 o.0 o.2))
         one,
   );
 }
 
-pub teller_table : (first : SharedBoard) (all done rest left : List Sight) (a : SharedBoard) (t : Sight) → rest ≡ t ∷ left → AreSights first all → ToldSoFar first all done rest a → AtOneTable a (board_of t)
+pub teller_table : (first : SharedBoard) (all done rest left : List Sight) (a : SharedBoard) (t : Sight) → rest ≡ t ∷ left → AreSights first all → ToldSoFar first all done rest a → AtOneTable a (board_of_sight t)
 teller_table first all done rest left a t e sights so =
     let at = sights (length done) t (got_last done left t all (ap (λ (l : List Sight). done ++ l) (sym e) ∙ so.split)) in
     (at.0 ∙ sym so.more.stays.table, at.1 ∙ sym so.more.stays.settings)
@@ -226,7 +226,7 @@ pub parts_made : (words : SharedBoard) (O : Opening) (s : HubSettings) (slots : 
     → (settings_of b ≡ s) × AreParts settings_of knows has_role b O slots
 parts_made words O s slots all a b sep joined told =
     let s_is : settings_of b ≡ s = told.stays.settings ∙ (joined.one.1 ∙ sep.settings_are) in
-    let member : (p : ℕ) (x : Book) → slice_get slots p ≡ Some x → IsMember settings_of knows has_role b s O p x = λ p x at.
+    let member : (p : ℕ) (x : Book) → slice_get slots p ≡ Some x → IsMemberBook settings_of knows has_role b s O p x = λ p x at.
     let m = joined.member p x (omega (arith, slice_get_within slots p x at, sep.one_each, sep.enough)) at in
     record { settings_are = m.settings_are; who_is = m.who_is; sound = m.sound; since = m.since; lawful = told.lawful x m.lawful; adopted = m.adopted } in (
       s_is,

@@ -42,7 +42,7 @@ use Rattle.inst_slot.proofs.LiveTransfersAfterEvent.{slice_get_at, filtered}
 use Rattle.inst_slot.proofs.BoardStaysLawful.{lying}
 use Rattle.inst_slot.proofs.ResolutionFitsBooks.{taken_below}
 use Rattle.inst_ledger.proofs.HistoryEventByEvent.{fits_at_place}
-use Rattle.inst_participant.specs.Together.{histories, IsMember, AreTogether, IsSettled, AllAreSettled}
+use Rattle.inst_participant.specs.Together.{histories, IsMemberBook, AreTogether, HasSettledAll, AllAreSettled}
 use Rattle.inst_command.specs.declared.outcome.State.TheVariants.{Unused as StateUnused}
 use Rattle.inst_slot.specs.OwnState.{booked_state, state_of_taken}
 use Rattle.inst_participant.specs.InTheBooks.{IsInTheBooks}
@@ -75,7 +75,7 @@ module _ {B : Type 0} (settings : B → HubSettings) (knows : B → Fact → Typ
   record Here (p : ℕ) : Type 0 where
     pub arrivals : List Arrival
     pub there : slice_get books p ≡ Some (at p arrivals)
-    pub is : IsMember settings knows has_role b s O p (at p arrivals)
+    pub is : IsMemberBook settings knows has_role b s O p (at p arrivals)
 
   normal : (p : ℕ) (book : Book) → slice_get books p ≡ Some book → book ≡ at p book.arrivals
   normal p book there =
@@ -87,7 +87,7 @@ module _ {B : Type 0} (settings : B → HubSettings) (knows : B → Fact → Typ
 
   here_at : (p : ℕ) (book : Book) → slice_get books p ≡ Some book → Here p
   here_at p book there =
-      let both = subst (λ (x : Book). (slice_get books p ≡ Some x) × IsMember settings knows has_role b s O p x) (normal p book there) (there, t.member p book there) in
+      let both = subst (λ (x : Book). (slice_get books p ≡ Some x) × IsMemberBook settings knows has_role b s O p x) (normal p book there) (there, t.member p book there) in
       record { arrivals = book.arrivals; there = both.0; is = both.1 }
 
   here : (p : ℕ) → p < participants s → Here p
@@ -333,7 +333,7 @@ module _ {B : Type 0} (settings : B → HubSettings) (knows : B → Fact → Typ
   }
 
   module _ (settled : AllAreSettled knows b books) where
-    settled_at : (p : ℕ) → (h : Here p) → IsSettled knows b (at p h.arrivals)
+    settled_at : (p : ℕ) → (h : Here p) → HasSettledAll knows b (at p h.arrivals)
     settled_at p h = settled p (at p h.arrivals) h.there
 
     -- what is booked at all is booked with the transfer's outcome

@@ -13,11 +13,11 @@ use Rattle.inst_board.specs.declared.wish.Wish.{Wish}
 use Rattle.inst_board.specs.declared.about.Fact.{Fact}
 use Rattle.inst_journal.specs.declared.event.Event.{Event}
 use Rattle.inst_journal.specs.Sound.{IsSound}
-use Rattle.inst_journal.specs.Reply.{handle, told as told_of, kept_events}
+use Rattle.inst_journal.specs.Reply.{handle, reply_result as told_of, kept_events}
 use Rattle.inst_model.specs.Trace.{as_reply}
 use Rattle.inst_cell.specs.declared.sight.Sight.{Sight}
 use Rattle.inst_cell.specs.Held.{settings_of, knows, has_role}
-use Rattle.inst_cell.specs.Seen.{sees}
+use Rattle.inst_cell.specs.Seen.{sight_knows}
 use Rattle.inst_slot.specs.Book.{Book, place_of}
 use Rattle.inst_slot.specs.Asking.{request, handle_ask, Applies, AppliesTo}
 use Rattle.inst_participant.specs.declared.participant.Participant.{Participant}
@@ -51,7 +51,7 @@ grows {B} margin known role stood stays b c book ask result new applies = go (re
 pub its_ticket : (x y : Participant) (u : Sight) (ask : Ask) (reply : Reply) (ticket : Option Place)
     → IsReady y → y.slot.who ≡ x.slot.who → y.slot.settings ≡ x.slot.settings → ask.who ≡ x.slot.who → IsSound y.slot.settings y.slot.who y.slot.events
     → Answered x.slot.settings x.slot.who x.slot.events ask reply y.slot.events
-    → IsToldBy y ask.who reply u ticket → IsTicket (sees u) x.slot.settings x.slot.who ask.command y.slot.events reply ticket
+    → IsToldBy y ask.who reply u ticket → IsTicket (sight_knows u) x.slot.settings x.slot.who ask.command y.slot.events reply ticket
 its_ticket x y u ask reply ticket ready same_who same_settings own sound answered told = go reply told replied
   where
     replied : IsReplied x.slot.settings x.slot.events ask.command ask.at answered.found reply y.slot
@@ -65,12 +65,12 @@ its_ticket x y u ask reply ticket ready same_who same_settings own sound answere
     mine : ask.who ≡ y.slot.who
     mine = own ∙ sym same_who
 
-    go : (r : Reply) → IsToldBy y ask.who r u ticket → IsReplied x.slot.settings x.slot.events ask.command ask.at answered.found r y.slot → IsTicket (sees u) x.slot.settings x.slot.who ask.command y.slot.events r ticket
-    go (Taken id deadline) t rep = subst (λ (n : ℕ). IsTicket (sees u) x.slot.settings n ask.command y.slot.events (Taken id deadline) ticket) same_who
-        (ticket_taken settings_of knows has_role y.board y.slot x.slot.settings x.slot.events ask.command ask.at answered.found id deadline ticket (sees u) ready.lawful ready.adopted rep
+    go : (r : Reply) → IsToldBy y ask.who r u ticket → IsReplied x.slot.settings x.slot.events ask.command ask.at answered.found r y.slot → IsTicket (sight_knows u) x.slot.settings x.slot.who ask.command y.slot.events r ticket
+    go (Taken id deadline) t rep = subst (λ (n : ℕ). IsTicket (sight_knows u) x.slot.settings n ask.command y.slot.events (Taken id deadline) ticket) same_who
+        (ticket_taken settings_of knows has_role y.board y.slot x.slot.settings x.slot.events ask.command ask.at answered.found id deadline ticket (sight_knows u) ready.lawful ready.adopted rep
         (t.0 ∙ ap (λ (n : ℕ). place_of y.slot n id) mine) t.1)
-    go (State from id state) t rep = subst (λ (n : ℕ). IsTicket (sees u) x.slot.settings n ask.command y.slot.events (State from id state) ticket) same_who
-        (ticket_state settings_of knows has_role y.board y.slot x.slot.settings x.slot.events ask.command ask.at answered.found from id state ticket (sees u) ready.lawful ready.adopted rep t.0 t.1)
+    go (State from id state) t rep = subst (λ (n : ℕ). IsTicket (sight_knows u) x.slot.settings n ask.command y.slot.events (State from id state) ticket) same_who
+        (ticket_state settings_of knows has_role y.board y.slot x.slot.settings x.slot.events ask.command ask.at answered.found from id state ticket (sight_knows u) ready.lawful ready.adopted rep t.0 t.1)
     go (Done reference) t rep = t
     go (Inbox entries) t rep = t
     go (Position p r a) t rep = t

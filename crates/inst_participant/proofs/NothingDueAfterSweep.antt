@@ -29,7 +29,7 @@ use Rattle.inst_slot.proofs.LiveTransfersAfterEvent.{live_taken_still}
 use Rattle.inst_cell.specs.Held.{settings_of, knows, has_role, stood, Stays}
 use Rattle.inst_participant.specs.declared.participant.Participant.{Participant}
 use Rattle.inst_participant.specs.LockLaw.{IsReady, IsLater}
-use Rattle.inst_participant.specs.Told.{IsTold}
+use Rattle.inst_participant.specs.Told.{TellsOfTransfer}
 use Rattle.inst_participant.specs.Told.{IsToldAll}
 use Rattle.inst_participant.specs.Sweeping.{LetsExpire, NothingDue}
 use Rattle.inst_participant.specs.Sweeping.LetsExpire.{none_left, then_next}
@@ -46,7 +46,7 @@ waited s who J e d k other still waits_now =
     let parts = and_parts (takes_waiting s who J d o) (not (books_own who e (taken_by o))) (sym (waiting_after s who J e d o) ∙ there) in
     (parts.0, not_true (books_own who e (taken_by o)) parts.1)
 
-told_one : (s : HubSettings) (who : ℕ) (J : List Event) (e : Event) (d k : ℕ) → IsTold e → waits s who (J ++ e ∷ []) d k ≡ true → waits s who J d k ≡ true
+told_one : (s : HubSettings) (who : ℕ) (J : List Event) (e : Event) (d k : ℕ) → TellsOfTransfer e → waits s who (J ++ e ∷ []) d k ≡ true → waits s who J d k ≡ true
 told_one s who J (Forwarded from id cents x) d k told waits_now = (waited s who J (Forwarded from id cents x) d k refl refl waits_now).0
 told_one s who J (Booked from id outcome) d k told waits_now = (waited s who J (Booked from id outcome) d k refl refl waits_now).0
 told_one s who J (Funded funding) d k told waits_now = absurd told
@@ -56,7 +56,7 @@ told_one s who J (Fetched n) d k told waits_now = absurd told
 told_one s who J Opened d k told waits_now = absurd told
 
 -- what comes or is learnt adds nothing to what waits
-told_all : (s : HubSettings) (who : ℕ) (J more : List Event) (d k : ℕ) → ((e : Event) → Contains more e → IsTold e) → waits s who (J ++ more) d k ≡ true → waits s who J d k ≡ true
+told_all : (s : HubSettings) (who : ℕ) (J more : List Event) (d k : ℕ) → ((e : Event) → Contains more e → TellsOfTransfer e) → waits s who (J ++ more) d k ≡ true → waits s who J d k ≡ true
 told_all s who J [] d k told waits_now = subst (λ (L : List Event). waits s who L d k ≡ true) (append-nil J) waits_now
 told_all s who J (e ∷ more) d k told waits_now =
     told_one s who J e d k (told e (0, omega arith, refl))

@@ -15,7 +15,7 @@ use Rattle.inst_journal.specs.Sound.{IsSound}
 use Rattle.inst_model.specs.Closing.{AreClosed, OnlyTold}
 use Rattle.inst_model.specs.Opening.{Opening, IsOpening}
 use Rattle.inst_slot.specs.Book.{events_of, Book, place_at}
-use Rattle.inst_participant.specs.Together.{histories, IsMember, IsSettled}
+use Rattle.inst_participant.specs.Together.{histories, IsMemberBook, HasSettledAll}
 use Rattle.inst_participant.specs.InTheBooks.{IsInTheBooks}
 use Rattle.inst_participant.proofs.BooksOverOneBoardFit.{addressed, are_closed, in_the_books}
 use Rattle.inst_participant.specs.Settling.{IsReadyToSettle, IsLater}
@@ -35,7 +35,7 @@ module _ {B : Type 0} (settings : B → HubSettings) (knows : B → Fact → Typ
     pub below : i < length books
     pub same : i ≡ p
     pub there : slice_get books i ≡ Some x
-    pub member : IsMember settings knows has_role b (settings b) O i x
+    pub member : IsMemberBook settings knows has_role b (settings b) O i x
     pub ready : IsReadyToSettle settings knows has_role b x
 
   pub at : (b : B) (O : Opening) (books : List Book) (p i : ℕ) (x : Book) → AreParts settings knows has_role b O books → p < participants (settings b) → i ≡ p → x ≡ get_or books i x → At b O books p i x
@@ -66,7 +66,7 @@ module _ {B : Type 0} (settings : B → HubSettings) (knows : B → Fact → Typ
     same_settings : settings c ≡ settings b
     same_settings = stays_settings b c l.stays_on
 
-    its : IsMember settings knows has_role c (settings c) O i y
+    its : IsMemberBook settings knows has_role c (settings c) O i y
     its =
         let s_is : y.settings ≡ settings c = l.settings_are ∙ (a.member.settings_are ∙ sym same_settings) in
         let w_is : y.who ≡ i = l.who_is ∙ a.member.who_is in
@@ -87,8 +87,8 @@ module _ {B : Type 0} (settings : B → HubSettings) (knows : B → Fact → Typ
         member = λ q book there. elim (set_cases books i q y book a.below there) [
           | inl own ↦
               let z = was.together.member i x a.there in
-              let mine : IsMember settings knows has_role c (settings c) Q i y = record { settings_are = its.settings_are; who_is = its.who_is; sound = its.sound; since = l.since ∙ z.since; lawful = its.lawful; adopted = its.adopted } in
-              subst (λ (w : Book). IsMember settings knows has_role c (settings c) Q q w) (sym own.1) (subst (λ (n : ℕ). IsMember settings knows has_role c (settings c) Q n y) (sym own.0) mine)
+              let mine : IsMemberBook settings knows has_role c (settings c) Q i y = record { settings_are = its.settings_are; who_is = its.who_is; sound = its.sound; since = l.since ∙ z.since; lawful = its.lawful; adopted = its.adopted } in
+              subst (λ (w : Book). IsMemberBook settings knows has_role c (settings c) Q q w) (sym own.1) (subst (λ (n : ℕ). IsMemberBook settings knows has_role c (settings c) Q n y) (sym own.0) mine)
           | inr other ↦
               let m = was.together.member q book other.1 in
               record {
@@ -116,13 +116,13 @@ module _ {B : Type 0} (settings : B → HubSettings) (knows : B → Fact → Typ
     pub one_later : AreLaterParts settings knows has_role stays b books c (set books i y)
     one_later = record { parts = parts_after; told = told_at; known = l.known; stays_on = l.stays_on }
 
-    pub one_settled : IsSettled knows c y → IsSettledAt knows c p (set books i y)
+    pub one_settled : HasSettledAll knows c y → IsSettledAt knows c p (set books i y)
     one_settled done book there = ⊎_elim
-        (λ own. subst (λ (w : Book). IsSettled knows c w) (sym own.1) done)
+        (λ own. subst (λ (w : Book). HasSettledAll knows c w) (sym own.1) done)
         (λ other. absurd (other.0 (sym a.same)))
         (set_cases books i p y book a.below there)
 
-    moved : (book : Book) → IsSettled knows b book → IsSettled knows c book
+    moved : (book : Book) → HasSettledAll knows b book → HasSettledAll knows c book
     moved book done = record {
       own = λ index id to cents stamp o there kn. done.own index id to cents stamp o there ((l.known (about (place_at book.who index) (Decided o))).0 kn);
       arrived = λ z index o there is kn. done.arrived z index o there is ((l.known (about (place_at z.entry.from index) (Decided o))).0 kn);

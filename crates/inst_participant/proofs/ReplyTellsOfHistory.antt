@@ -27,7 +27,7 @@ use Rattle.inst_journal.specs.Keys.{is_fund_repeat, is_defund_repeat, is_submiss
 use Rattle.inst_journal.specs.Money.{available}
 use Rattle.inst_journal.specs.Opened.{live_submissions}
 use Rattle.inst_journal.specs.Repeats.{taken_of}
-use Rattle.inst_journal.specs.Reply.{keeping, funding, is_new_funding, submit, standing, still_pending, unread, hand_out, handle, told, kept_events}
+use Rattle.inst_journal.specs.Reply.{reply_with_event, funding, is_new_funding, submit, state_reply, still_pending, unread, hand_out, handle, reply_result, kept_events}
 use Rattle.inst_journal.proofs.RepeatIsAnsweredAgain.{the_very_same}
 use Rattle.inst_model.specs.Trace.{as_reply}
 use Rattle.inst_slot.proofs.LiveTransfersAfterEvent.{newly_booked}
@@ -43,7 +43,7 @@ names_one (State from id state) = true
 names_one _ = false
 
 abbrev NamesNone : Result Handled Fault → Type 0
-NamesNone r = names_one (as_reply (told r)) ≡ false
+NamesNone r = names_one (as_reply (reply_result r)) ≡ false
 
 funding_none : (reference : List ℕ) (new : Result Handled Fault) (r : Result Bool Fault) → NamesNone new → NamesNone (funding reference new r)
 funding_none reference new (Err fault) none = refl
@@ -55,22 +55,22 @@ handed_none [] = refl
 handed_none (entry ∷ entries) = refl
 
 fund_none : (s : HubSettings) (who : ℕ) (J : List Event) (funding : Funding) (at : ℕ) (found : Option Outcome) → NamesNone (handle s who J (Fund funding) at found)
-fund_none s who J funding at found = funding_none funding.reference (keeping (Funded funding) (Done funding.reference)) (is_new_funding s J funding.reference (is_fund_repeat funding J)) refl
+fund_none s who J funding at found = funding_none funding.reference (reply_with_event (Funded funding) (Done funding.reference)) (is_new_funding s J funding.reference (is_fund_repeat funding J)) refl
 
 defund_none : (s : HubSettings) (who : ℕ) (J : List Event) (funding : Funding) (at : ℕ) (found : Option Outcome) → NamesNone (handle s who J (Defund funding) at found)
 defund_none s who J funding at found =
     funding_none funding.reference _ (is_new_funding s J funding.reference (is_defund_repeat funding J)) (either NamesNone (nat_lt (available J) funding.cents) _ _ (λ short. refl) refl)
 
-not_taken : (r : Result Handled Fault) (id : List ℕ) (deadline : ℕ) → NamesNone r → TakenReply id deadline ≡ as_reply (told r) → ⊥
+not_taken : (r : Result Handled Fault) (id : List ℕ) (deadline : ℕ) → NamesNone r → TakenReply id deadline ≡ as_reply (reply_result r) → ⊥
 not_taken r id deadline none e = false≢true (sym none ∙ sym (ap names_one e))
 
-not_state : (r : Result Handled Fault) (from : ℕ) (id : List ℕ) (state : StateValue) → NamesNone r → State from id state ≡ as_reply (told r) → ⊥
+not_state : (r : Result Handled Fault) (from : ℕ) (id : List ℕ) (state : StateValue) → NamesNone r → State from id state ≡ as_reply (reply_result r) → ⊥
 not_state r from id state none e = false≢true (sym none ∙ sym (ap names_one e))
 
 -- a submission is told taken where it is kept, and no state is told of it
 record IsOfSubmission (J : List Event) (x : Submission) (r : Result Handled Fault) : Type 0 where
-  pub taken : (id : List ℕ) (deadline : ℕ) → TakenReply id deadline ≡ as_reply (told r) → (x.id ≡ id) × Contains (J ++ kept_events r) (taken_of x)
-  pub no_state : (from : ℕ) (id : List ℕ) (state : StateValue) → State from id state ≡ as_reply (told r) → ⊥
+  pub taken : (id : List ℕ) (deadline : ℕ) → TakenReply id deadline ≡ as_reply (reply_result r) → (x.id ≡ id) × Contains (J ++ kept_events r) (taken_of x)
+  pub no_state : (from : ℕ) (id : List ℕ) (state : StateValue) → State from id state ≡ as_reply (reply_result r) → ⊥
 
 refused_submission : (J : List Event) (x : Submission) (fault : Fault) → IsOfSubmission J x (Err fault)
 refused_submission J x fault = record {
@@ -105,8 +105,8 @@ record StandsSo (J : List Event) (other : ℕ) (name : List ℕ) (r : Result Han
 
 -- the state of this transfer is told, and nothing taken
 record IsOfState (J : List Event) (other : ℕ) (name : List ℕ) (r : Result Handled Fault) : Type 0 where
-  pub state : (from : ℕ) (id : List ℕ) (state : StateValue) → State from id state ≡ as_reply (told r) → StandsSo J other name r from id state
-  pub not_taken : (id : List ℕ) (deadline : ℕ) → TakenReply id deadline ≡ as_reply (told r) → ⊥
+  pub state : (from : ℕ) (id : List ℕ) (state : StateValue) → State from id state ≡ as_reply (reply_result r) → StandsSo J other name r from id state
+  pub not_taken : (id : List ℕ) (deadline : ℕ) → TakenReply id deadline ≡ as_reply (reply_result r) → ⊥
 
 refused_state : (J : List Event) (other : ℕ) (name : List ℕ) (fault : Fault) → IsOfState J other name (Err fault)
 refused_state J other name fault = record {
@@ -127,7 +127,7 @@ same_booked : (K : List Event) (other from : ℕ) (name id : List ℕ) → other
 same_booked K other from name id from_is id_is = ap (λ (f : ℕ). booked f id K) (sym from_is) ∙ ap (λ (i : List ℕ). booked other i K) (sym id_is)
 
 standing_state : (J : List Event) (other : ℕ) (name : List ℕ) (waiting : Result Handled Fault) (known found : Option Outcome) → booked other name J ≡ known → IsOfState J other name waiting
-    → IsOfState J other name (standing other name waiting known found)
+    → IsOfState J other name (state_reply other name waiting known found)
 standing_state J other name waiting (Some z) found is so = record {
   state = λ from id state e.
       let from_is : other ≡ from = cc in
@@ -150,19 +150,19 @@ standing_state J other name waiting None (Some z) is so = record {
         id_is = id_is;
         outcome = λ o decided.
             let same : z ≡ o = cc in
-            same_booked (J ++ kept_events (standing other name waiting None (Some z))) other from name id from_is id_is ∙ newly_booked other name J z is ∙ ap (λ (y : Outcome). Some y) same;
+            same_booked (J ++ kept_events (state_reply other name waiting None (Some z))) other from name id from_is id_is ∙ newly_booked other name J z is ∙ ap (λ (y : Outcome). Some y) same;
       };
   not_taken = λ id deadline e. cc;
 }
 standing_state J other name waiting None None is so = so
 
 -- a state is told only where the transfer is known
-guarded : (J : List Event) (other : ℕ) (name : List ℕ) (b : Bool) (r : Result Handled Fault) (from : ℕ) (id : List ℕ) (state : StateValue) → IsOfState J other name r → State from id state ≡ as_reply (told (cond b r (Err UnknownTransfer)))
+guarded : (J : List Event) (other : ℕ) (name : List ℕ) (b : Bool) (r : Result Handled Fault) (from : ℕ) (id : List ℕ) (state : StateValue) → IsOfState J other name r → State from id state ≡ as_reply (reply_result (cond b r (Err UnknownTransfer)))
     → (b ≡ true) × StandsSo J other name (cond b r (Err UnknownTransfer)) from id state
 guarded J other name true r from id state so e = (refl, so.state from id state e)
 guarded J other name false r from id state so e = let never : ⊥ = cc in absurd never
 
-guarded_not_taken : (J : List Event) (other : ℕ) (name : List ℕ) (b : Bool) (r : Result Handled Fault) (id : List ℕ) (deadline : ℕ) → IsOfState J other name r → TakenReply id deadline ≡ as_reply (told (cond b r (Err UnknownTransfer))) → ⊥
+guarded_not_taken : (J : List Event) (other : ℕ) (name : List ℕ) (b : Bool) (r : Result Handled Fault) (id : List ℕ) (deadline : ℕ) → IsOfState J other name r → TakenReply id deadline ≡ as_reply (reply_result (cond b r (Err UnknownTransfer))) → ⊥
 guarded_not_taken J other name true r id deadline so e = so.not_taken id deadline e
 guarded_not_taken J other name false r id deadline so e = cc
 
@@ -178,10 +178,10 @@ pub record TellsState (who : ℕ) (J : List Event) (r : Result Handled Fault) (f
   pub party : ((from ≡ who) × (is_taken id J ≡ true)) ⊎ (is_forwarded from id J ≡ true)
   pub outcome : (o : Outcome) → state ≡ Decided o → booked from id (J ++ kept_events r) ≡ Some o
 
-confirmed_state : (J : List Event) (other : ℕ) (name : List ℕ) (found : Option Outcome) → IsOfState J other name (standing other name (Err Expired) (booked other name J) found)
+confirmed_state : (J : List Event) (other : ℕ) (name : List ℕ) (found : Option Outcome) → IsOfState J other name (state_reply other name (Err Expired) (booked other name J) found)
 confirmed_state J other name found = standing_state J other name (Err Expired) (booked other name J) found refl (refused_state J other name Expired)
 
-other_state : (J : List Event) (other : ℕ) (name : List ℕ) (found : Option Outcome) → IsOfState J other name (standing other name (still_pending other name) (booked other name J) found)
+other_state : (J : List Event) (other : ℕ) (name : List ℕ) (found : Option Outcome) → IsOfState J other name (state_reply other name (still_pending other name) (booked other name J) found)
 other_state J other name found = standing_state J other name (still_pending other name) (booked other name J) found refl (pending_state J other name)
 
 forwarded_state : (who : ℕ) (J : List Event) (other : ℕ) (name : List ℕ) (r : Result Handled Fault) (from : ℕ) (id : List ℕ) (state : StateValue) → is_forwarded other name J ≡ true → StandsSo J other name r from id state → TellsState who J r from id state
@@ -191,7 +191,7 @@ forwarded_state who J other name r from id state there so = record {
 }
 
 module _ (s : HubSettings) (who : ℕ) (J : List Event) where
-  pub taken_told : (command : Command) (at : ℕ) (found : Option Outcome) (id : List ℕ) (deadline : ℕ) → TakenReply id deadline ≡ as_reply (told (handle s who J command at found)) → TellsTaken J command (handle s who J command at found) id
+  pub taken_told : (command : Command) (at : ℕ) (found : Option Outcome) (id : List ℕ) (deadline : ℕ) → TakenReply id deadline ≡ as_reply (reply_result (handle s who J command at found)) → TellsTaken J command (handle s who J command at found) id
   taken_told (Submit x) at found id deadline e =
       let t = (of_submission s who J at x).taken id deadline e in
       record { x = x; command_is = refl; id_is = t.0; kept = t.1 }
@@ -204,7 +204,7 @@ module _ (s : HubSettings) (who : ℕ) (J : List Event) where
   taken_told (Query AskPosition) at found id deadline e = let never : ⊥ = cc in absurd never
   taken_told (Query (AskStatement skip count)) at found id deadline e = let never : ⊥ = cc in absurd never
 
-  pub state_told : (command : Command) (at : ℕ) (found : Option Outcome) (from : ℕ) (id : List ℕ) (state : StateValue) → State from id state ≡ as_reply (told (handle s who J command at found))
+  pub state_told : (command : Command) (at : ℕ) (found : Option Outcome) (from : ℕ) (id : List ℕ) (state : StateValue) → State from id state ≡ as_reply (reply_result (handle s who J command at found))
       → TellsState who J (handle s who J command at found) from id state
   state_told (Confirm other name) at found from id state e =
       let g = guarded J other name (is_forwarded other name J) _ from id state (confirmed_state J other name found) e in

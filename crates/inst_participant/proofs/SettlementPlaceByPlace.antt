@@ -26,7 +26,7 @@ use Rattle.inst_journal.proofs.FirstSome.{first_some-append}
 use Rattle.inst_model.specs.Closing.{is_told, OnlyTold}
 use Rattle.inst_slot.specs.declared.arrival.Arrival.{Arrival}
 use Rattle.inst_slot.specs.Arrived.{unbooked_place, IsNextUnbooked, GivesUnbooked}
-use Rattle.inst_slot.specs.Book.{Book, place_at, place_with_index, index_of, arrived_at}
+use Rattle.inst_slot.specs.Book.{Book, place_at, place_with_index, arrival_index, arrived_at}
 use Rattle.inst_slot.specs.LawfulBoard.{LiesAt, IsLawfulBoard, KeepsOthers, AllAreAdopted}
 use Rattle.inst_slot.specs.Telling.{delivery, with_delivery, is_party, resolution, with_event, Keeps}
 use Rattle.inst_slot.proofs.LiveTransfersAfterEvent.{live_taken_still, newly_booked}
@@ -34,16 +34,16 @@ use Rattle.inst_slot.proofs.BoardStaysLawful.{lying}
 use Rattle.inst_slot.proofs.ResolutionFitsBooks.{itself_forwards, teaches}
 use Rattle.inst_slot.proofs.DeliveryFitsBooks.{delivers}
 use Rattle.inst_model.proofs.TextsTestsAndFirstThings.{same_transfer_refl}
-use Rattle.inst_slot.specs.Opening.{is_of}
+use Rattle.inst_slot.specs.Opening.{is_arrival_of}
 use Rattle.inst_slot.proofs.ArrivalGetsItsPlace.{arrives_once}
 use Rattle.inst_journal.specs.Sound.{IsSound}
 use Rattle.std.proofs.lemmas.Bool.Decides.{nat_tests}
 use Rattle.std.proofs.lemmas.List.Sums.{sum_by-cons}
 use Rattle.std.specs.declared.alloc.AllocError.{AllocError}
-use Rattle.inst_participant.specs.Together.{IsSettled}
+use Rattle.inst_participant.specs.Together.{HasSettledAll}
 use Rattle.inst_participant.proofs.PlacesInLists.{got, kept, counted_at, some_same}
 use Rattle.inst_participant.specs.Settling.{HasAll, IsReadyToSettle, IsLater}
-use Rattle.inst_participant.specs.inner.Settling.{IsBookedAt, HasCome, OwnAreBooked, ArrivedAreBooked, HaveCome}
+use Rattle.inst_participant.specs.inner.Settling.{IsBookedAt, HasArrived, OwnAreBooked, ArrivedAreBooked, HaveCome}
 
 -- what is booked, and what has come, stays so as the history grows
 still_some : {A : Type 0} (o p : Option A) → is_some o ≡ true → is_some (or_else o p) ≡ true
@@ -93,23 +93,23 @@ ArrivedBelow knows b n y = (i : ℕ) (x : Arrival) (index : ℕ) (o : Outcome) �
 
 -- what this originator has for the participant below this index has come
 abbrev pub ComeBelow : {B : Type 0} → (B → Fact → Type 0) → B → ℕ → ℕ → Book → Type 0
-ComeBelow knows b owner n y = (index : ℕ) → index < n → HasCome knows b (place_at owner index) y
+ComeBelow knows b owner n y = (index : ℕ) → index < n → HasArrived knows b (place_at owner index) y
 
 -- and what all originators below this number have
 abbrev pub AllComeBelow : {B : Type 0} → (B → Fact → Type 0) → B → ℕ → Book → Type 0
 AllComeBelow knows b n y = (owner : ℕ) → owner < n → owner ≢ y.who → HaveCome knows b owner y
 
 -- an arrival that is the only one of its transfer is found by it
-arrived_found : (A : List Arrival) (i : ℕ) (a : Arrival) (index : ℕ) → count_by (is_of a.entry.from a.entry.id) A ≤ 1 → slice_get A i ≡ Some a → a.index ≡ Some index → arrived_at a.entry.from a.entry.id A ≡ Some index
+arrived_found : (A : List Arrival) (i : ℕ) (a : Arrival) (index : ℕ) → count_by (is_arrival_of a.entry.from a.entry.id) A ≤ 1 → slice_get A i ≡ Some a → a.index ≡ Some index → arrived_at a.entry.from a.entry.id A ≡ Some index
 arrived_found [] i a index once there is = let no : ⊥ = cc in absurd no
 arrived_found (y ∷ A) zero a index once there is =
     let same : y ≡ a = cc in
-    ap (λ (z : Arrival). or_else (index_of a.entry.from a.entry.id z) (arrived_at a.entry.from a.entry.id A)) same ∙ ap (λ (o : Option ℕ). or_else o (arrived_at a.entry.from a.entry.id A)) (ap (λ (b : Bool). cond b a.index None) (same_transfer_refl a.entry.from a.entry.id) ∙ is)
+    ap (λ (z : Arrival). or_else (arrival_index a.entry.from a.entry.id z) (arrived_at a.entry.from a.entry.id A)) same ∙ ap (λ (o : Option ℕ). or_else o (arrived_at a.entry.from a.entry.id A)) (ap (λ (b : Bool). cond b a.index None) (same_transfer_refl a.entry.from a.entry.id) ∙ is)
 arrived_found (y ∷ A) (suc i) a index once there is =
-    let rest : count_by (is_of a.entry.from a.entry.id) A ≤ 1 = omega (arith, sum_by-cons (λ (z : Arrival). cond (is_of a.entry.from a.entry.id z) 1 0) y A, once) in
-    let one : 1 ≤ count_by (is_of a.entry.from a.entry.id) A = counted_at (is_of a.entry.from a.entry.id) A i a there (same_transfer_refl a.entry.from a.entry.id) in
-    elim (cases_Bool (is_of a.entry.from a.entry.id y)) [
-      | inl e ↦ let here : cond (is_of a.entry.from a.entry.id y) 1 0 ≡ 1 = ap {B = ℕ} (λ b. cond b 1 0) e in absurd (omega (arith, sum_by-cons (λ (z : Arrival). cond (is_of a.entry.from a.entry.id z) 1 0) y A, once, one, here))
+    let rest : count_by (is_arrival_of a.entry.from a.entry.id) A ≤ 1 = omega (arith, sum_by-cons (λ (z : Arrival). cond (is_arrival_of a.entry.from a.entry.id z) 1 0) y A, once) in
+    let one : 1 ≤ count_by (is_arrival_of a.entry.from a.entry.id) A = counted_at (is_arrival_of a.entry.from a.entry.id) A i a there (same_transfer_refl a.entry.from a.entry.id) in
+    elim (cases_Bool (is_arrival_of a.entry.from a.entry.id y)) [
+      | inl e ↦ let here : cond (is_arrival_of a.entry.from a.entry.id y) 1 0 ≡ 1 = ap {B = ℕ} (λ b. cond b 1 0) e in absurd (omega (arith, sum_by-cons (λ (z : Arrival). cond (is_arrival_of a.entry.from a.entry.id z) 1 0) y A, once, one, here))
       | inr e ↦ ap (λ (b : Bool). or_else (cond b y.index None) (arrived_at a.entry.from a.entry.id A)) e ∙ arrived_found A i a index rest there is
     ]
 
@@ -346,7 +346,7 @@ module _ {B : Type 0} (settings : B → HubSettings) (knows : B → Fact → Typ
               true_end false = refl
           go false w h was = let no : ⊥ = cc in absurd no
 
-      come_by : (s : Standing) → s ≡ looks.standing → HasCome knows b k (with_delivery x k (delivery x k look))
+      come_by : (s : Standing) → s ≡ looks.standing → HasArrived knows b k (with_delivery x k (delivery x k look))
       come_by s s_is t mine kn_opened kn_terms = go s s_is
         where
           who_same : (o : Option Entry) → (with_delivery x k o).who ≡ x.who
@@ -368,12 +368,12 @@ module _ {B : Type 0} (settings : B → HubSettings) (knows : B → Fact → Typ
               ShowsEnd : Standing → Outcome → Type 0
               ShowsEnd p z = Shows p (Decided z)
 
-      pub delivered_come : (y : Book) (r : Result Bool AllocError) → Keeps (is_some (delivery x k look)) x (with_delivery x k (delivery x k look)) r y → IfOk r (λ _. HasCome knows b k y)
+      pub delivered_come : (y : Book) (r : Result Bool AllocError) → Keeps (is_some (delivery x k look)) x (with_delivery x k (delivery x k look)) r y → IfOk r (λ _. HasArrived knows b k y)
       delivered_come y r keeps = ⊎_elim
-          (λ done. if_ok r (subst (λ (z : Book). HasCome knows b k z) (sym done.1) (come_by looks.standing refl)))
-          (λ refused. subst (λ (q : Result Bool AllocError). IfOk q (λ _. HasCome knows b k y)) (sym refused.0) tt) keeps
+          (λ done. if_ok r (subst (λ (z : Book). HasArrived knows b k z) (sym done.1) (come_by looks.standing refl)))
+          (λ refused. subst (λ (q : Result Bool AllocError). IfOk q (λ _. HasArrived knows b k y)) (sym refused.0) tt) keeps
         where
-          if_ok : (q : Result Bool AllocError) → HasCome knows b k y → IfOk q (λ _. HasCome knows b k y)
+          if_ok : (q : Result Bool AllocError) → HasArrived knows b k y → IfOk q (λ _. HasArrived knows b k y)
           if_ok (Ok v) h = h
           if_ok (Err v) h = tt
 
@@ -465,28 +465,28 @@ module _ {B : Type 0} (settings : B → HubSettings) (knows : B → Fact → Typ
           nothing false = refl
 
   -- what has come stays so
-  come_kept : (d b c : B) (w x y : Book) (k : Place) → IsLater settings knows has_role stays d w b x → IsLater settings knows has_role stays b x c y → HasCome knows d k x → HasCome knows d k y
+  come_kept : (d b c : B) (w x y : Book) (k : Place) → IsLater settings knows has_role stays d w b x → IsLater settings knows has_role stays b x c y → HasArrived knows d k x → HasArrived knows d k y
   come_kept d b c w x y k before l done t mine opened has = elim (done t (mine ∙ l.who_is) opened has) [
     | inl there ↦ inl (forwarded_on x.events y.events l.told k.owner t.id there)
     | inr ended ↦ inr ended
   ]
 
-  come_from : (d b : B) (w x y : Book) (k : Place) → IsLater settings knows has_role stays d w b x → HasCome knows b k y → HasCome knows d k y
+  come_from : (d b : B) (w x y : Book) (k : Place) → IsLater settings knows has_role stays d w b x → HasArrived knows b k y → HasArrived knows d k y
   come_from d b w x y k before done t mine opened has = elim (done t mine ((before.known (about k Opened)).1 opened) ((before.known (about k (HasTerms t))).1 has)) [
     | inl there ↦ inl there
     | inr ended ↦ inr (ended.0, (before.known (about k (Decided ended.0))).0 ended.1)
   ]
 
-  pub come_more : (d b c : B) (w x y : Book) (owner n : ℕ) → IsLater settings knows has_role stays d w b x → IsLater settings knows has_role stays b x c y → HasCome knows b (place_at owner n) y → ComeBelow knows d owner n x → ComeBelow knows d owner (n + 1) y
+  pub come_more : (d b c : B) (w x y : Book) (owner n : ℕ) → IsLater settings knows has_role stays d w b x → IsLater settings knows has_role stays b x c y → HasArrived knows b (place_at owner n) y → ComeBelow knows d owner n x → ComeBelow knows d owner (n + 1) y
   come_more d b c w x y owner n before l here done index below = elim (cases_eq index n) [
     | inr other ↦ come_kept d b c w x y (place_at owner index) before l (done index (less index n below other))
-    | inl same ↦ subst (λ (i : ℕ). HasCome knows d (place_at owner i) y) (sym same) (come_from d b w x y (place_at owner n) before here)
+    | inl same ↦ subst (λ (i : ℕ). HasArrived knows d (place_at owner i) y) (sym same) (come_from d b w x y (place_at owner n) before here)
   ]
 
   pub owner_more : (d b c : B) (w x y : Book) (n : ℕ) → IsLater settings knows has_role stays d w b x → IsLater settings knows has_role stays b x c y → HaveCome knows b n y → AllComeBelow knows d n x → AllComeBelow knows d (n + 1) y
   owner_more d b c w x y n before l here done owner below ne = elim (cases_eq owner n) [
     | inr other ↦ λ index. come_kept d b c w x y (place_at owner index) before l (done owner (less owner n below other) (λ e. ne (e ∙ sym l.who_is)) index)
-    | inl same ↦ λ index. subst (λ (q : ℕ). HasCome knows d (place_at q index) y) (sym same) (come_from d b w x y (place_at n index) before (here index))
+    | inl same ↦ λ index. subst (λ (q : ℕ). HasArrived knows d (place_at q index) y) (sym same) (come_from d b w x y (place_at n index) before (here index))
   ]
 
   pub own_skipped : (d : B) (x : Book) (n : ℕ) → n ≡ x.who → AllComeBelow knows d n x → AllComeBelow knows d (n + 1) x
@@ -497,7 +497,7 @@ module _ {B : Type 0} (settings : B → HubSettings) (knows : B → Fact → Typ
 
   -- all of it was done
   pub settled_then : (d b c e : B) (w x y z : Book) → IsLater settings knows has_role stays d w b x → IsLater settings knows has_role stays b x c y → IsLater settings knows has_role stays c y e z
-      → OwnAreBooked knows d x → ArrivedAreBooked knows b y → ((owner : ℕ) → owner ≢ z.who → HaveCome knows c owner z) → IsSettled knows d z
+      → OwnAreBooked knows d x → ArrivedAreBooked knows b y → ((owner : ℕ) → owner ≢ z.who → HaveCome knows c owner z) → HasSettledAll knows d z
   settled_then d b c e w x y z first second third own arrived come =
       let two = later_on d b c w x y first second in
       record {

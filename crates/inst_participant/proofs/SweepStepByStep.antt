@@ -10,7 +10,7 @@ use Rattle.inst_slot.specs.Arrived.{IsNextUnbooked}
 use Rattle.inst_participant.specs.declared.participant.Participant.{Participant}
 use Rattle.inst_participant.specs.declared.follow_up.FollowUpKind.TheVariants.{Learn}
 use Rattle.inst_participant.specs.LockLaw.{IsReady, IsLater}
-use Rattle.inst_participant.specs.Told.{IsTold, IsToldMore}
+use Rattle.inst_participant.specs.Told.{TellsOfTransfer, IsToldMore}
 use Rattle.inst_participant.specs.Following.{Does}
 use Rattle.inst_slot.specs.Book.{place_at}
 use Rattle.inst_slot.specs.Waiting.{IsNextDue}
@@ -35,7 +35,7 @@ told_nothing J K same = ([], same ∙ sym (append-nil J), λ e h. absurd (none_i
 pub told_some : (J K : List Event) → IsToldMore J K → IsToldAll J K
 told_some J K more = ⊎_elim
     (λ same. told_nothing J K same)
-    (λ one. (one.0 ∷ [], one.2, λ e h. subst IsTold (sym (only_one one.0 e h)) one.1)) more
+    (λ one. (one.0 ∷ [], one.2, λ e h. subst TellsOfTransfer (sym (only_one one.0 e h)) one.1)) more
 
 pub told_twice : (J K L : List Event) → IsToldAll J K → IsToldAll K L → IsToldAll J L
 told_twice J K L first second = (

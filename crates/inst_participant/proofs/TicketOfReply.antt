@@ -28,7 +28,7 @@ use Rattle.inst_journal.specs.Booked.{takes, is_taken, forwards, is_forwarded, b
 use Rattle.inst_journal.specs.Opened.{carried, is_live, takes_live, live_taken}
 use Rattle.inst_journal.specs.Repeats.{taken_of}
 use Rattle.inst_journal.specs.Sound.{IsSound}
-use Rattle.inst_journal.specs.Reply.{handle, told, kept_events}
+use Rattle.inst_journal.specs.Reply.{handle, reply_result, kept_events}
 use Rattle.inst_journal.proofs.TestOfOneThingFindsIt.{there_is_found}
 use Rattle.inst_journal.proofs.KeyOnce.{taken_once}
 use Rattle.inst_journal.proofs.OwnBookings.{own_unforwarded}
@@ -47,7 +47,7 @@ use Rattle.inst_participant.proofs.ReplyTellsOfHistory.{taken_told, state_told}
 -- the reply is the model's for a command on the history J that finds this, and the book is that after it
 pub record IsReplied (s : HubSettings) (J : List Event) (command : Command) (at : ℕ) (found : Option Outcome) (reply : Reply) (book : Book) : Type 0 where
   pub settings_are : book.settings ≡ s
-  pub reply_is : reply ≡ as_reply (told (handle s book.who J command at found))
+  pub reply_is : reply ≡ as_reply (reply_result (handle s book.who J command at found))
   pub kept : book.events ≡ J ++ kept_events (handle s book.who J command at found)
   pub sound : IsSound s book.who book.events
 
@@ -207,7 +207,7 @@ module _ {B : Type 0} (settings : B → HubSettings) (knows : B → Fact → Typ
 
       go : (o : Option ℕ) → cond (from == book.who) (position (takes id) (live_taken book.who book.events)) (arrived_at from id book.arrivals) ≡ o → ticket ≡ place_with_index from o
           → IsTicket sees s book.who command book.events (State from id state) ticket
-      go None e told = subst (IsTicket sees s book.who command book.events (State from id state)) (sym told) (unplaced b book s from id lawful adopted replied.sound party (from == book.who) refl e)
-      go (Some index) e told = subst (IsTicket sees s book.who command book.events (State from id state)) (sym told)
+      go None e told = subst (IsTicket sees s book.who command book.events (State from id state)) (sym reply_result) (unplaced b book s from id lawful adopted replied.sound party (from == book.who) refl e)
+      go (Some index) e told = subst (IsTicket sees s book.who command book.events (State from id state)) (sym reply_result)
           (let lies = lies_there book from id index (from == book.who) refl e in
-          (refl, lies_live b book from id index lawful lies, in_state b book s from id index state sees lawful replied.sound lies (seen (place_at from index) told) outcome))
+          (refl, lies_live b book from id index lawful lies, in_state b book s from id index state sees lawful replied.sound lies (seen (place_at from index) reply_result) outcome))

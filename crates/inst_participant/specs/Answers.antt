@@ -26,7 +26,7 @@ use Rattle.inst_journal.specs.declared.event.Event.{Event}
 use Rattle.inst_journal.specs.declared.event.Event.TheVariants.{Taken, Forwarded}
 use Rattle.inst_journal.specs.Booked.{booked}
 use Rattle.inst_journal.specs.Opened.{is_live}
-use Rattle.inst_journal.specs.Reply.{handle, told, kept_events}
+use Rattle.inst_journal.specs.Reply.{handle, reply_result, kept_events}
 use Rattle.inst_model.specs.Trace.{as_reply}
 use Rattle.inst_slot.specs.Book.{terms_to}
 
@@ -51,7 +51,7 @@ DecidesUntil s who J _ wish deadline = ⊥
 pub record Answered (s : HubSettings) (who : ℕ) (J : List Event) (ask : Ask) (reply : Reply)
     (K : List Event) : Type 0 where
   pub found : Option Outcome
-  pub reply_is : reply ≡ as_reply (told (handle s who J ask.command ask.at found))
+  pub reply_is : reply ≡ as_reply (reply_result (handle s who J ask.command ask.at found))
   pub kept : K ≡ J ++ kept_events (handle s who J ask.command ask.at found)
   pub none : (wish : Wish) (deadline : ℕ) → DecidesUntil s who J ask.command wish deadline →
       found ≡ None →

@@ -46,15 +46,15 @@ follow_up_after K command (Ok answer) = follow_up_of K command answer.0 answer.1
 follow_up_after K command (Err fault) = None
 
 -- from the board b to the board c the place was looked at, and this is what it showed
-abbrev pub Shows : SharedBoard → Place → Look → SharedBoard → Type 0
-Shows b k look c = Looks (settings_of b).margin knows has_role stood b k look c
+abbrev pub ShowsLook : SharedBoard → Place → Look → SharedBoard → Type 0
+ShowsLook b k look c = Looks (settings_of b).margin knows has_role stood b k look c
 
 -- the participant gets the transfer of the place, or learns how it ended
 abbrev pub Does : FollowUpKind → Participant → Place → Result Bool AllocError → Participant → Type 0
-Does Deliver x k result y = (look : Look) × Shows x.board k look y.board
+Does Deliver x k result y = (look : Look) × ShowsLook x.board k look y.board
     × Keeps (is_some (delivery x.slot k look)) x.slot
     (with_delivery x.slot k (delivery x.slot k look)) result y.slot
-Does Learn x k result y = (look : Look) × Shows x.board k look y.board
+Does Learn x k result y = (look : Look) × ShowsLook x.board k look y.board
     × Keeps (is_some (resolution x.slot k look)) x.slot
     (with_event x.slot (resolution x.slot k look))
     result y.slot

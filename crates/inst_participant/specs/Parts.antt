@@ -7,7 +7,7 @@ use Rattle.inst_board.specs.Learning.{KnowTheSame}
 use Rattle.inst_model.specs.Closing.{OnlyTold}
 use Rattle.inst_model.specs.Opening.{Opening, IsOpening}
 use Rattle.inst_slot.specs.Book.{Book}
-use Rattle.inst_participant.specs.Together.{histories, AreTogether, IsSettled}
+use Rattle.inst_participant.specs.Together.{histories, AreTogether, HasSettledAll}
 
 -- the books of the participants, by number, of a hub that was opened so
 pub record AreParts {B : Type 0} (settings : B → HubSettings) (knows : B → Fact →
@@ -19,7 +19,7 @@ pub record AreParts {B : Type 0} (settings : B → HubSettings) (knows : B → F
 
 -- the participant's book is settled
 abbrev pub IsSettledAt : {B : Type 0} → (B → Fact → Type 0) → B → ℕ → List Book → Type 0
-IsSettledAt knows b p books = (book : Book) → slice_get books p ≡ Some book → IsSettled knows b book
+IsSettledAt knows b p books = (book : Book) → slice_get books p ≡ Some book → HasSettledAll knows b book
 
 -- From the books over the board b to the others over the board c
 -- parts: they are the books of the same hub

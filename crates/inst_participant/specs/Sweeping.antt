@@ -18,7 +18,7 @@ use Rattle.inst_slot.specs.Telling.{Expires}
 use Rattle.inst_slot.specs.Waiting.{GivesNextDue, IsNextDue, waits}
 use Rattle.inst_participant.specs.declared.participant.Participant.{Participant}
 use Rattle.inst_participant.specs.declared.follow_up.FollowUpKind.TheVariants.{Deliver, Learn}
-use Rattle.inst_participant.specs.Following.{Does, Shows}
+use Rattle.inst_participant.specs.Following.{Does, ShowsLook}
 
 -- the own transfer at this index may expire at the reading
 abbrev pub MayExpire : ℕ → Participant → ℕ → Result Bool AllocError → Participant → Type 0
@@ -53,9 +53,9 @@ pub data LearnsAll : ℕ → Bool → Participant → Participant → Type 0 whe
       Does Learn x k (Err alloc_error) y → LearnsAll from false x y
 
 -- a place that is pending is used; memory may be refused for what it brings
-abbrev pub is_used : Result Bool AllocError → Result Bool AllocError
-is_used (Ok is_new) = Ok true
-is_used (Err fault) = Err fault
+abbrev pub is_used_unless_memory : Result Bool AllocError → Result Bool AllocError
+is_used_unless_memory (Ok is_new) = Ok true
+is_used_unless_memory (Err fault) = Err fault
 
 -- what is done with a place that shows this, and whether it is used: what is pending comes, if it
 -- is new
@@ -63,7 +63,7 @@ abbrev pub Brings : Look → Participant → Place → Result Bool AllocError �
 Brings Unused x k used y = (used ≡ Ok false) × (y ≡ x)
 Brings (Decided terms outcome) x k used y = (used ≡ Ok true) × (y ≡ x)
 Brings (Pending terms deadline) x k used y =
-    (came : Result Bool AllocError) × Does Deliver x k came y × (used ≡ is_used came)
+    (came : Result Bool AllocError) × Does Deliver x k came y × (used ≡ is_used_unless_memory came)
 
 -- the place was looked at, and what is new there came, unless memory was refused for it
 pub record LooksAt (x : Participant) (k : Place) (used : Result Bool AllocError) (y : Participant) :
@@ -71,7 +71,7 @@ pub record LooksAt (x : Participant) (k : Place) (used : Result Bool AllocError)
   pub look : Look
   pub between : Participant
   pub same : between.slot ≡ x.slot
-  pub shows : Shows x.board k look between.board
+  pub shows : ShowsLook x.board k look between.board
   pub brings : Brings look between k used y
 
 -- from x to y so many places of the originator are looked at, from this index on, up to the first

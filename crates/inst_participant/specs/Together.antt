@@ -30,7 +30,7 @@ histories books p = events_of (slice_get books p)
 -- sound: its history is one that a participant can have
 -- since: what it carries is what the hub began with
 -- lawful, adopted: its board is lawful for it, and the places of what it carries were found
-pub record IsMember {B : Type 0} (settings : B → HubSettings) (knows : B → Fact →
+pub record IsMemberBook {B : Type 0} (settings : B → HubSettings) (knows : B → Fact →
     Type 0) (has_role : B → ℕ → Type 0)
     (b : B) (s : HubSettings) (O : Opening) (p : ℕ) (book : Book) : Type 0 where
   pub settings_are : book.settings ≡ s
@@ -46,13 +46,13 @@ pub record AreTogether {B : Type 0} (settings : B → HubSettings) (knows : B �
     (b : B) (s : HubSettings) (O : Opening) (books : List Book) : Type 0 where
   pub one_each : length books ≡ participants s
   pub member : (p : ℕ) (book : Book) → slice_get books p ≡ Some book →
-      IsMember settings knows has_role b s O p book
+      IsMemberBook settings knows has_role b s O p book
 
 -- The participant has booked and got what there is for it
 -- own: a live transfer of its own is booked, where its outcome is known
 -- arrived: so is one that came to it
 -- come: a transfer for it has come, or its outcome is known
-pub record IsSettled {B : Type 0} (knows : B → Fact → Type 0) (b : B) (book : Book) : Type 0 where
+pub record HasSettledAll {B : Type 0} (knows : B → Fact → Type 0) (b : B) (book : Book) : Type 0 where
   pub own : (index : ℕ) (id : List ℕ) (to cents stamp : ℕ) (o : Outcome) →
       slice_get (live_taken book.who book.events) index ≡ Some (Taken id to cents stamp) →
       knows b (about (place_at book.who index) (Decided o)) →
@@ -69,7 +69,7 @@ pub record IsSettled {B : Type 0} (knows : B → Fact → Type 0) (b : B) (book 
 
 abbrev pub AllAreSettled : {B : Type 0} → (B → Fact → Type 0) → B → List Book → Type 0
 AllAreSettled knows b books =
-    (p : ℕ) (book : Book) → slice_get books p ≡ Some book → IsSettled knows b book
+    (p : ℕ) (book : Book) → slice_get books p ≡ Some book → HasSettledAll knows b book
 
 -- the books of one hub over one board fit
 abbrev pub TogetherTheyFit : {B : Type 0} → (B → HubSettings) → (B → Fact → Type 0) →

@@ -5,15 +5,15 @@ use Rattle.inst_journal.specs.declared.event.Event.{Event}
 use Rattle.inst_journal.specs.declared.event.Event.TheVariants.{Forwarded, Booked}
 
 -- the event says that a transfer came, or how one ended
-abbrev pub IsTold : Event → Type 0
-IsTold (Forwarded from id cents deadline) = Unit {0}
-IsTold (Booked from id outcome) = Unit {0}
-IsTold _ = ⊥
+abbrev pub TellsOfTransfer : Event → Type 0
+TellsOfTransfer (Forwarded from id cents deadline) = Unit {0}
+TellsOfTransfer (Booked from id outcome) = Unit {0}
+TellsOfTransfer _ = ⊥
 
 -- the history is as it was, or has one such event more
 abbrev pub IsToldMore : List Event → List Event → Type 0
-IsToldMore J K = (K ≡ J) ⊎ ((e : Event) × IsTold e × (K ≡ J ++ e ∷ []))
+IsToldMore J K = (K ≡ J) ⊎ ((e : Event) × TellsOfTransfer e × (K ≡ J ++ e ∷ []))
 
 -- the history has more events, each of which says that a transfer came, or how one ended
 abbrev pub IsToldAll : List Event → List Event → Type 0
-IsToldAll J K = (more : List Event) × (K ≡ J ++ more) × ((e : Event) → Contains more e → IsTold e)
+IsToldAll J K = (more : List Event) × (K ≡ J ++ more) × ((e : Event) → Contains more e → TellsOfTransfer e)

@@ -6,17 +6,17 @@ use Rattle.inst_board.specs.declared.about.Fact.{Fact}
 use Rattle.inst_cell.specs.declared.shared_board.SharedBoard.{SharedBoard}
 use Rattle.inst_cell.specs.declared.sight.Sight.{Sight}
 use Rattle.inst_cell.specs.Held.{settings_of, knows, has_role, AtOneTable}
-use Rattle.inst_cell.specs.Seen.{board_of, sees}
+use Rattle.inst_cell.specs.Seen.{board_of_sight, sight_knows}
 use Rattle.inst_model.specs.Opening.{Opening, IsOpening}
 use Rattle.inst_slot.specs.Book.{Book}
-use Rattle.inst_participant.specs.Together.{IsMember}
+use Rattle.inst_participant.specs.Together.{IsMemberBook}
 
 -- a board is over these words, and lawful for the book of the participant p of a hub that was
 -- opened so
 pub record IsSeparate (words : SharedBoard) (O : Opening) (s : HubSettings) (p : ℕ) (x : Book)
     (b : SharedBoard) : Type 0 where
   pub one : AtOneTable words b
-  pub member : IsMember settings_of knows has_role b s O p x
+  pub member : IsMemberBook settings_of knows has_role b s O p x
 
 -- such a board for each participant, by number
 pub record AreSeparate (words : SharedBoard) (O : Opening) (s : HubSettings) (slots : List Book)
@@ -39,7 +39,7 @@ pub record AreAtOne (words : SharedBoard) (s : HubSettings) (slots : List Book)
 -- tellers that see these words
 abbrev pub AreSights : SharedBoard → List Sight → Type 0
 AreSights words sights =
-    (i : ℕ) (t : Sight) → slice_get sights i ≡ Some t → AtOneTable words (board_of t)
+    (i : ℕ) (t : Sight) → slice_get sights i ≡ Some t → AtOneTable words (board_of_sight t)
 
 -- one of these boards knows it
 abbrev pub OneKnows : List SharedBoard → Fact → Type 0
@@ -47,4 +47,4 @@ OneKnows boards f = (p : ℕ) × (b : SharedBoard) × (slice_get boards p ≡ So
 
 -- one of these tellers sees it
 abbrev pub OneSees : List Sight → Fact → Type 0
-OneSees sights f = (i : ℕ) × (t : Sight) × (slice_get sights i ≡ Some t) × sees t f
+OneSees sights f = (i : ℕ) × (t : Sight) × (slice_get sights i ≡ Some t) × sight_knows t f

@@ -3,9 +3,9 @@ ghost use Rattle.std.specs.Prelude.{◌≡◌, ◌≢◌, ℕ, ◌<◌, IfOk};
 ghost use Rattle.inst_settings.specs.Settings.{participants};
 ghost use Rattle.inst_journal.specs.Sound.{IsSound};
 ghost use Rattle.inst_participant.specs.Sweeping.{new_events};
-ghost use Rattle.inst_participant.specs.Together.{IsSettled};
+ghost use Rattle.inst_participant.specs.Together.{HasSettledAll};
 ghost use Rattle.inst_participant.specs.Settling.{IsReadyToSettle, IsLater};
-ghost use Rattle.inst_participant.specs.inner.Settling.{IsBookedAt, HasCome, OwnAreBooked};
+ghost use Rattle.inst_participant.specs.inner.Settling.{IsBookedAt, HasArrived, OwnAreBooked};
 ghost use Rattle.inst_participant.specs.inner.Settling.{ArrivedAreBooked, HaveCome};
 
 use inst_board::Board;

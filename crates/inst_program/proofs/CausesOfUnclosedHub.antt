@@ -9,7 +9,7 @@ use Rattle.inst_chain.specs.declared.digest.Digest.{Digest}
 use Rattle.inst_logged.specs.LogHeader.{beginning_with}
 use Rattle.inst_logged.specs.Finding.{FindsLog}
 use Rattle.inst_logged.specs.Header.{AreFirstLines}
-use Rattle.inst_logged.specs.Refused.{IsCause, IsRefused, IsTaken}
+use Rattle.inst_logged.specs.Refused.{IsCause, IsRefused, IsLogTaken}
 use Rattle.inst_logged.specs.Running.{HasKeptFaith}
 use Rattle.inst_logged.specs.declared.log_header.LogHeader.{LogHeader}
 use Rattle.inst_logged.specs.declared.error.LoggedError.{LoggedError}
@@ -19,7 +19,7 @@ use Rattle.inst_logged.proofs.BooksBehindFirstLine.{log_has_a_line}
 use Rattle.inst_logged.proofs.CausesOfRefusal.{not_taken}
 use Rattle.inst_program.specs.Files.{Files}
 use Rattle.inst_program.specs.Keeping.{HasNoOpeningLeft, IsGoodToClose}
-use Rattle.inst_program.specs.inner.Carrying.{IsRead, IsUnbegun, IsUnclosed, ReadsBeginning}
+use Rattle.inst_program.specs.inner.Carrying.{IsReadAsLog, IsLogUnbegun, IsLogUnclosed, ReadsBeginning}
 use Rattle.inst_program.specs.inner.ExitReason.{status_of_ending}
 use Rattle.inst_program.specs.inner.Visiting.{IsVisitedAs}
 use Rattle.inst_program.specs.declared.exit_reason.ExitReason.{ExitReason}
@@ -52,10 +52,10 @@ read_so file r b reads is version m t first lines begins =
     let both : b ≡ beginning_with m t books = cc same in
     (ap (λ (x : LogHeader). x.mode) (sym both), ap (λ (x : LogHeader). x.settings) (sym both))
 
-pub is_read : (file : List ℕ) (r : Result (Option LogHeader) ExitReason) (b : LogHeader) → 0 < length (recovered_lines file) → ReadsBeginning file r → r ≡ Ok (Some b) → IsRead b.mode b.settings file
+pub is_read : (file : List ℕ) (r : Result (Option LogHeader) ExitReason) (b : LogHeader) → 0 < length (recovered_lines file) → ReadsBeginning file r → r ≡ Ok (Some b) → IsReadAsLog b.mode b.settings file
 is_read file r b there reads is = record { there = there; settings = read_so file r b reads is }
 
-module _ (mode : Mode) (s : HubSettings) (wanted : Option Digest) (file : List ℕ) (read : IsRead mode s file) where
+module _ (mode : Mode) (s : HubSettings) (wanted : Option Digest) (file : List ℕ) (read : IsReadAsLog mode s file) where
   lines_so : (good : IsGoodToClose wanted file) → AreFirstLines good.version mode s good.first
   lines_so good =
       let same = read.settings good.version good.mode good.settings good.first good.lines good.begins in
@@ -71,19 +71,19 @@ module _ (mode : Mode) (s : HubSettings) (wanted : Option Digest) (file : List �
   untaken_to_close version first finds e refused cause good =
       let found = finds good.version good.first (lines_so good) good.begins in
       not_taken version first None wanted file e refused cause
-      (subst (λ (v : Version). IsTaken v first None wanted file) (sym found.0) (subst (λ (lines : List ℕ). IsTaken good.version lines None wanted file) (sym found.1) good.taken))
+      (subst (λ (v : Version). IsLogTaken v first None wanted file) (sym found.0) (subst (λ (lines : List ℕ). IsLogTaken good.version lines None wanted file) (sym found.1) good.taken))
 
 -- the file on the disk is that of the name
 module _ {D : Type 0} (disks : Ghosts D) (old new : Files) (name : List ℕ) (disk disk' : D) (v : IsVisitedAs disks old new name disk disk') where
-  pub unclosed_in : (in_use : Type 0) (wanted : Option Digest) → IsUnclosed ⊥ (HasKeptFaith disks disk') wanted (disks.seen disk) → IsUnclosed in_use (IsTrue new.is_clean) wanted (old.bytes name)
+  pub unclosed_in : (in_use : Type 0) (wanted : Option Digest) → IsLogUnclosed ⊥ (HasKeptFaith disks disk') wanted (disks.seen disk) → IsLogUnclosed in_use (IsTrue new.is_clean) wanted (old.bytes name)
   unclosed_in in_use wanted (inl never) = absurd never
   unclosed_in in_use wanted (inr (inl bad)) = inr (inl (λ is good. bad (v.faith is) (subst (IsGoodToClose wanted) (v.change is).was good)))
   unclosed_in in_use wanted (inr (inr none)) = inr (inr (λ is. subst HasNoOpeningLeft (sym (v.change is).was) (none (v.faith is))))
 
-  pub unbegun_in : (in_use : Type 0) (first : List ℕ) → IsUnbegun ⊥ (HasKeptFaith disks disk') first (disks.seen disk) → IsUnbegun in_use (IsTrue new.is_clean) first (old.bytes name)
+  pub unbegun_in : (in_use : Type 0) (first : List ℕ) → IsLogUnbegun ⊥ (HasKeptFaith disks disk') first (disks.seen disk) → IsLogUnbegun in_use (IsTrue new.is_clean) first (old.bytes name)
   unbegun_in in_use first (inl never) = absurd never
-  unbegun_in in_use first (inr other) = inr (λ is taken. other (v.faith is) (subst (IsTaken _ first None None) (v.change is).was taken))
+  unbegun_in in_use first (inr other) = inr (λ is taken. other (v.faith is) (subst (IsLogTaken _ first None None) (v.change is).was taken))
 
 -- it was only read before
-pub unclosed_before : (faith : Type 0) (wanted : Option Digest) (file mid : List ℕ) → mid ≡ file → IsUnclosed ⊥ faith wanted mid → IsUnclosed ⊥ faith wanted file
-unclosed_before faith wanted file mid same is = subst (IsUnclosed ⊥ faith wanted) same is
+pub unclosed_before : (faith : Type 0) (wanted : Option Digest) (file mid : List ℕ) → mid ≡ file → IsLogUnclosed ⊥ faith wanted mid → IsLogUnclosed ⊥ faith wanted file
+unclosed_before faith wanted file mid same is = subst (IsLogUnclosed ⊥ faith wanted) same is

@@ -5,7 +5,7 @@ use Rattle.inst_base.specs.declared.fault.Fault.TheVariants.{BadSettings}
 use Rattle.clap.specs.Words.{IsAmong, kind_of}
 use Rattle.clap.specs.declared.error.kind.ErrorKind.{ErrorKind}
 use Rattle.clap.specs.declared.error.kind.ErrorKind.TheVariants.{DisplayHelp, DisplayVersion}
-use Rattle.inst_options.specs.Asking.{AreUnfit, AreWrong, AskForHelp, IsNoWish, IsRefusal, NameABadLog, faults_of}
+use Rattle.inst_options.specs.Asking.{AreUnfit, AreWrong, AskForHelp, IsNoWish, IsBeginRefusal, NameABadLog, faults_of}
 use Rattle.inst_options.specs.declared.error.WordsError.{WordsError}
 use Rattle.inst_options.specs.declared.error.WordsError.TheVariants as error
 use Rattle.inst_logged.specs.Streams.{Streams}
@@ -71,7 +71,7 @@ module _ (words : List (List ℕ)) (old new : Files) (stay : Stay old new) where
   unfit_or_log (inl unfit) = Unfit (refused words unfit) stay
   unfit_or_log (inr log) = BadLog log stay
 
-  of_refusal : (fault : Fault) → fault ≡ BadSettings → IsRefusal (AreUnfit words ⊎ NameABadLog words) fault → Refusal words old new
+  of_refusal : (fault : Fault) → fault ≡ BadSettings → IsBeginRefusal (AreUnfit words ⊎ NameABadLog words) fault → Refusal words old new
   of_refusal fault bad (inl memory) = absurd (let no : ⊥ = cc (memory, bad) in no)
   of_refusal fault bad (inr h) = unfit_or_log h.1
 

@@ -4,7 +4,7 @@ use Rattle.std.specs.Prelude.{bytes_eq}
 use Rattle.inst_log.specs.Layout.{recovered_lines}
 use Rattle.inst_chain.specs.Chain.{has_digest, mark_with}
 use Rattle.inst_chain.specs.declared.digest.Digest.{Digest}
-use Rattle.inst_logged.specs.Refused.{HasWanted, IsTaken}
+use Rattle.inst_logged.specs.Refused.{HasWanted, IsLogTaken}
 use Rattle.inst_logged.specs.declared.version.Version.{Version}
 use Rattle.inst_logged.specs.declared.version.Version.TheVariants.{One, Two}
 use Rattle.inst_program.specs.Keeping.{AsksFor}
@@ -27,6 +27,6 @@ wanted_same (Some text) w v (d, is, is_text) (e, same, so) version file has =
     (wanted_so version file d e (is_text ∙ sym so) (subst (λ (o : Option Digest). HasWanted version o file) is has))
 
 pub taken_same : (digest : Option (List ℕ)) (w v : Option Digest) → AsksFor digest w → AsksFor digest v → (version : Version) (first : List ℕ) (told : Option ℕ) (file : List ℕ)
-    → IsTaken version first told w file → IsTaken version first told v file
+    → IsLogTaken version first told w file → IsLogTaken version first told v file
 taken_same digest w v is same version first told file taken =
     record { intact = taken.intact; opens = taken.opens; enough = taken.enough; digest = wanted_same digest w v is same version file taken.digest }

@@ -3,10 +3,10 @@ use Rattle.std.proofs.Common.{◌≡◌, ◌⊎◌, ◌++◌, ◌∙◌, inl, in
 use Rattle.sqlite_disk.specs.Disk.{Only}
 use Rattle.sqlite_disk.specs.declared.Disk.{Ghosts}
 use Rattle.inst_log.specs.Layout.{recovered_lines}
-use Rattle.inst_log.specs.Opening.{kept}
+use Rattle.inst_log.specs.Opening.{lines_after_settings}
 use Rattle.inst_logged.specs.Running.{HasKeptFaith, HasSameFile}
 use Rattle.inst_logged.specs.Streams.{Streams}
-use Rattle.inst_program.specs.Files.{AllAreIn, Change, Files, IfKept, IsAsItWas, IsClosed, IsOpened, IsUntouched, MayBe, OthersStay, Stay, change_of, change_on}
+use Rattle.inst_program.specs.Files.{AllAreIn, Change, Files, IfKept, IsAsItWas, IsFileClosed, IsFileOpened, IsUntouched, MayBe, OthersStay, Stay, change_of, change_on}
 use Rattle.inst_program.specs.Keeping.{AnswersAFront, AnswersBehind, CarriesBooks, IsBegun, IsSafe, IsSparedLog, IsUntaken, KeepsLines, KeptRun}
 use Rattle.inst_program.specs.inner.ExitReason.{IsUnkept}
 use Rattle.inst_program.specs.inner.Visiting.{IsSameChange, IsVisitedAs}
@@ -26,7 +26,7 @@ untouched_behind a b c x y = record {
   out = λ is. y.out is ∙ x.out (y.clean is);
 }
 
-pub opened_behind : (a b c : Files) (name bytes : List ℕ) (may_leave : List ℕ → Type 0) → IsUntouched a b → IsOpened b c name bytes may_leave → IsOpened a c name bytes may_leave
+pub opened_behind : (a b c : Files) (name bytes : List ℕ) (may_leave : List ℕ → Type 0) → IsUntouched a b → IsFileOpened b c name bytes may_leave → IsFileOpened a c name bytes may_leave
 opened_behind a b c name bytes may_leave x y = record {
   clean = λ is. x.clean (y.clean is);
   all = λ is other. stays_behind a b c other (x.all (y.clean is) other) (y.all is other);
@@ -109,7 +109,7 @@ module _ (c d : Change) (same : IsSameChange c d) where
         wanted = x.wanted;
         asked = x.asked;
         log = x.log;
-        stays = subst (λ (file : List ℕ). recovered_lines file ≡ recovered_lines x.log.first ++ kept x.log.first c.was) (sym same.now) x.stays;
+        stays = subst (λ (file : List ℕ). recovered_lines file ≡ recovered_lines x.log.first ++ lines_after_settings x.log.first c.was) (sym same.now) x.stays;
         spared = record {
           alike = λ file may. x.spared.alike file (may_be file may);
           stands = λ file may. x.spared.stands file (may_be file may);
@@ -134,8 +134,8 @@ left_change disks a b c left = record { was = sym left.same; now = refl; could =
 
 -- the file was opened, and closed again
 module _ {D : Type 0} (disks : Ghosts D) (old mid new : Files) (name : List ℕ) (disk disk' : D)
-    (opened : IsOpened old mid name (disks.seen disk) (disks.may_leave disk))
-    (closed : IfKept new ((n : List ℕ) → mid.out ≡ Some n → IsClosed mid new n (disks.seen disk') (disks.may_leave disk')))
+    (opened : IsFileOpened old mid name (disks.seen disk) (disks.may_leave disk))
+    (closed : IfKept new ((n : List ℕ) → mid.out ≡ Some n → IsFileClosed mid new n (disks.seen disk') (disks.may_leave disk')))
     (clean : IfKept new (IsTrue mid.is_clean × HasKeptFaith disks disk')) where
   pub visited : IsVisitedAs disks old new name disk disk'
   visited = record {

@@ -8,9 +8,9 @@ use Rattle.inst_journal.specs.History.{History}
 use Rattle.inst_world.specs.HasRun.{world_settings}
 use Rattle.inst_world.specs.NextOpening.{CanOpenFrom}
 use Rattle.inst_lines.specs.declared.mode.Mode.{Mode}
-use Rattle.inst_lines.specs.Answering.{HubPast, Keeps, opened}
+use Rattle.inst_lines.specs.Answering.{HubPast, IsRunnerAt, new_past}
 use Rattle.inst_log.specs.Layout.{recovered_lines}
-use Rattle.inst_log.specs.Opening.{kept, Begins, IsSameOrBegun, OpensAlike}
+use Rattle.inst_log.specs.Opening.{lines_after_settings, Begins, IsSameOrBegun, OpensAlike}
 use Rattle.inst_chain.specs.declared.digest.Digest.{Digest}
 use Rattle.inst_logged.specs.declared.version.Version.{Version}
 use Rattle.inst_logged.specs.declared.version.Version.TheVariants.{Two}
@@ -25,7 +25,7 @@ use Rattle.inst_logged.specs.Header.{header, header_from}
 use Rattle.inst_logged.specs.LineAnswers.{HasOpened}
 use Rattle.inst_logged.specs.Marking.{IsIntact}
 use Rattle.inst_logged.specs.Logged.{HasBegun, HasLogged, SurvivesACrash}
-use Rattle.inst_logged.specs.Refused.{IsCause, IsRefused, IsTaken}
+use Rattle.inst_logged.specs.Refused.{IsCause, IsRefused, IsLogTaken}
 use Rattle.inst_logged.specs.Running.{disk_of, file_of, HasGone, HasKeptFaith, HasNoRoom, SurvivesEachCrash, HasSameFile, OpensAgain, RunsThrough, StaysAlike, StopsBy}
 use Rattle.inst_logged.specs.Streams.{Streams}
 use Rattle.inst_program.specs.Files.{Change, IsAsItWas, MayBe, change_on}
@@ -58,7 +58,7 @@ unrefused_at P r e is failed = subst (Unrefused P) failed is
 -- a hub began so
 begun : (version : Version) (mode : Mode) (s : HubSettings) (first : List ℕ) (answers : LineAnswers) → HasBegun version mode s first answers →
     (past : HubPast) × IsBeginning version mode s past first × HasOpened mode past answers
-begun version mode s first answers (inl (has, is)) = (opened s, inl (refl, is), has)
+begun version mode s first answers (inl (has, is)) = (new_past s, inl (refl, is), has)
 begun version mode s first answers (inr (journals, can, has, is)) = (opened_from s journals, inr (journals, can, refl, is), has)
 
 -- It was found by its log, on a disk that was only read, and then it has the disk: `hub` before a run and `after` behind it,
@@ -73,7 +73,7 @@ module _ {D : Type 0} (disks : Ghosts D) (run : KeptRun) (hub after : LoggedHub 
   of_mode = (begun hub.version run.mode run.settings hub.header.items hub.recorder.answers has).2.mode_is
 
   has_gone : HasGone hub went
-  has_gone = subst (λ (m : Mode). Keeps m went hub.recorder.answers.runner) (sym of_mode) (begun hub.version run.mode run.settings hub.header.items hub.recorder.answers has).2.keeps
+  has_gone = subst (λ (m : Mode). IsRunnerAt m went hub.recorder.answers.runner) (sym of_mode) (begun hub.version run.mode run.settings hub.header.items hub.recorder.answers has).2.keeps
 
   abbrev Fresh : Type 0
   Fresh = recovered_lines (disks.seen disk) ≡ [] → (hub.version ≡ Two) × (hub.header.items ≡ header Two run.mode run.settings)
@@ -81,7 +81,7 @@ module _ {D : Type 0} (disks : Ghosts D) (run : KeptRun) (hub after : LoggedHub 
   abbrev There : Type 0
   There = run.resume ≡ true → 0 < length (recovered_lines (disks.seen disk))
 
-  taken_for : (wanted : Option Digest) → AsksFor run.digest wanted → Fresh → There → IsTaken hub.version hub.header.items run.told wanted (file_of disks hub)
+  taken_for : (wanted : Option Digest) → AsksFor run.digest wanted → Fresh → There → IsLogTaken hub.version hub.header.items run.told wanted (file_of disks hub)
       → IsTakenFor run (disks.seen disk) hub.version went hub.header.items
   taken_for wanted asked fresh there taken = record {
     begins = (begun hub.version run.mode run.settings hub.header.items hub.recorder.answers has).1;
@@ -89,7 +89,7 @@ module _ {D : Type 0} (disks : Ghosts D) (run : KeptRun) (hub after : LoggedHub 
     there = there;
     wanted = wanted;
     asked = asked;
-    taken = subst (IsTaken hub.version hub.header.items run.told wanted) left.same taken;
+    taken = subst (IsLogTaken hub.version hub.header.items run.told wanted) left.same taken;
   }
 
   module _ (wanted : Option Digest) (asked : AsksFor run.digest wanted) (fresh : HasKeptFaith disks (disk_of hub) → Fresh) (there : HasKeptFaith disks (disk_of hub) → There)
@@ -114,12 +114,12 @@ module _ {D : Type 0} (disks : Ghosts D) (run : KeptRun) (hub after : LoggedHub 
       durable = λ is file may. (ran (faithful' is)).settled.durable file (left'.crash file may) ∙ sym left'.same;
     }
 
-    front_on : HasKeptFaith disks disk' → SurvivesEachCrash disks run.told hub after t → IsTaken hub.version hub.header.items run.told wanted (file_of disks hub)
+    front_on : HasKeptFaith disks disk' → SurvivesEachCrash disks run.told hub after t → IsLogTaken hub.version hub.header.items run.told wanted (file_of disks hub)
         → AnswersAFront run t ((d : D) → IsTrue (disks.is_mixing d)) (change_on disks disk disk')
-    front_on is kept taken =
+    front_on is lines_after_settings taken =
         let was = faithful (faithful' is) in
         let survives = subst (λ (file : List ℕ). SurvivesACrash run.mode went hub.header.items run.told file (disks.may_leave (disk_of after)) t.left t.left' t.held t.held') left.same
-        (subst (λ (m : Mode). SurvivesACrash m went hub.header.items run.told (file_of disks hub) (disks.may_leave (disk_of after)) t.left t.left' t.held t.held') of_mode (kept.survives went has_gone)) in
+        (subst (λ (m : Mode). SurvivesACrash m went hub.header.items run.told (file_of disks hub) (disks.may_leave (disk_of after)) t.left t.left' t.held t.held') of_mode (lines_after_settings.survives went has_gone)) in
         let k = survives.kept in
         record {
           version = hub.version;
@@ -134,9 +134,9 @@ module _ {D : Type 0} (disks : Ghosts D) (run : KeptRun) (hub after : LoggedHub 
             kept = record { told = k.told; handed = k.handed; kept = λ file may. k.kept file (left_at_once disks stay disk (disk_of after) disk' left' file may) };
           };
           begins = λ begins file may.
-              kept.begins (subst (λ (f : List ℕ). Begins hub.header.items f) (sym left.same) begins) file (left_at_once disks stay disk (disk_of after) disk' left' file may);
+              lines_after_settings.begins (subst (λ (f : List ℕ). Begins hub.header.items f) (sym left.same) begins) file (left_at_once disks stay disk (disk_of after) disk' left' file may);
           intact = λ mixes intact file may.
-              kept.intact mixes (subst (λ (f : List ℕ). IsIntact hub.version f) (sym left.same) intact) file (left_at_once disks stay disk (disk_of after) disk' left' file may);
+              lines_after_settings.intact mixes (subst (λ (f : List ℕ). IsIntact hub.version f) (sym left.same) intact) file (left_at_once disks stay disk (disk_of after) disk' left' file may);
         }
 
     as_before : HasSameFile disks (disk_of hub) (disk_of after) → IsAsItWas (change_on disks disk disk')
@@ -161,7 +161,7 @@ module _ {D : Type 0} (disks : Ghosts D) (run : KeptRun) (hub after : LoggedHub 
       front = λ is.
           elim (stops.begun (faithful' is)) [
             | inl still ↦ inl (still.0.0, still.0.1, as_before still.1)
-            | inr taken ↦ inr (front_on is (kept (faithful' is)) taken)
+            | inr taken ↦ inr (front_on is (lines_after_settings (faithful' is)) taken)
           ];
     }
 
@@ -183,7 +183,7 @@ module _ {D : Type 0} (disks : Ghosts D) (mode : Mode) (s : HubSettings) (hub af
   same_mode = (begun hub.version mode s hub.header.items hub.recorder.answers has).2.mode_is
 
   has_gone_so : HasGone hub gone
-  has_gone_so = subst (λ (m : Mode). Keeps m gone hub.recorder.answers.runner) (sym same_mode) (begun hub.version mode s hub.header.items hub.recorder.answers has).2.keeps
+  has_gone_so = subst (λ (m : Mode). IsRunnerAt m gone hub.recorder.answers.runner) (sym same_mode) (begun hub.version mode s hub.header.items hub.recorder.answers has).2.keeps
 
   spared_on : StaysAlike disks hub after → IsSpared hub.version hub.header.items mixes_all (change_on disks disk disk')
   spared_on stays = record {
@@ -192,7 +192,7 @@ module _ {D : Type 0} (disks : Ghosts D) (mode : Mode) (s : HubSettings) (hub af
     intact = λ mixes intact file may. stays.intact mixes (subst (λ (f : List ℕ). IsIntact hub.version f) (sym left.same) intact) file (at_once file may);
   }
 
-  abbrev log_on : (wanted : Option Digest) → IsTaken hub.version hub.header.items None wanted (file_of disks hub) → IsLogOfAHub wanted (disks.seen disk)
+  abbrev log_on : (wanted : Option Digest) → IsLogTaken hub.version hub.header.items None wanted (file_of disks hub) → IsLogOfAHub wanted (disks.seen disk)
   log_on wanted taken = record {
     version = hub.version;
     mode = mode;
@@ -200,10 +200,10 @@ module _ {D : Type 0} (disks : Ghosts D) (mode : Mode) (s : HubSettings) (hub af
     past = gone;
     first = hub.header.items;
     begins = (begun hub.version mode s hub.header.items hub.recorder.answers has).1;
-    taken = subst (IsTaken hub.version hub.header.items None wanted) left.same taken;
+    taken = subst (IsLogTaken hub.version hub.header.items None wanted) left.same taken;
   }
 
-  spared_log_on : (wanted : Option Digest) → StaysAlike disks hub after → IsTaken hub.version hub.header.items None wanted (file_of disks hub)
+  spared_log_on : (wanted : Option Digest) → StaysAlike disks hub after → IsLogTaken hub.version hub.header.items None wanted (file_of disks hub)
       → IsSparedLog mixes_all (change_on disks disk disk')
   spared_log_on wanted stays taken = record { wanted = wanted; log = log_on wanted taken; spared = spared_on stays }
 
@@ -216,7 +216,7 @@ module _ {D : Type 0} (disks : Ghosts D) (mode : Mode) (s : HubSettings) (hub af
       ]
 
   pub safe_closed : (faith : Type 0) (wanted : Option Digest) → (faith → HasKeptFaith disks (disk_of after))
-      → (HasKeptFaith disks (disk_of after) → IsTaken hub.version hub.header.items None wanted (file_of disks hub))
+      → (HasKeptFaith disks (disk_of after) → IsLogTaken hub.version hub.header.items None wanted (file_of disks hub))
       → (HasKeptFaith disks (disk_of after) → StaysAlike disks hub after) → IsSafe mixes_all faith (change_on disks disk disk')
   safe_closed faith wanted faithful taken stays is = inr (spared_log_on wanted (stays (faithful is)) (taken (faithful is)))
 
@@ -228,15 +228,15 @@ module _ {D : Type 0} (disks : Ghosts D) (mode : Mode) (s : HubSettings) (hub af
     wanted = wanted;
     asked = asked;
     log = log_on wanted closes.taken;
-    stays = subst (λ (f : List ℕ). recovered_lines f ≡ recovered_lines hub.header.items ++ kept hub.header.items (disks.seen disk)) (sym left'.same)
-        (subst (λ (f : List ℕ). recovered_lines (file_of disks after) ≡ recovered_lines hub.header.items ++ kept hub.header.items f) left.same closes.lines);
+    stays = subst (λ (f : List ℕ). recovered_lines f ≡ recovered_lines hub.header.items ++ lines_after_settings hub.header.items (disks.seen disk)) (sym left'.same)
+        (subst (λ (f : List ℕ). recovered_lines (file_of disks after) ≡ recovered_lines hub.header.items ++ lines_after_settings hub.header.items f) left.same closes.lines);
     spared = spared_on stays;
     journals = journals.items;
-    books = subst (λ (f : List ℕ). AreBooksAfter mode gone (kept hub.header.items f) journals.items) left.same
-        (subst (λ (m : Mode). AreBooksAfter m gone (kept hub.header.items (file_of disks hub)) journals.items) same_mode (closes.are gone has_gone_so));
+    books = subst (λ (f : List ℕ). AreBooksAfter mode gone (lines_after_settings hub.header.items f) journals.items) left.same
+        (subst (λ (m : Mode). AreBooksAfter m gone (lines_after_settings hub.header.items (file_of disks hub)) journals.items) same_mode (closes.are gone has_gone_so));
     next_is = ap (λ (u : HubSettings). header_from Two mode u journals.items)
-        (subst (λ (f : List ℕ). world_settings after.recorder.answers.runner.world ≡ (past_after mode gone (kept hub.header.items f)).settings) left.same
-        (subst (λ (m : Mode). world_settings after.recorder.answers.runner.world ≡ (past_after m gone (kept hub.header.items (file_of disks hub))).settings) same_mode (closes.settings gone has_gone_so)));
+        (subst (λ (f : List ℕ). world_settings after.recorder.answers.runner.world ≡ (past_after mode gone (lines_after_settings hub.header.items f)).settings) left.same
+        (subst (λ (m : Mode). world_settings after.recorder.answers.runner.world ≡ (past_after m gone (lines_after_settings hub.header.items (file_of disks hub))).settings) same_mode (closes.settings gone has_gone_so)));
   }
 
   -- no opening is left behind it
@@ -244,19 +244,19 @@ module _ {D : Type 0} (disks : Ghosts D) (mode : Mode) (s : HubSettings) (hub af
   no_opening_on wanted closes = record {
     wanted = wanted;
     log = log_on wanted closes.taken;
-    none = subst (λ (f : List ℕ). ¬ (HaveOpeningsLeft mode gone (kept hub.header.items f))) left.same
-        (subst (λ (m : Mode). ¬ (HaveOpeningsLeft m gone (kept hub.header.items (file_of disks hub)))) same_mode (closes.last refl gone has_gone_so));
+    none = subst (λ (f : List ℕ). ¬ (HaveOpeningsLeft mode gone (lines_after_settings hub.header.items f))) left.same
+        (subst (λ (m : Mode). ¬ (HaveOpeningsLeft m gone (lines_after_settings hub.header.items (file_of disks hub)))) same_mode (closes.last refl gone has_gone_so));
   }
 
   -- a log of version 2 was opened with its first lines
   pub begun_on : hub.version ≡ Two → OpensAgain disks None hub after → IsBegun hub.header.items (change_on disks disk disk')
   begun_on two opens =
-      let taken = subst (λ (v : Version). IsTaken v hub.header.items None None (file_of disks hub)) two opens.taken in
+      let taken = subst (λ (v : Version). IsLogTaken v hub.header.items None None (file_of disks hub)) two opens.taken in
       let intact = subst (λ (v : Version). IsIntact v (file_of disks after)) two opens.intact in
       record {
-        taken = subst (IsTaken Two hub.header.items None None) left.same taken;
-        lines = subst (λ (f : List ℕ). recovered_lines f ≡ recovered_lines hub.header.items ++ kept hub.header.items (disks.seen disk)) (sym left'.same)
-            (subst (λ (f : List ℕ). recovered_lines (file_of disks after) ≡ recovered_lines hub.header.items ++ kept hub.header.items f) left.same opens.lines);
+        taken = subst (IsLogTaken Two hub.header.items None None) left.same taken;
+        lines = subst (λ (f : List ℕ). recovered_lines f ≡ recovered_lines hub.header.items ++ lines_after_settings hub.header.items (disks.seen disk)) (sym left'.same)
+            (subst (λ (f : List ℕ). recovered_lines (file_of disks after) ≡ recovered_lines hub.header.items ++ lines_after_settings hub.header.items f) left.same opens.lines);
         intact = subst (IsIntact Two) (sym left'.same) intact;
         durable = λ file may. opens.settled.durable file (left'.crash file may) ∙ sym left'.same;
       }

@@ -16,7 +16,7 @@ use Rattle.inst_program.specs.Program.{AskForADrill, AskForAKeptRun, Checks, Don
 use Rattle.inst_program.specs.Program.Done.{Answered, Checked, Drilled, Kept}
 use Rattle.inst_program.specs.Program.Failed.{AtLines, Carrying, Drilling, Explaining, Keeping, Showing}
 use Rattle.inst_program.specs.Program.Refusal.{InUse, Uncarried, Unfit, Unnamed, Unscripted, Unshown, Untaken}
-use Rattle.inst_program.specs.inner.ExitReason.{status_of_ending, IsAnswered, IsUnanswered, IsUnchecked, IsUndone, IsUnexplained}
+use Rattle.inst_program.specs.inner.ExitReason.{status_of_ending, AreLinesAnswered, IsUnanswered, IsUnchecked, IsUndone, IsUnexplained}
 use Rattle.inst_program.specs.inner.Drilling.{IsUndrilled, IsWithoutAFile}
 use Rattle.inst_program.specs.declared.drilling.DrillTask.{DrillTask}
 use Rattle.inst_drill.specs.Plan.{MayDrill}
@@ -28,7 +28,7 @@ use Rattle.inst_program.proofs.Statuses.{no_settings, only_settings, two_is_not_
 module _ (words : List (List ℕ)) (t : Streams) (old new : Files) where
   -- lines were answered, with a log or without
   pub answered : (mode : Mode) (s : HubSettings) (log : Option LogOptions) → IsSettings s → AreWhole words → AreChosen words (task_of mode) s → GiveTheLog words log →
-      IsAnswered mode s log t old new → Done words t old new
+      AreLinesAnswered mode s log t old new → Done words t old new
   answered mode s None lawful whole chosen given is =
       Answered (record { mode = mode; settings = s; lawful = lawful; whole = whole; chosen = chosen; unkept = given; answers = is.0 }) is.1
   answered mode s (Some log) lawful whole chosen given keeps =

@@ -1,12 +1,12 @@
 -- The hub of the log of one name was closed, and the log of another name was begun, or wasn't.
 use Rattle.std.proofs.Common.{◌≡◌, ◌≢◌, inl, inr, ℕ, List, [], Option, None, IsTrue, refl, sym, subst}
 use Rattle.inst_chain.specs.declared.digest.Digest.{Digest}
-use Rattle.inst_logged.specs.Refused.{IsTaken}
+use Rattle.inst_logged.specs.Refused.{IsLogTaken}
 use Rattle.inst_logged.specs.declared.version.Version.TheVariants.{Two}
 use Rattle.inst_program.specs.Files.{AllButTwoStay, Change, Files, IfKept, IsAsItWas, IsUntouched, change_of}
 use Rattle.inst_program.specs.Keeping.{AsksFor, Carries, CarriesBooks, HasNoOpeningLeft, IsBegun, IsGoodToClose, IsSafe, IsSparedLog, IsUncarried, SparesBoth}
 use Rattle.inst_program.specs.Keeping.IsUncarried.{Bad, InUse, Last, Other}
-use Rattle.inst_program.specs.inner.Carrying.{IsUnbegun, IsUnclosed}
+use Rattle.inst_program.specs.inner.Carrying.{IsLogUnbegun, IsLogUnclosed}
 use Rattle.inst_program.specs.inner.Visiting.{IsSameChange, IsVisited}
 use Rattle.inst_program.proofs.Digests.{taken_same}
 use Rattle.inst_program.proofs.CausesOfUnclosedHub.{none_to_close}
@@ -57,7 +57,7 @@ module _ (from to : List ℕ) (apart : from ≢ to) (mixes : Type 0) (old a b : 
   }
 
   -- why the first isn't closed
-  pub uncarried_first : (digest : Option (List ℕ)) (wanted : Option Digest) → AsksFor digest wanted → IsUnclosed (b.in_use from) (IsTrue b.is_clean) wanted (a.bytes from)
+  pub uncarried_first : (digest : Option (List ℕ)) (wanted : Option Digest) → AsksFor digest wanted → IsLogUnclosed (b.in_use from) (IsTrue b.is_clean) wanted (a.bytes from)
       → IsUncarried from to digest old b
   uncarried_first digest wanted asked (inl used) = InUse (inl used)
   uncarried_first digest wanted asked (inr (inl bad)) = Bad (λ w asks is good.
@@ -85,11 +85,11 @@ module _ (from to : List ℕ) (apart : from ≢ to) (mixes : Type 0) (old a b : 
 
     -- why the second isn't begun
     module _ (digest : Option (List ℕ)) (next : List ℕ) (books : IfKept b (CarriesBooks digest mixes next (change_of a b from))) where
-      pub uncarried_second : IsUnbegun (c.in_use to) (IsTrue c.is_clean) next (b.bytes to) → IsUncarried from to digest old c
+      pub uncarried_second : IsLogUnbegun (c.in_use to) (IsTrue c.is_clean) next (b.bytes to) → IsUncarried from to digest old c
       uncarried_second (inl used) = InUse (inr used)
       uncarried_second (inr other) = Other next (λ is. (
         carries_books (change_of a b from) (change_of old c from) (from_change is) digest mixes old.mixes next more (books (second.clean is)),
-        λ taken. other is (subst (IsTaken Two next None None) (sym (to_so_far (second.clean is)).same) taken),
+        λ taken. other is (subst (IsLogTaken Two next None None) (sym (to_so_far (second.clean is)).same) taken),
       ))
 
     module _ (digest : Option (List ℕ)) (next : List ℕ) (books : IfKept b (CarriesBooks digest mixes next (change_of a b from))) where

@@ -83,7 +83,7 @@ pub record IsUntouched (old new : Files) : Type 0 where
 
 -- the file of this name was opened, as a disk that has these bytes, and of which a crash may leave
 -- this
-pub record IsOpened (old new : Files) (name bytes : List ℕ) (may_leave : List ℕ →
+pub record IsFileOpened (old new : Files) (name bytes : List ℕ) (may_leave : List ℕ →
     Type 0) : Type 0 where
   pub clean : IfKept new (IsTrue old.is_clean)
   pub all : Stay old new
@@ -92,7 +92,7 @@ pub record IsOpened (old new : Files) (name bytes : List ℕ) (may_leave : List 
   pub out : IfKept new (new.out ≡ Some name)
 
 -- it was closed, when its disk had these bytes, and a crash may leave this of it
-pub record IsClosed (old new : Files) (name bytes : List ℕ) (may_leave : List ℕ →
+pub record IsFileClosed (old new : Files) (name bytes : List ℕ) (may_leave : List ℕ →
     Type 0) : Type 0 where
   pub same : new.bytes name ≡ bytes
   pub crash : (file : List ℕ) → new.may_leave name file → may_leave file

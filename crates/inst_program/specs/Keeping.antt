@@ -10,10 +10,10 @@ use Rattle.sqlite_disk.specs.Disk.{Only}
 use Rattle.inst_settings.specs.Settings.{HubSettings}
 use Rattle.inst_journal.specs.History.{History}
 use Rattle.inst_world.specs.NextOpening.{CanOpenFrom}
-use Rattle.inst_lines.specs.Answering.{HubPast, opened}
+use Rattle.inst_lines.specs.Answering.{HubPast, new_past}
 use Rattle.inst_lines.specs.declared.mode.Mode.{Mode}
 use Rattle.inst_log.specs.Layout.{recovered_lines}
-use Rattle.inst_log.specs.Opening.{kept, Begins, OpensAlike, IsSameOrBegun}
+use Rattle.inst_log.specs.Opening.{lines_after_settings, Begins, OpensAlike, IsSameOrBegun}
 use Rattle.inst_chain.specs.Chain.{kept_said, said}
 use Rattle.inst_chain.specs.Summing.{HasFirst, IsSealedBy}
 use Rattle.inst_chain.specs.Verifying.{IsDamagedAfter}
@@ -27,7 +27,7 @@ use Rattle.inst_logged.specs.Header.{AreFirstLines, header, header_from}
 use Rattle.inst_logged.specs.Closing.{HaveOpeningsLeft}
 use Rattle.inst_logged.specs.Marking.{IsIntact}
 use Rattle.inst_logged.specs.Logged.{HasLogged, SurvivesACrash}
-use Rattle.inst_logged.specs.Refused.{HasWanted, IsTaken, OpensAs}
+use Rattle.inst_logged.specs.Refused.{HasWanted, IsLogTaken, OpensAs}
 use Rattle.inst_logged.specs.Streams.{Streams}
 use Rattle.inst_options.specs.declared.invocation.LogOptions.{LogOptions}
 use Rattle.inst_program.specs.Files.{Change, Files, change_of, AllButTwoStay, IfKept, IsAsItWas}
@@ -57,7 +57,7 @@ kept_run mode s log = record {
 -- these lines: it opened for the first time, or from books
 abbrev pub IsBeginning : Version → Mode → HubSettings → HubPast → List ℕ → Type 0
 IsBeginning version mode s past first =
-    ((past ≡ opened s) × (first ≡ header version mode s))
+    ((past ≡ new_past s) × (first ≡ header version mode s))
     ⊎ ((journals : List History) × CanOpenFrom s journals × (past ≡ opened_from s journals)
     × (first ≡ header_from version mode s journals))
 
@@ -76,7 +76,7 @@ pub record IsTakenFor (run : KeptRun) (file : List ℕ) (version : Version) (pas
   pub there : run.resume ≡ true → 0 < length (recovered_lines file)
   pub wanted : Option Digest
   pub asked : AsksFor run.digest wanted
-  pub taken : IsTaken version first run.told wanted file
+  pub taken : IsLogTaken version first run.told wanted file
 
 -- The file opens as the log of a hub of these settings that begins with these lines, and has a line
 -- if it must. A new log has marks and no books.
@@ -99,7 +99,7 @@ pub record IsGoodFor (run : KeptRun) (file : List ℕ) : Type 0 where
   pub log : IsLogFor run file version first
   pub wanted : Option Digest
   pub asked : AsksFor run.digest wanted
-  pub taken : IsTaken version first run.told wanted file
+  pub taken : IsLogTaken version first run.told wanted file
 
 -- if the file is a log for the run, it has this version and these first lines
 abbrev pub IsAtMost : KeptRun → List ℕ → Version → List ℕ → Type 0
@@ -222,7 +222,7 @@ pub record IsLogOfAHub (wanted : Option Digest) (file : List ℕ) : Type 0 where
   pub past : HubPast
   pub first : List ℕ
   pub begins : IsBeginning version mode settings past first
-  pub taken : IsTaken version first None wanted file
+  pub taken : IsLogTaken version first None wanted file
 
 -- the log of some hub was spared
 pub record IsSparedLog (mixes : Type 0) (c : Change) : Type 0 where
@@ -238,8 +238,8 @@ IsSafe mixes faith c = faith → IsAsItWas c ⊎ IsSparedLog mixes c
 -- in front, with the lines that were behind them; its marks are right, before and after; what was
 -- synced is what is read
 pub record IsBegun (first : List ℕ) (c : Change) : Type 0 where
-  pub taken : IsTaken Two first None None c.was
-  pub lines : recovered_lines c.now ≡ recovered_lines first ++ kept first c.was
+  pub taken : IsLogTaken Two first None None c.was
+  pub lines : recovered_lines c.now ≡ recovered_lines first ++ lines_after_settings first c.was
   pub intact : IsIntact Two c.now
   pub durable : Only c.now c.may_leave
 
@@ -252,12 +252,12 @@ pub record CarriesBooks (digest : Option (List ℕ)) (mixes : Type 0) (next : Li
   pub wanted : Option Digest
   pub asked : AsksFor digest wanted
   pub log : IsLogOfAHub wanted c.was
-  pub stays : recovered_lines c.now ≡ recovered_lines log.first ++ kept log.first c.was
+  pub stays : recovered_lines c.now ≡ recovered_lines log.first ++ lines_after_settings log.first c.was
   pub spared : IsSpared log.version log.first mixes c
   pub journals : List History
-  pub books : AreBooksAfter log.mode log.past (kept log.first c.was) journals
+  pub books : AreBooksAfter log.mode log.past (lines_after_settings log.first c.was) journals
   pub next_is : next
-      ≡ header_from Two log.mode (past_after log.mode log.past (kept log.first c.was)).settings
+      ≡ header_from Two log.mode (past_after log.mode log.past (lines_after_settings log.first c.was)).settings
       journals
 
 -- the log of this file is that of a hub, its marks are right, and it has the digest that is asked
@@ -269,13 +269,13 @@ pub record IsGoodToClose (wanted : Option Digest) (file : List ℕ) : Type 0 whe
   pub first : List ℕ
   pub lines : AreFirstLines version mode settings first
   pub begins : Begins first file
-  pub taken : IsTaken version first None wanted file
+  pub taken : IsLogTaken version first None wanted file
 
 -- the books of the hub of this log were opened from as often as they may be
 pub record HasNoOpeningLeft (file : List ℕ) : Type 0 where
   pub wanted : Option Digest
   pub log : IsLogOfAHub wanted file
-  pub none : ¬ (HaveOpeningsLeft log.mode log.past (kept log.first file))
+  pub none : ¬ (HaveOpeningsLeft log.mode log.past (lines_after_settings log.first file))
 
 -- the log of the second name begins with the books of the hub of the log of the first name, which
 -- has the lines that it had
@@ -302,5 +302,5 @@ pub data IsUncarried (from to : List ℕ) (digest : Option (List ℕ)) (old new 
   Last : IfKept new (HasNoOpeningLeft (old.bytes from)) → IsUncarried from to digest old new
   Other : (next : List ℕ) →
       IfKept new (CarriesBooks digest old.mixes next (change_of old new from)
-      × ¬ (IsTaken Two next None None (old.bytes to)))
+      × ¬ (IsLogTaken Two next None None (old.bytes to)))
       → IsUncarried from to digest old new

@@ -10,7 +10,7 @@ use Rattle.inst_base.specs.declared.fault.Fault.TheVariants.{BadSettings}
 use Rattle.inst_settings.specs.Settings.{HubSettings}
 use Rattle.inst_settings.specs.Lawful.{AreOfAHub, IsSettings}
 use Rattle.inst_lines.specs.Answers.{output}
-use Rattle.inst_lines.specs.Answering.{hub_answerer, opened}
+use Rattle.inst_lines.specs.Answering.{hub_answerer, new_past}
 use Rattle.inst_lines.specs.Check.{TellsPart, check_report}
 use Rattle.inst_lines.specs.Headline.{LinesKeepTheHeadline}
 use Rattle.inst_lines.specs.Lines.{lines_of}
@@ -20,7 +20,7 @@ use Rattle.inst_lines.specs.declared.mode.Mode.TheVariants as mode
 use Rattle.inst_drill.specs.declared.explaining.DrillResult.{DrillResult}
 use Rattle.inst_drill.specs.Plan.{MayDrill}
 use Rattle.inst_drill.specs.Drilled.{HasDrilledAll}
-use Rattle.inst_options.specs.AnyFault.{IsNamed, name_of, number_of}
+use Rattle.inst_options.specs.AnyFault.{IsNamed, any_fault_name, any_fault_number}
 use Rattle.inst_options.specs.declared.any_fault.AnyFault.{AnyFault}
 use Rattle.inst_options.specs.CommandLine.{command_line}
 use Rattle.inst_options.specs.Options.{HasAHub, Task}
@@ -76,13 +76,13 @@ task_of mode.Play = Play
 pub record AnswersInput (mode : Mode) (settings : HubSettings) (t : Streams) : Type 0 where
   pub at_end : IsAtEnd t.left'
   pub answered : IfSome t.left (λ bytes.
-      Appends t.held t.held' (output (hub_answerer mode) (opened settings) (lines_of bytes)))
+      Appends t.held t.held' (output (hub_answerer mode) (new_past settings) (lines_of bytes)))
   pub headline : IfSome t.left (λ bytes.
       LinesKeepTheHeadline (hub_answerer mode) settings (lines_of bytes))
 
 -- a hub of the settings that the words choose answered, as the words ask for, all that the reader
 -- had left, and wrote the replies alone; they name no log
-pub record Serves (words : List (List ℕ)) (t : Streams) : Type 0 where
+pub record ServesLines (words : List (List ℕ)) (t : Streams) : Type 0 where
   pub mode : Mode
   pub settings : HubSettings
   pub lawful : IsSettings settings
@@ -99,7 +99,7 @@ pub record Fails (words : List (List ℕ)) (t : Streams) (fault : Fault) : Type 
   pub whole : AreWhole words
   pub chosen : AreChosen words (task_of mode) settings
   pub unkept : NameNoLog words
-  pub after : FailsAfter (hub_answerer mode) (opened settings) t.held t.held' t.left t.left' fault
+  pub after : FailsAfter (hub_answerer mode) (new_past settings) t.held t.held' t.left t.left' fault
 
 -- all that the reader had left was read, and told of each of its lines that no hub of these
 -- settings takes, and that alone
@@ -199,7 +199,7 @@ explanation_text number name meaning advice =
 abbrev pub Explains : List ℕ → Option (List ℕ) → Option (List ℕ) → Type 0
 Explains word held held' =
     (fault : AnyFault) × (meaning : List ℕ) × (advice : List ℕ) × IsNamed word fault
-    × Appends held held' (explanation_text (number_of fault) (name_of fault) meaning advice)
+    × Appends held held' (explanation_text (any_fault_number fault) (any_fault_name fault) meaning advice)
 
 -- the words ask for the explanation of a fault that there is
 abbrev pub AskForAnExplanation : List (List ℕ) → Type 0
@@ -219,7 +219,7 @@ NameNoFault words =
 -- was drilled, it was told what a log has, the next one was made, a fault was explained, or help
 -- was given. Nothing else happened to a file.
 pub data Done (words : List (List ℕ)) (t : Streams) (old new : Files) : Type 0 where
-  Answered : Serves words t → Stay old new → Done words t old new
+  Answered : ServesLines words t → Stay old new → Done words t old new
   Kept : HasKept words t old new → Done words t old new
   Checked : HasChecked words t → Stay old new → Done words t old new
   Drilled : t.unread → HasDrilled words t old new → Done words t old new

@@ -10,7 +10,7 @@ ghost use Rattle.inst_logged.specs.declared.version.Version.TheVariants.{Two};
 ghost use Rattle.inst_program.specs.Files.{AllAreIn, IfKept, change_of, change_on};
 ghost use Rattle.inst_program.specs.Keeping.{AsksFor, Carries, CarriesBooks, IsBegun, IsSafe};
 ghost use Rattle.inst_program.specs.Keeping.{IsUncarried, SparesBoth};
-ghost use Rattle.inst_program.specs.inner.Carrying.{IsHubClosed, IsRead, IsUnbegun, IsUnclosed};
+ghost use Rattle.inst_program.specs.inner.Carrying.{IsHubClosed, IsReadAsLog, IsLogUnbegun, IsLogUnclosed};
 ghost use Rattle.inst_program.specs.inner.Carrying.{ReadsBeginning};
 ghost use Rattle.inst_program.specs.inner.ExitReason.{status_of_ending};
 ghost use Rattle.inst_program.specs.inner.Visiting.{IsVisited};
@@ -91,7 +91,7 @@ fn close<L: Logs, E: Write>(
         IsTrue (L.Log.Disk.is_mixing d)) (IsTrue (L.files logs.new).is_clean)
         (change_of (L.files logs.old) (L.files logs.new) from.now)) }
     ensures refused { IfErr result (λ ending. status_of_ending ending ≡ 2 →
-        IsUnclosed ((L.files logs.new).in_use from.now)
+        IsLogUnclosed ((L.files logs.new).in_use from.now)
         (IsTrue (L.files logs.new).is_clean) wanted ((L.files logs.old).bytes from.now)) }
     ensures visited { IsVisited (L.files logs.old) (L.files logs.new) from.now }
 {
@@ -130,7 +130,7 @@ fn close_hub<D: Disk + Drop, E: Write>(
     errors: &mut E,
 ) -> (Result<Closed, ExitReason>, D)
     requires opened { IsJustOpened D.Disk disk }
-    requires read { HasKeptFaith D.Disk disk → IsRead mode settings.now (D.Disk.seen disk) }
+    requires read { HasKeptFaith D.Disk disk → IsReadAsLog mode settings.now (D.Disk.seen disk) }
     ensures { IsHubClosed D.Disk wanted disk result.1 result.0 }
 {
     let hub = match NewHub::of_log(alloc, mode, settings, &mut disk) {
@@ -166,7 +166,7 @@ fn begin<L: Logs>(logs: &mut L, alloc: Global, closed: &Closed, to: &str) -> Res
         IsTrue (L.Log.Disk.is_mixing d)) (IsTrue (L.files logs.new).is_clean)
         (change_of (L.files logs.old) (L.files logs.new) to.now)) }
     ensures refused { IfErr result (λ ending. status_of_ending ending ≡ 2 →
-        IsUnbegun ((L.files logs.new).in_use to.now)
+        IsLogUnbegun ((L.files logs.new).in_use to.now)
         (IsTrue (L.files logs.new).is_clean)
         (header_from Two closed.now.mode (world_settings closed.now.runner.world)
         closed.now.journals.items)
@@ -201,7 +201,7 @@ fn begin_on<D: Disk + Drop>(
         IsTrue (D.Disk.is_mixing d)) (HasKeptFaith D.Disk result.1)
         (change_on D.Disk disk result.1)) }
     ensures refused { IfErr result.0 (λ ending. status_of_ending ending ≡ 2 →
-        IsUnbegun ⊥ (HasKeptFaith D.Disk result.1)
+        IsLogUnbegun ⊥ (HasKeptFaith D.Disk result.1)
         (header_from Two mode settings.now journals.now) (D.Disk.seen disk)) }
 {
     let Ok(hub) = NewHub::open_from(alloc, Version::Two, mode, settings, journals) else {

@@ -2,7 +2,7 @@
 ghost use Rattle.std.specs.Prelude.{◌≡◌, Some, false, [], List, ℕ, IsTrue, IfErr, IfOk};
 ghost use Rattle.std.specs.Prelude.{MatchResult};
 ghost use Rattle.sqlite_disk.specs.Disk.{Only};
-ghost use Rattle.inst_program.specs.Files.{AllAreIn, Files, IfKept, IsClosed, IsOpened};
+ghost use Rattle.inst_program.specs.Files.{AllAreIn, Files, IfKept, IsFileClosed, IsFileOpened};
 ghost use Rattle.inst_program.specs.Files.{IsUntouched};
 ghost use Rattle.inst_program.specs.Logs.{IsLogsError};
 
@@ -34,7 +34,7 @@ pub trait Logs {
     fn open(&mut self, path: &str) -> Result<Self::Log, LogsError>
         requires { AllAreIn (files self.old) }
         ensures opened { MatchResult result (λ log.
-            IsOpened (files self.old) (files self.new) path.now
+            IsFileOpened (files self.old) (files self.new) path.now
             (Self.Log.Disk.seen log) (Self.Log.Disk.may_leave log)) (λ _.
             IsUntouched (files self.old) (files self.new)) }
         ensures cause { IfErr result (IsLogsError ((files self.new).in_use path.now) ⊥) }
@@ -45,7 +45,7 @@ pub trait Logs {
     /// Closes the log that is open.
     fn close(&mut self, log: Self::Log)
         ensures closed { IfKept (files self.new) ((name : List ℕ) → (files self.old).out ≡ Some name
-            → IsClosed (files self.old) (files self.new) name (Self.Log.Disk.seen log)
+            → IsFileClosed (files self.old) (files self.new) name (Self.Log.Disk.seen log)
             (Self.Log.Disk.may_leave log)) }
         ensures clean { IfKept (files self.new) (IsTrue (files self.old).is_clean
             × IsTrue (Self.Log.Disk.is_clean log)) };

@@ -1,7 +1,7 @@
 //! What the program does with the words of its command line, and which exit status that comes to.
 ghost use Rattle.std.specs.Prelude.{◌≡◌, ◌≢◌, ◌⊎◌, ℕ, List, map, string_bytes, OnOk, IfErr};
 ghost use Rattle.std.specs.IoError.{error_kind};
-ghost use Rattle.inst_lines.specs.Answering.{hub_answerer, opened};
+ghost use Rattle.inst_lines.specs.Answering.{hub_answerer, new_past};
 ghost use Rattle.inst_lines.specs.Session.{FailsAfter};
 ghost use Rattle.inst_logged.specs.Streams.{streams};
 ghost use Rattle.inst_options.specs.Asking.{IsWished};
@@ -9,7 +9,7 @@ ghost use Rattle.inst_program.specs.Files.{AllAreIn};
 ghost use Rattle.inst_program.specs.Program.{status_of, AnswersInput, Checks, Done, Ends, Explains};
 ghost use Rattle.inst_program.specs.inner.ExitReason.{IsErrorStatus, status_of_error};
 ghost use Rattle.inst_program.specs.inner.ExitReason.{status_of_ending};
-ghost use Rattle.inst_program.specs.inner.ExitReason.{IsAnswered, IsUnanswered, IsUnchecked};
+ghost use Rattle.inst_program.specs.inner.ExitReason.{AreLinesAnswered, IsUnanswered, IsUnchecked};
 ghost use Rattle.inst_program.specs.inner.ExitReason.{IsUndone, IsUnexplained};
 
 use crate::carrying::next;
@@ -256,7 +256,7 @@ fn answer<L: Logs, R: Read, W: Write, E: Write>(
     errors: &mut E,
 ) -> Result<(), ExitReason>
     requires none_out { AllAreIn (L.files logs.old) }
-    ensures ok { OnOk result (IsAnswered mode settings.now log.entry
+    ensures ok { OnOk result (AreLinesAnswered mode settings.now log.entry
         (streams R.Read W.Write reader.old reader.new writer.old writer.new) (L.files logs.old)
         (L.files logs.new)) }
     ensures err { IfErr result (IsUnanswered mode settings.now log.entry
@@ -287,7 +287,7 @@ fn answer_unkept<R: Read, W: Write, E: Write>(
 ) -> Result<(), Fault>
     ensures ok { OnOk result (AnswersInput mode settings.now
         (streams R.Read W.Write reader.old reader.new writer.old writer.new)) }
-    ensures err { IfErr result (FailsAfter (hub_answerer mode) (opened settings.now)
+    ensures err { IfErr result (FailsAfter (hub_answerer mode) (new_past settings.now)
         (W.contents writer.old) (W.contents writer.new) (R.remaining reader.old)
         (R.remaining reader.new)) }
 {

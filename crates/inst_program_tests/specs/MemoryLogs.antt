@@ -18,9 +18,9 @@ which_of name =
     (cond (bytes_eq name (codes "b")) (Some Second) None)
 
 -- its name
-abbrev pub name_of : Which → List ℕ
-name_of First = codes "a"
-name_of Second = codes "b"
+abbrev pub log_name : Which → List ℕ
+log_name First = codes "a"
+log_name Second = codes "b"
 
 -- which of the two it is
 abbrev pub file_at : MemoryFile → MemoryFile → Which → MemoryFile
@@ -35,7 +35,7 @@ memory_files disks first second out =
     record {
       bytes = λ name. option_map_or (λ file. disks.seen file.disk) (file_of name) [];
       may_leave = λ name left. IfSome (file_of name) (λ file. disks.may_leave file.disk left);
-      out = option_map name_of out;
+      out = option_map log_name out;
       mixes = (log : Fuse Memory) → IsTrue (disks.is_mixing log);
       in_use = λ name. ⊥;
       is_clean = true;

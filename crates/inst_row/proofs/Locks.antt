@@ -15,7 +15,7 @@ use Rattle.atomic_table.proofs.Lists.{at_set, at_snoc, set_here, set_else, set_a
 use Rattle.inst_row.specs.declared.view.Front.{Front}
 use Rattle.inst_row.specs.declared.view.View.{View}
 use Rattle.inst_row.specs.Place.{place}
-use Rattle.inst_row.specs.View.{front, count, held, fronts_of, first_view, took, fronts_below, gave, informed_row_view, left_of, parts, united_row_view, nobody}
+use Rattle.inst_row.specs.View.{front, fronts_at, seats_with_lock, fronts_of, first_row_view, took, fronts_below, gave, informed_row_view, left_of, parts, united_row_view, nobody}
 use Rattle.inst_row.specs.Rule.{Guarded, IsSeen, takers}
 use Rattle.inst_row.specs.Steps.{takes_lock, gives_lock, tells_nothing}
 use Rattle.inst_row.proofs.SeenHistoryStaysSeen.{seen_set, seen_told, seen_united, seen_here, first_seen}
@@ -65,7 +65,7 @@ at_one p q e = ap (λ (b : Bool). cond b 1 0) (eq-eqb p q e)
 at_zero : (p q : ℕ) → q ≢ p → is_at p q ≡ 0
 at_zero p q ne = ap (λ (b : Bool). cond b 1 0) (ne_eqb p q (λ e. ne (sym e)))
 
-counts_in : {E : Type 0} (p : ℕ) (ms : List (Front E)) (m : Front E) → Contains ms m → m.lock ≡ p → 0 < count p ms
+counts_in : {E : Type 0} (p : ℕ) (ms : List (Front E)) (m : Front E) → Contains ms m → m.lock ≡ p → 0 < fronts_at p ms
 counts_in p [] m c e = let z = c.1 in absurd (omega arith)
 counts_in {E} p (x ∷ xs) m c e = ⊎_elim
     (λ here. let one : is_at x.lock p ≡ 1 = at_one x.lock p (ap (λ (z : Front E). z.lock) here ∙ e) in omega arith)
@@ -137,14 +137,14 @@ module _ {T E K : Type 0} (law : K → ℕ → T → Type 0) (history : T → Li
     takes_it m set_to me s r part wide at free x is =
         let w : View E K = took me.0 p (history x) in
         let sized = r.sized in let long : place p < length s.words = omega arith in
-        let adds : (q : ℕ) → held q (set s.views id w) + count q me.0.held ≡ held q s.views + (is_at p q + count q me.0.held) = λ q. held-set q s.views id me.0 w at in
+        let adds : (q : ℕ) → seats_with_lock q (set s.views id w) + fronts_at q me.0.held ≡ seats_with_lock q s.views + (is_at p q + fronts_at q me.0.held) = λ q. held-set q s.views id me.0 w at in
         record {
           latest = r.latest;
           sized = length-set s.homes (place p) none ∙ (r.sized ∙ sym (length-set s.words (place p) m));
-          counted = λ q. word_by s.words p m long (λ n. held q (set s.views id w) ≡ takers n) q
-              (λ e. let a = adds q in let old : held q s.views ≡ 0 = r.counted q ∙ ap takers (ap (λ i. get_or s.words (place i) 0) e ∙ free) in
+          counted = λ q. word_by s.words p m long (λ n. seats_with_lock q (set s.views id w) ≡ takers n) q
+              (λ e. let a = adds q in let old : seats_with_lock q s.views ≡ 0 = r.counted q ∙ ap takers (ap (λ i. get_or s.words (place i) 0) e ∙ free) in
               let one : is_at p q ≡ 1 = at_one p q (sym e) in let now : takers m ≡ 1 = one_taker m set_to in omega arith)
-              (λ ne. let a = adds q in let old : held q s.views ≡ takers (get_or s.words (place q) 0) = r.counted q in
+              (λ ne. let a = adds q in let old : seats_with_lock q s.views ≡ takers (get_or s.words (place q) 0) = r.counted q in
               let none_more : is_at p q ≡ 0 = at_zero p q ne in omega arith);
           home = λ q below. word_by s.words p m long (λ n. n ≡ 0 → (y : T) × (get_elem? (set s.homes (place p) none) (place q) ≡ some (some (Some y))) × law key q y × (history y ≡ r.latest q)) q
               (λ e z. absurd (omega arith))
@@ -177,12 +177,12 @@ module _ {T E K : Type 0} (law : K → ℕ → T → Type 0) (history : T → Li
         let latest : ℕ → List E = λ q. cond (eqb q p) (history y) (r.latest q) in
         let latest_here : (q : ℕ) → q ≡ p → latest q ≡ history y = λ q e. ap (λ (b : Bool). cond b (history y) (r.latest q)) (eq-eqb q p e) in
         let latest_else : (q : ℕ) → q ≢ p → latest q ≡ r.latest q = λ q ne. ap (λ (b : Bool). cond b (history y) (r.latest q)) (ne_eqb q p ne) in
-        let before : (q : ℕ) → count q v.held ≡ is_at p q + count q hs = λ q. ap (λ (l : List (Front E)). count q l) mine in
-        let after : (q : ℕ) → count q w.held ≡ count q hs = λ q. ap (λ (l : List (Front E)). count q (fronts_below l)) mine in
-        let adds : (q : ℕ) → held q views + count q v.held ≡ held q s.views + count q w.held = λ q. held-set q s.views id v w at in
+        let before : (q : ℕ) → fronts_at q v.held ≡ is_at p q + fronts_at q hs = λ q. ap (λ (l : List (Front E)). fronts_at q l) mine in
+        let after : (q : ℕ) → fronts_at q w.held ≡ fronts_at q hs = λ q. ap (λ (l : List (Front E)). fronts_at q (fronts_below l)) mine in
+        let adds : (q : ℕ) → seats_with_lock q views + fronts_at q v.held ≡ seats_with_lock q s.views + fronts_at q w.held = λ q. held-set q s.views id v w at in
         let found : h ≡ r.latest p = r.mine id v at (front p h) (subst (λ (l : List (Front E)). Contains l (front p h)) (sym mine) (0, omega arith, refl)) in
         let mine_one : is_at p p ≡ 1 = at_one p p refl in
-        let free : held p views ≡ 0 = (let a = adds p in let b = before p in let c = after p in let d : held p s.views ≡ takers (get_or s.words (place p) 0) = r.counted p in let f = most_takers (get_or s.words (place p) 0) in omega arith) in
+        let free : seats_with_lock p views ≡ 0 = (let a = adds p in let b = before p in let c = after p in let d : seats_with_lock p s.views ≡ takers (get_or s.words (place p) 0) = r.counted p in let f = most_takers (get_or s.words (place p) 0) in omega arith) in
         let part : 0 < v.parts = positive v.parts (λ z. let none : v.held ≡ [] = r.holder id v at z in let no : ⊥ = cc in no) in
         let not_p : (i : ℕ) (u : View E K) → get_elem? views i ≡ some u → (m : Front E) → Contains u.held m → m.lock ≢ p =
         λ i u e m c is. (let one = held_one p views i u e in let more = counts_in p u.held m c is in absurd (omega arith)) in
@@ -194,9 +194,9 @@ module _ {T E K : Type 0} (law : K → ℕ → T → Type 0) (history : T → Li
         record {
           latest = latest;
           sized = length-set s.homes (place p) (some (Some y)) ∙ (r.sized ∙ sym (length-set s.words (place p) 0));
-          counted = λ q. word_by s.words p 0 long (λ n. held q views ≡ takers n) q
-              (λ e. ap (λ i. held i views) e ∙ free)
-              (λ ne. let a = adds q in let b = before q in let c = after q in let old : held q s.views ≡ takers (get_or s.words (place q) 0) = r.counted q in
+          counted = λ q. word_by s.words p 0 long (λ n. seats_with_lock q views ≡ takers n) q
+              (λ e. ap (λ i. seats_with_lock i views) e ∙ free)
+              (λ ne. let a = adds q in let b = before q in let c = after q in let old : seats_with_lock q s.views ≡ takers (get_or s.words (place q) 0) = r.counted q in
               let none_more : is_at p q ≡ 0 = at_zero p q ne in omega arith);
           home = λ q below. word_by s.words p 0 long (λ n. n ≡ 0 → (x : T) × (get_elem? (set s.homes (place p) (some (Some y))) (place q) ≡ some (some (Some x))) × law key q x × (history x ≡ latest q)) q
               (λ e z. (y, ap (λ i. get_elem? (set s.homes (place p) (some (Some y))) (place i)) e ∙ set_here s.homes (place p) (some (Some y)) (omega arith), subst (λ i. law key i y) (sym e) lawful, sym (latest_here q e)))
@@ -228,7 +228,7 @@ module _ {T E K : Type 0} (law : K → ℕ → T → Type 0) (history : T → Li
         subst (λ (l : List (View E K)). G record { words = set s.words (place p) m; homes = s.homes; views = l }) (sym (set_again s.views id v at)) record {
           latest = r.latest;
           sized = r.sized ∙ sym (length-set s.words (place p) m);
-          counted = λ q. word_by s.words p m long (λ n. held q s.views ≡ takers n) q (λ e. r.counted q ∙ here q e) (λ ne. r.counted q);
+          counted = λ q. word_by s.words p m long (λ n. seats_with_lock q s.views ≡ takers n) q (λ e. r.counted q ∙ here q e) (λ ne. r.counted q);
           home = λ q below. word_by s.words p m long (λ n. n ≡ 0 → (y : T) × (get_elem? s.homes (place q) ≡ some (some (Some y))) × law key q y × (history y ≡ r.latest q)) q
               (λ e z. r.home q (subst (λ n. place q < n) (length-set s.words (place p) m) below) (is_free _ (here q e ∙ ap takers z)))
               (λ ne z. r.home q (subst (λ n. place q < n) (length-set s.words (place p) m) below) z);
@@ -296,7 +296,7 @@ module _ {T E K : Type 0} (law : K → ℕ → T → Type 0) (history : T → Li
       record {
         latest = r.latest;
         sized = r.sized;
-        counted = λ q. let a = held-snoc q (set s.views id (left_of v)) (informed_row_view v) in let b = held-set q s.views id v (left_of v) at in let c : held q s.views ≡ takers (get_or s.words (place q) 0) = r.counted q in omega arith;
+        counted = λ q. let a = held-snoc q (set s.views id (left_of v)) (informed_row_view v) in let b = held-set q s.views id v (left_of v) at in let c : seats_with_lock q s.views ≡ takers (get_or s.words (place q) 0) = r.counted q in omega arith;
         home = r.home;
         seen = λ q below z. seen_told s.views id v q (r.latest q) at (r.seen q below z);
         known = each (λ u. (m : Front E) → Contains u.fronts m → IsPrefix m.history (r.latest m.lock)) (r.known id v at) (r.known id v at) r.known;
@@ -316,7 +316,7 @@ module _ {T E K : Type 0} (law : K → ℕ → T → Type 0) (history : T → Li
         latest = r.latest;
         sized = r.sized;
         counted = λ q. let a = held-set q s.views id v both at in let b = held-set q (set s.views id both) other w nobody at' in let e = count-append q v.held w.held in
-            let c : held q s.views ≡ takers (get_or s.words (place q) 0) = r.counted q in omega arith;
+            let c : seats_with_lock q s.views ≡ takers (get_or s.words (place q) 0) = r.counted q in omega arith;
         home = r.home;
         seen = λ q below z. seen_united s.views id other v w q (r.latest q) ne at at' (r.seen q below z);
         known = each (λ u. (m : Front E) → Contains u.fronts m → IsPrefix m.history (r.latest m.lock))
@@ -359,10 +359,10 @@ module _ {T E K : Type 0} (law : K → ℕ → T → Type 0) (history : T → Li
 
   starts : (words : List ℕ) (slots xs : List (Option T)) → length words ≡ place (length xs) → length slots ≡ length words → ((k : ℕ) → get_or words k 0 ≡ 0)
       → ((k : ℕ) → k < length xs → get_or slots (place k) None ≡ get_or xs k None) → ((k : ℕ) → k < length xs → (x : T) × (slice_get xs k ≡ Some (Some x)) × law key k x)
-      → G (opening words slots (first_view history key xs))
+      → G (opening words slots (first_row_view history key xs))
   unfolding start_of
   starts words slots xs long same zeros lie all =
-      let first : View E K = first_view history key xs in
+      let first : View E K = first_row_view history key xs in
       let only : (P : View E K → Type 0) → P first → (i : ℕ) (u : View E K) → get_elem? (first ∷ []) i ≡ some u → P u = λ P h i u e. subst P (only_one first u i e) h in
       record {
         latest = λ q. start_of (slice_get xs q);
@@ -385,15 +385,15 @@ module _ {T E K : Type 0} (law : K → ℕ → T → Type 0) (history : T → Li
 
   pub starts_with : (words : List ℕ) (slots xs ys : List (Option T)) → ys ≡ xs → length words ≡ place (length xs) → length slots ≡ length words → ((k : ℕ) → get_or words k 0 ≡ 0)
       → ((k : ℕ) → k < length xs → get_or slots (place k) None ≡ get_or xs k None) → ((k : ℕ) → k < length xs → (x : T) × (slice_get xs k ≡ Some (Some x)) × law key k x)
-      → G (opening words slots (first_view history key ys))
-  starts_with words slots xs ys e long same zeros lie all = subst (λ (zs : List (Option T)). G (opening words slots (first_view history key zs))) (sym e) (starts words slots xs long same zeros lie all)
+      → G (opening words slots (first_row_view history key ys))
+  starts_with words slots xs ys e long same zeros lie all = subst (λ (zs : List (Option T)). G (opening words slots (first_row_view history key zs))) (sym e) (starts words slots xs long same zeros lie all)
 
   -- who has all parts, and no lock, knows that each value is at home, with a history that it has seen
   pub all_home : (s : St) (r : G s) (id : ℕ) (v : View E K) → get_elem? s.views id ≡ some v → v.parts ≡ 16 → v.held ≡ []
       → (p : ℕ) → place p < length s.words → (x : T) × (get_elem? s.homes (place p) ≡ some (some (Some x))) × law key p x × ((h : List E) → Contains v.fronts (front p h) → IsPrefix h (history x)) × Contains v.fronts (front p (history x))
   all_home s r id v at all idle p below =
       let dealt : parts s.views ≡ 16 = r.dealt in
-      let none : held p s.views ≡ 0 = none_held p s.views (λ i u e. dite (ℕ_discrete i id)
+      let none : seats_with_lock p s.views ≡ 0 = none_held p s.views (λ i u e. dite (ℕ_discrete i id)
       (λ same. (let is : v ≡ u = some-injective v u (sym at ∙ (ap (get_elem? s.views) (sym same) ∙ e)) in subst (λ (z : View E K). z.held ≡ []) is idle))
       (λ other. r.holder i u e (let two = parts_two s.views id i v u at e other in omega arith))) in
       let free = is_free _ (sym (r.counted p) ∙ none) in

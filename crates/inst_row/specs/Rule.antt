@@ -9,7 +9,7 @@ use Rattle.atomic_table.specs.Table.{State}
 use Rattle.inst_row.specs.declared.view.Front.{Front}
 use Rattle.inst_row.specs.declared.view.View.{View}
 use Rattle.inst_row.specs.Place.{place}
-use Rattle.inst_row.specs.View.{front, held, parts}
+use Rattle.inst_row.specs.View.{front, seats_with_lock, parts}
 use Rattle.inst_row.specs.declared.row.TheConstants.{MOST_SEATS}
 
 -- how many seats have a lock whose word is this: it is free at 0, and else one has it, at 2 while
@@ -40,7 +40,7 @@ pub record Guarded {T E K : Type 0} (law : K → ℕ → T → Type 0) (history 
     (s : State (Option T) (View E K)) : Type 0 where
   pub latest : ℕ → List E
   pub sized : length s.homes ≡ length s.words
-  pub counted : (p : ℕ) → held p s.views ≡ takers (slice_index s.words (place p))
+  pub counted : (p : ℕ) → seats_with_lock p s.views ≡ takers (slice_index s.words (place p))
   pub home : (p : ℕ) → place p < length s.words → slice_index s.words (place p) ≡ 0 →
       (x : T) × (get_elem? s.homes (place p) ≡ some (some (Some x))) × law key p x
       × (history x ≡ latest p)

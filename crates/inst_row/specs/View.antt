@@ -10,14 +10,14 @@ abbrev pub front : {E : Type 0} → ℕ → List E → Front E
 front p h = record { lock = p; history = h }
 
 -- how often the lock p is among these
-abbrev pub count : {E : Type 0} → ℕ → List (Front E) → ℕ
-count p [] = 0
-count p (f ∷ fs) = cond (f.lock == p) 1 0 + count p fs
+abbrev pub fronts_at : {E : Type 0} → ℕ → List (Front E) → ℕ
+fronts_at p [] = 0
+fronts_at p (f ∷ fs) = cond (f.lock == p) 1 0 + fronts_at p fs
 
 -- how many seats have the lock p
-abbrev pub held : {E K : Type 0} → ℕ → List (View E K) → ℕ
-held p [] = 0
-held p (v ∷ vs) = count p v.held + held p vs
+abbrev pub seats_with_lock : {E K : Type 0} → ℕ → List (View E K) → ℕ
+seats_with_lock p [] = 0
+seats_with_lock p (v ∷ vs) = fronts_at p v.held + seats_with_lock p vs
 
 -- the parts of all seats
 abbrev pub parts : {E K : Type 0} → List (View E K) → ℕ
@@ -35,8 +35,8 @@ fronts_of history p (None ∷ xs) = fronts_of history (suc p) xs
 fronts_of history p (Some x ∷ xs) = front p (history x) ∷ fronts_of history (suc p) xs
 
 -- the first seat has all parts, and has seen the history of each value
-abbrev pub first_view : {T E K : Type 0} → (T → List E) → K → List (Option T) → View E K
-first_view history key values =
+abbrev pub first_row_view : {T E K : Type 0} → (T → List E) → K → List (Option T) → View E K
+first_row_view history key values =
     record { about = Some key; parts = MOST_SEATS; held = []; fronts = fronts_of history 0 values }
 
 module _ {E K : Type 0} where

@@ -13,7 +13,7 @@ pub struct Guarding<L> {
 
 impl<T, E, K, L: Lawful<T, E, K>> TableRule<Option<T>, View<E, K>, RowStart<T, K>> for Guarding<L> {
     ghost use Rattle.inst_row.specs.Rule.{Guarded};
-    ghost use Rattle.inst_row.specs.View.{first_view};
+    ghost use Rattle.inst_row.specs.View.{first_row_view};
 
     ghost holds = { λ key s. Guarded L.law L.history key.about.value s };
 

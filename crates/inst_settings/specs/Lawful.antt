@@ -22,8 +22,8 @@ settings_with codes places fundings limit margin ahead ceiling base = record {
 }
 
 -- the settings of these participants with these numbers, and the numbers of settings
-abbrev pub settings_of : List (List ℕ) → HubParameters → HubSettings
-settings_of codes n =
+abbrev pub settings_from : List (List ℕ) → HubParameters → HubSettings
+settings_from codes n =
     settings_with codes n.places n.fundings n.limit n.margin n.ahead n.ceiling n.base
 
 abbrev pub numbers_of : HubSettings → HubParameters

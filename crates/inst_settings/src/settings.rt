@@ -30,29 +30,29 @@ pub struct Settings {
 
 impl Model for Settings {
     ghost use Rattle.inst_settings.specs.Settings.{HubSettings};
-    ghost use Rattle.inst_settings.specs.Lawful.{IsSettings, settings_of};
+    ghost use Rattle.inst_settings.specs.Lawful.{IsSettings, settings_from};
     ghost use Rattle.inst_settings.specs.Finder.{TellsAll};
 
     ghost Value = { HubSettings };
 
     ghost view = { λ s. settings_of s.codes.items s.numbers };
 
-    ghost invariant = { λ s. IsSettings (settings_of s.codes.items s.numbers)
+    ghost invariant = { λ s. IsSettings (settings_from s.codes.items s.numbers)
         × TellsAll s.codes.items s.finder.table };
 }
 
 impl Settings {
     ghost use Rattle.inst_settings.specs.Settings.{participants, is_participant, is_within_ceiling};
     ghost use Rattle.inst_settings.specs.Codes.{index_of};
-    ghost use Rattle.inst_settings.specs.Lawful.{IsSettings, numbers_of, settings_of};
+    ghost use Rattle.inst_settings.specs.Lawful.{IsSettings, numbers_of, settings_from};
 
     /// The settings with these numbers, or `BadSettings` where one is outside its range or a code
     /// stands twice: 1 to 256 participants, 1 to 1,024 places and fundings, a `limit` of 1 to
     /// 3,600,000 ms, a `margin` below it, an `ahead` of at most 60,000 ms, a `ceiling` of 1 to
     /// 99,999,999,999 cents and a `base` of at most 2^62 ms. The codes are compared each with each.
     pub fn check(codes: Vec<Code>, numbers: HubParameters) -> Result<Settings, Fault>
-        ensures ok { IfOk result (λ s. IsSettings s × (s ≡ settings_of codes.items numbers)) }
-        ensures err { OnErr result (¬ IsSettings (settings_of codes.items numbers)) }
+        ensures ok { IfOk result (λ s. IsSettings s × (s ≡ settings_from codes.items numbers)) }
+        ensures err { OnErr result (¬ IsSettings (settings_from codes.items numbers)) }
         ensures only { IsOkUnless result Fault.BadSettings }
     {
         let HubParameters {

@@ -12,10 +12,10 @@ use Rattle.inst_board.specs.declared.about.Fact.{Fact}
 use Rattle.inst_journal.specs.declared.event.Event.{Event}
 use Rattle.inst_journal.specs.declared.event.Event.TheVariants.{Booked}
 use Rattle.inst_journal.specs.Booked.{is_forwarded}
-use Rattle.inst_journal.specs.Reply.{standing, told, kept_event, kept_events}
+use Rattle.inst_journal.specs.Reply.{state_reply, reply_result, kept_event, kept_events}
 use Rattle.inst_journal.specs.Sound.{IsSound, Fits}
 use Rattle.inst_journal.proofs.OwnBookings.{own_unforwarded}
-use Rattle.inst_ledger.specs.Book.{Book as Kept, BookAndRoom}
+use Rattle.inst_ledger.specs.Book.{LedgerBook as Kept, BookAndRoom}
 use Rattle.inst_slot.specs.declared.arrival.Arrival.{Arrival}
 use Rattle.inst_slot.specs.declared.answering.Request.{Request}
 use Rattle.inst_slot.specs.inner.Answering.{book_with_arrivals, decided_id, is_expiry, pending_for, IsAsking, IsOwnAt}
@@ -41,18 +41,18 @@ module _ {B : Type 0} (settings : B → HubSettings) (knows : B → Fact → Typ
 
   -- it is answered so, and this is kept
   pub settled_so : (margin : ℕ) (stood : B → Place → Outcome → Type 0) (stays : B → B → Type 0) (c : B) (found : Option Outcome) (result : Result Reply Fault) (new : Kept)
-      → result ≡ told (standing r.found.from r.found.id (pending_for r.wish r.found.from r.found.id) None found)
+      → result ≡ reply_result (state_reply r.found.from r.found.id (pending_for r.wish r.found.from r.found.id) None found)
       → new ≡ record l.book { events = l.book.events ++ kept_event (booking r.found.from r.found.id found) }
       → Finds margin knows has_role stood stays b r.place r.wish ask.at found c → (after : Book) → after ≡ book_with_arrivals new A
       → Settles margin knows has_role stood stays b (book_with_arrivals l.book A) ask r.place r.wish result c after
   settled_so margin stood stays c found result new answer kept f after is =
       let a = asked settings knows has_role b (book_with_arrivals l.book A) ask.command (r.place, r.wish) was asking.is in
-      let whole : handle_ask (book_with_arrivals l.book A) ask found ≡ standing r.found.from r.found.id (pending_for r.wish r.found.from r.found.id) None found =
-      a.answered ask.at found ∙ ap (λ (i : List ℕ). standing r.place.owner i (pending_for r.wish r.place.owner i) None found) same_id
-      ∙ ap (λ (n : ℕ). standing n r.found.id (pending_for r.wish n r.found.id) None found) (sym asking.owner) in
+      let whole : handle_ask (book_with_arrivals l.book A) ask found ≡ state_reply r.found.from r.found.id (pending_for r.wish r.found.from r.found.id) None found =
+      a.answered ask.at found ∙ ap (λ (i : List ℕ). state_reply r.place.owner i (pending_for r.wish r.place.owner i) None found) same_id
+      ∙ ap (λ (n : ℕ). state_reply n r.found.id (pending_for r.wish n r.found.id) None found) (sym asking.owner) in
       let events : kept_events (handle_ask (book_with_arrivals l.book A) ask found) ≡ kept_event (booking r.found.from r.found.id found) =
       a.kept ask.at found ∙ ap (λ (i : List ℕ). kept_event (booking r.place.owner i found)) same_id ∙ ap (λ (n : ℕ). kept_event (booking n r.found.id found)) (sym asking.owner) in
-      inl (found, answer ∙ sym (ap told whole), is ∙ ap (λ (x : Kept). book_with_arrivals x A) kept ∙ ap (λ (K : List Event). book_with_arrivals (record l.book { events = l.book.events ++ K }) A) (sym events), f)
+      inl (found, answer ∙ sym (ap reply_result whole), is ∙ ap (λ (x : Kept). book_with_arrivals x A) kept ∙ ap (λ (K : List Event). book_with_arrivals (record l.book { events = l.book.events ++ K }) A) (sym events), f)
 
   -- where it is the participant's own, it lies at the place that is asked for
   pub settle_own : IsSound l.book.settings l.book.who l.book.events → r.found.from ≡ l.book.who → IsOwnAt l.book r.found.id (place_at r.found.from r.place.index)

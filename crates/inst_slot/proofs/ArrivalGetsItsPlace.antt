@@ -22,9 +22,9 @@ use Rattle.inst_journal.specs.Reply.{inbox}
 use Rattle.inst_journal.specs.Sound.{IsSound}
 use Rattle.inst_journal.proofs.KeyOnce.{forwarded_once}
 use Rattle.inst_slot.specs.declared.arrival.Arrival.{Arrival}
-use Rattle.inst_slot.specs.Book.{Book, place_at, terms_to, live_inbox, index_of, arrived_at}
+use Rattle.inst_slot.specs.Book.{Book, place_at, terms_to, live_inbox, arrival_index, arrived_at}
 use Rattle.inst_slot.specs.LawfulBoard.{IsLawfulBoard, AllAreAdopted}
-use Rattle.inst_slot.specs.Opening.{is_of, is_unfound, awaits, found_at, with_found}
+use Rattle.inst_slot.specs.Opening.{is_arrival_of, is_unfound, awaits, arrival_found_at, with_found}
 
 -- how often a transfer is forwarded, and arrives
 abbrev names : ℕ → List ℕ → Entry → Bool
@@ -33,12 +33,12 @@ names from id e = same_transfer from id e.from e.id
 pub step : {X : Type 0} (p : X → Bool) (x : X) (xs : List X) → count_by p (x ∷ xs) ≡ cond (p x) 1 0 + count_by p xs
 step p x xs = sum_by-cons (λ y. cond (p y) 1 0) x xs
 
-arrivals_named : (from : ℕ) (id : List ℕ) (A : List Arrival) → count_by (is_of from id) A ≡ count_by (names from id) (map (λ (x : Arrival). x.entry) A)
+arrivals_named : (from : ℕ) (id : List ℕ) (A : List Arrival) → count_by (is_arrival_of from id) A ≡ count_by (names from id) (map (λ (x : Arrival). x.entry) A)
 arrivals_named from id [] = refl
 arrivals_named from id (x ∷ A) =
     let E : List Entry = map (λ (y : Arrival). y.entry) A in
-    let first : count_by (is_of from id) (x ∷ A) ≡ cond (is_of from id x) 1 0 + count_by (is_of from id) A = step (is_of from id) x A in
-    let second : count_by (names from id) (x.entry ∷ E) ≡ cond (is_of from id x) 1 0 + count_by (names from id) E = step (names from id) x.entry E in
+    let first : count_by (is_arrival_of from id) (x ∷ A) ≡ cond (is_arrival_of from id x) 1 0 + count_by (is_arrival_of from id) A = step (is_arrival_of from id) x A in
+    let second : count_by (names from id) (x.entry ∷ E) ≡ cond (is_arrival_of from id x) 1 0 + count_by (names from id) E = step (names from id) x.entry E in
     omega (arith, first, second, arrivals_named from id A)
 
 kept_at_most : {X : Type 0} (p q : X → Bool) (x : X) (xs : List X) (b : Bool) → q x ≡ b → count_by p (filter q xs) ≤ count_by p xs → count_by p (cond b (x ∷ filter q xs) (filter q xs)) ≤ cond (p x) 1 0 + count_by p xs
@@ -64,9 +64,9 @@ inbox_named from id (Fetched n ∷ J) = omega (arith, step (forwards from id) (F
 inbox_named from id (Opened ∷ J) = omega (arith, step (forwards from id) Opened J, inbox_named from id J)
 
 -- a transfer arrives once
-pub arrives_once : (s : HubSettings) (who : ℕ) (J : List Event) (A : List Arrival) (from : ℕ) (id : List ℕ) → IsSound s who J → map (λ (x : Arrival). x.entry) A ≡ live_inbox J → count_by (is_of from id) A ≤ 1
+pub arrives_once : (s : HubSettings) (who : ℕ) (J : List Event) (A : List Arrival) (from : ℕ) (id : List ℕ) → IsSound s who J → map (λ (x : Arrival). x.entry) A ≡ live_inbox J → count_by (is_arrival_of from id) A ≤ 1
 arrives_once s who J A from id sound arrived =
-    let same : count_by (is_of from id) A ≡ count_by (names from id) (live_inbox J) = arrivals_named from id A ∙ ap (count_by (names from id)) arrived in
+    let same : count_by (is_arrival_of from id) A ≡ count_by (names from id) (live_inbox J) = arrivals_named from id A ∙ ap (count_by (names from id)) arrived in
     let less : count_by (names from id) (live_inbox J) ≤ count_by (names from id) (inbox J) = fewer (names from id) (λ (e : Entry). is_live e.from e.id J) (inbox J) in
     let once : count_by (forwards from id) J ≤ 1 = forwarded_once s who from id J sound in
     omega (arith, same, less, inbox_named from id J, once)
@@ -102,15 +102,15 @@ all_found (y ∷ A) none x (suc i, below, is) =
     all_found A (omega (arith, s, none)) x (i, omega arith, is)
 
 module _ (k : Place) (t : Terms) (deadline : ℕ) where
-  another_waits : (x : Arrival) → is_of k.owner t.id x ≡ false → awaits k t deadline x ≡ false
+  another_waits : (x : Arrival) → is_arrival_of k.owner t.id x ≡ false → awaits k t deadline x ≡ false
   another_waits x other = ap (λ (b : Bool). b && is_none x.index && (x.entry.cents == t.cents) && (x.entry.deadline == deadline)) other
 
-  still_lies : (x : Arrival) → awaits k t deadline x ≡ false → found_at k t deadline x ≡ x
+  still_lies : (x : Arrival) → awaits k t deadline x ≡ false → arrival_found_at k t deadline x ≡ x
   still_lies x other = ap (λ (b : Bool). cond b (record { entry = x.entry; index = Some k.index }) x) other
 
   pub record NothingFound (A : List Arrival) : Type 0 where
     pub none : list_any (awaits k t deadline) A ≡ false
-    pub same : map (found_at k t deadline) A ≡ A
+    pub same : map (arrival_found_at k t deadline) A ≡ A
 
   either_false : (a b : Bool) → a ≡ false → b ≡ false → (a || b) ≡ false
   either_false true b first second = absurd (false≢true (sym first))
@@ -123,49 +123,49 @@ module _ (k : Place) (t : Terms) (deadline : ℕ) where
   nothing_more : (x : Arrival) (A : List Arrival) → awaits k t deadline x ≡ false → NothingFound A → NothingFound (x ∷ A)
   nothing_more x A other rest = record {
     none = either_false (awaits k t deadline x) (list_any (awaits k t deadline) A) other rest.none;
-    same = ap (λ (y : Arrival). y ∷ map (found_at k t deadline) A) (still_lies x other) ∙ ap (λ (l : List Arrival). x ∷ l) rest.same;
+    same = ap (λ (y : Arrival). y ∷ map (arrival_found_at k t deadline) A) (still_lies x other) ∙ ap (λ (l : List Arrival). x ∷ l) rest.same;
   }
 
-  pub none_of_it : (A : List Arrival) → count_by (is_of k.owner t.id) A ≡ 0 → NothingFound A
+  pub none_of_it : (A : List Arrival) → count_by (is_arrival_of k.owner t.id) A ≡ 0 → NothingFound A
   none_of_it [] none = record { none = refl; same = refl }
   none_of_it (x ∷ A) none =
-      let s : count_by (is_of k.owner t.id) (x ∷ A) ≡ cond (is_of k.owner t.id x) 1 0 + count_by (is_of k.owner t.id) A = step (is_of k.owner t.id) x A in
-      nothing_more x A (another_waits x (passed_over (is_of k.owner t.id) x (omega (arith, s, none)))) (none_of_it A (omega (arith, s, none)))
+      let s : count_by (is_arrival_of k.owner t.id) (x ∷ A) ≡ cond (is_arrival_of k.owner t.id x) 1 0 + count_by (is_arrival_of k.owner t.id) A = step (is_arrival_of k.owner t.id) x A in
+      nothing_more x A (another_waits x (passed_over (is_arrival_of k.owner t.id) x (omega (arith, s, none)))) (none_of_it A (omega (arith, s, none)))
 
   -- the one arrival of the transfer
   pub record OneFound (A : List Arrival) (i : ℕ) (x : Arrival) : Type 0 where
     pub any : list_any (awaits k t deadline) A ≡ awaits k t deadline x
-    pub new : map (found_at k t deadline) A ≡ set A i (found_at k t deadline x)
+    pub new : map (arrival_found_at k t deadline) A ≡ set A i (arrival_found_at k t deadline x)
 
-  pub one_of_it : (A : List Arrival) (i : ℕ) (x : Arrival) → count_by (is_of k.owner t.id) A ≤ 1 → slice_get A i ≡ Some x → is_of k.owner t.id x ≡ true → OneFound A i x
+  pub one_of_it : (A : List Arrival) (i : ℕ) (x : Arrival) → count_by (is_arrival_of k.owner t.id) A ≤ 1 → slice_get A i ≡ Some x → is_arrival_of k.owner t.id x ≡ true → OneFound A i x
   one_of_it [] i x once there mine = let no : ⊥ = cc in absurd no
   one_of_it (y ∷ A) zero x once there mine =
       let same : y ≡ x = cc in
-      let s : count_by (is_of k.owner t.id) (y ∷ A) ≡ cond (is_of k.owner t.id y) 1 0 + count_by (is_of k.owner t.id) A = step (is_of k.owner t.id) y A in
-      let one : cond (is_of k.owner t.id y) 1 0 ≡ 1 = ap {B = ℕ} (λ (b : Bool). cond b 1 0) (ap (is_of k.owner t.id) same ∙ mine) in
+      let s : count_by (is_arrival_of k.owner t.id) (y ∷ A) ≡ cond (is_arrival_of k.owner t.id y) 1 0 + count_by (is_arrival_of k.owner t.id) A = step (is_arrival_of k.owner t.id) y A in
+      let one : cond (is_arrival_of k.owner t.id y) 1 0 ≡ 1 = ap {B = ℕ} (λ (b : Bool). cond b 1 0) (ap (is_arrival_of k.owner t.id) same ∙ mine) in
       let rest = none_of_it A (omega (arith, s, one, once)) in
       record {
         any = ap (λ (b : Bool). awaits k t deadline y || b) rest.none ∙ or_nothing (awaits k t deadline y) ∙ ap (awaits k t deadline) same;
-        new = ap (λ (l : List Arrival). found_at k t deadline y ∷ l) rest.same ∙ ap (λ (z : Arrival). found_at k t deadline z ∷ A) same;
+        new = ap (λ (l : List Arrival). arrival_found_at k t deadline y ∷ l) rest.same ∙ ap (λ (z : Arrival). arrival_found_at k t deadline z ∷ A) same;
       }
   one_of_it (y ∷ A) (suc i) x once there mine =
-      let s : count_by (is_of k.owner t.id) (y ∷ A) ≡ cond (is_of k.owner t.id y) 1 0 + count_by (is_of k.owner t.id) A = step (is_of k.owner t.id) y A in
-      let later : 1 ≤ count_by (is_of k.owner t.id) A = counted (is_of k.owner t.id) A i x there mine in
-      let other = another_waits y (passed_over (is_of k.owner t.id) y (omega (arith, s, once, later))) in
+      let s : count_by (is_arrival_of k.owner t.id) (y ∷ A) ≡ cond (is_arrival_of k.owner t.id y) 1 0 + count_by (is_arrival_of k.owner t.id) A = step (is_arrival_of k.owner t.id) y A in
+      let later : 1 ≤ count_by (is_arrival_of k.owner t.id) A = counted (is_arrival_of k.owner t.id) A i x there mine in
+      let other = another_waits y (passed_over (is_arrival_of k.owner t.id) y (omega (arith, s, once, later))) in
       let rest = one_of_it A i x (omega (arith, s, once)) there mine in
       record {
         any = ap (λ (b : Bool). b || list_any (awaits k t deadline) A) other ∙ rest.any;
-        new = ap (λ (z : Arrival). z ∷ map (found_at k t deadline) A) (still_lies y other) ∙ ap (λ (l : List Arrival). y ∷ l) rest.new;
+        new = ap (λ (z : Arrival). z ∷ map (arrival_found_at k t deadline) A) (still_lies y other) ∙ ap (λ (l : List Arrival). y ∷ l) rest.new;
       }
 
-  same_entry : (x : Arrival) (b : Bool) → awaits k t deadline x ≡ b → (found_at k t deadline x).entry ≡ x.entry
+  same_entry : (x : Arrival) (b : Bool) → awaits k t deadline x ≡ b → (arrival_found_at k t deadline x).entry ≡ x.entry
   same_entry x true here = ap (λ (b : Bool). (cond b (record { entry = x.entry; index = Some k.index }) x).entry) here
   same_entry x false here = ap (λ (y : Arrival). y.entry) (still_lies x here)
 
-  same_entries : (A : List Arrival) → map (λ (x : Arrival). x.entry) (map (found_at k t deadline) A) ≡ map (λ (x : Arrival). x.entry) A
+  same_entries : (A : List Arrival) → map (λ (x : Arrival). x.entry) (map (arrival_found_at k t deadline) A) ≡ map (λ (x : Arrival). x.entry) A
   same_entries [] = refl
   same_entries (x ∷ A) =
-      ap (λ (e : Entry). e ∷ map (λ (y : Arrival). y.entry) (map (found_at k t deadline) A)) (same_entry x (awaits k t deadline x) refl)
+      ap (λ (e : Entry). e ∷ map (λ (y : Arrival). y.entry) (map (arrival_found_at k t deadline) A)) (same_entry x (awaits k t deadline x) refl)
       ∙ ap (λ (l : List Entry). x.entry ∷ l) (same_entries A)
 
   -- what waits for the place
@@ -182,9 +182,9 @@ module _ (k : Place) (t : Terms) (deadline : ℕ) where
 
   pub waits : (x : Arrival) → awaits k t deadline x ≡ true → Waits x
   waits x h =
-      let a = and_parts (is_of k.owner t.id x && is_none x.index && (x.entry.cents == t.cents)) (x.entry.deadline == deadline) h in
-      let b = and_parts (is_of k.owner t.id x && is_none x.index) (x.entry.cents == t.cents) a.0 in
-      let c = and_parts (is_of k.owner t.id x) (is_none x.index) b.0 in
+      let a = and_parts (is_arrival_of k.owner t.id x && is_none x.index && (x.entry.cents == t.cents)) (x.entry.deadline == deadline) h in
+      let b = and_parts (is_arrival_of k.owner t.id x && is_none x.index) (x.entry.cents == t.cents) a.0 in
+      let c = and_parts (is_arrival_of k.owner t.id x) (is_none x.index) b.0 in
       let d = and_parts (x.entry.from == k.owner) (same_text x.entry.id t.id) c.0 in
       record {
         from_is = eqb-true x.entry.from k.owner d.0;
@@ -198,13 +198,13 @@ module _ (k : Place) (t : Terms) (deadline : ℕ) where
   abbrev pub FoundCases : List Arrival → Arrival → Type 0
   FoundCases A x = Contains A x ⊎ ((y : Arrival) × Waits y × (x.entry ≡ y.entry) × (x.index ≡ Some k.index))
 
-  this_case : (y x : Arrival) (A : List Arrival) (b : Bool) → awaits k t deadline y ≡ b → found_at k t deadline y ≡ x → FoundCases (y ∷ A) x
+  this_case : (y x : Arrival) (A : List Arrival) (b : Bool) → awaits k t deadline y ≡ b → arrival_found_at k t deadline y ≡ x → FoundCases (y ∷ A) x
   this_case y x A true here is =
-      let at : found_at k t deadline y ≡ record { entry = y.entry; index = Some k.index } = ap (λ (b : Bool). cond b (record { entry = y.entry; index = Some k.index }) y) here in
+      let at : arrival_found_at k t deadline y ≡ record { entry = y.entry; index = Some k.index } = ap (λ (b : Bool). cond b (record { entry = y.entry; index = Some k.index }) y) here in
       inr (y, waits y here, ap (λ (z : Arrival). z.entry) (sym is ∙ at), ap (λ (z : Arrival). z.index) (sym is ∙ at))
   this_case y x A false here is = inl (zero, omega arith, sym (still_lies y here) ∙ is)
 
-  pub found_cases : (A : List Arrival) (x : Arrival) → Contains (map (found_at k t deadline) A) x → FoundCases A x
+  pub found_cases : (A : List Arrival) (x : Arrival) → Contains (map (arrival_found_at k t deadline) A) x → FoundCases A x
   found_cases [] x (i, below, is) = absurd (omega arith)
   found_cases (y ∷ A) x (zero, below, is) = this_case y x A (awaits k t deadline y) refl is
   found_cases (y ∷ A) x (suc i, below, is) = ⊎_elim
@@ -212,50 +212,50 @@ module _ (k : Place) (t : Terms) (deadline : ℕ) where
       (λ new. inr new)
       (found_cases A x (i, omega arith, is))
 
-  placed_lies : (x : Arrival) (index : ℕ) → x.index ≡ Some index → (b : Bool) → awaits k t deadline x ≡ b → found_at k t deadline x ≡ x
+  placed_lies : (x : Arrival) (index : ℕ) → x.index ≡ Some index → (b : Bool) → awaits k t deadline x ≡ b → arrival_found_at k t deadline x ≡ x
   placed_lies x index placed true here = let w = waits x here in let no : ⊥ = cc in absurd no
   placed_lies x index placed false here = still_lies x here
 
-  indexed : (from : ℕ) (id : List ℕ) (x : Arrival) (index : ℕ) (b : Bool) → is_of from id x ≡ b → cond b x.index None ≡ Some index → (is_of from id x ≡ true) × (x.index ≡ Some index)
+  indexed : (from : ℕ) (id : List ℕ) (x : Arrival) (index : ℕ) (b : Bool) → is_arrival_of from id x ≡ b → cond b x.index None ≡ Some index → (is_arrival_of from id x ≡ true) × (x.index ≡ Some index)
   indexed from id x index true here e = (here, e)
   indexed from id x index false here e = let no : ⊥ = cc in absurd no
 
-  later_step : (from : ℕ) (id : List ℕ) (index : ℕ) (x : Arrival) (A : List Arrival) (o : Option ℕ) → index_of from id x ≡ o → (arrived_at from id A ≡ Some index → 1 ≤ count_by (is_of from id) A) → or_else o (arrived_at from id A) ≡ Some index
-      → 1 ≤ count_by (is_of from id) (x ∷ A)
-  later_step from id index x A None here rest e = omega (arith, step (is_of from id) x A, rest e)
+  later_step : (from : ℕ) (id : List ℕ) (index : ℕ) (x : Arrival) (A : List Arrival) (o : Option ℕ) → arrival_index from id x ≡ o → (arrived_at from id A ≡ Some index → 1 ≤ count_by (is_arrival_of from id) A) → or_else o (arrived_at from id A) ≡ Some index
+      → 1 ≤ count_by (is_arrival_of from id) (x ∷ A)
+  later_step from id index x A None here rest e = omega (arith, step (is_arrival_of from id) x A, rest e)
   later_step from id index x A (Some i) here rest e =
-      let mine = indexed from id x i (is_of from id x) refl here in
-      let one : cond (is_of from id x) 1 0 ≡ 1 = ap {B = ℕ} (λ (b : Bool). cond b 1 0) mine.0 in
-      omega (arith, step (is_of from id) x A, one)
+      let mine = indexed from id x i (is_arrival_of from id x) refl here in
+      let one : cond (is_arrival_of from id x) 1 0 ≡ 1 = ap {B = ℕ} (λ (b : Bool). cond b 1 0) mine.0 in
+      omega (arith, step (is_arrival_of from id) x A, one)
 
   -- a transfer of which an arrival has its place
-  later_one : (from : ℕ) (id : List ℕ) (index : ℕ) (A : List Arrival) → arrived_at from id A ≡ Some index → 1 ≤ count_by (is_of from id) A
+  later_one : (from : ℕ) (id : List ℕ) (index : ℕ) (A : List Arrival) → arrived_at from id A ≡ Some index → 1 ≤ count_by (is_arrival_of from id) A
   later_one from id index [] e = let none : ⊥ = cc in absurd none
-  later_one from id index (x ∷ A) e = later_step from id index x A (index_of from id x) refl (later_one from id index A) e
+  later_one from id index (x ∷ A) e = later_step from id index x A (arrival_index from id x) refl (later_one from id index A) e
 
-  another_index : (from : ℕ) (id : List ℕ) (x : Arrival) → is_of from id x ≡ false → index_of from id (found_at k t deadline x) ≡ None
-  another_index from id x other = ap (λ (e : Entry). cond (same_transfer from id e.from e.id) (found_at k t deadline x).index None) (same_entry x (awaits k t deadline x) refl)
-      ∙ ap (λ (b : Bool). cond b (found_at k t deadline x).index None) other
+  another_index : (from : ℕ) (id : List ℕ) (x : Arrival) → is_arrival_of from id x ≡ false → arrival_index from id (arrival_found_at k t deadline x) ≡ None
+  another_index from id x other = ap (λ (e : Entry). cond (same_transfer from id e.from e.id) (arrival_found_at k t deadline x).index None) (same_entry x (awaits k t deadline x) refl)
+      ∙ ap (λ (b : Bool). cond b (arrival_found_at k t deadline x).index None) other
 
-  still_step : (from : ℕ) (id : List ℕ) (index : ℕ) (x : Arrival) (A : List Arrival) (o : Option ℕ) → count_by (is_of from id) (x ∷ A) ≤ 1 → index_of from id x ≡ o
-      → (count_by (is_of from id) A ≤ 1 → arrived_at from id A ≡ Some index → arrived_at from id (map (found_at k t deadline) A) ≡ Some index) → or_else o (arrived_at from id A) ≡ Some index
-      → or_else (index_of from id (found_at k t deadline x)) (arrived_at from id (map (found_at k t deadline) A)) ≡ Some index
+  still_step : (from : ℕ) (id : List ℕ) (index : ℕ) (x : Arrival) (A : List Arrival) (o : Option ℕ) → count_by (is_arrival_of from id) (x ∷ A) ≤ 1 → arrival_index from id x ≡ o
+      → (count_by (is_arrival_of from id) A ≤ 1 → arrived_at from id A ≡ Some index → arrived_at from id (map (arrival_found_at k t deadline) A) ≡ Some index) → or_else o (arrived_at from id A) ≡ Some index
+      → or_else (arrival_index from id (arrival_found_at k t deadline x)) (arrived_at from id (map (arrival_found_at k t deadline) A)) ≡ Some index
   still_step from id index x A None once here rest e =
-      let s = step (is_of from id) x A in
-      let later : 1 ≤ count_by (is_of from id) A = later_one from id index A e in
-      let other = another_index from id x (passed_over (is_of from id) x (omega (arith, s, once, later))) in
-      ap (λ (o : Option ℕ). or_else o (arrived_at from id (map (found_at k t deadline) A))) other ∙ rest (omega (arith, s, once)) e
+      let s = step (is_arrival_of from id) x A in
+      let later : 1 ≤ count_by (is_arrival_of from id) A = later_one from id index A e in
+      let other = another_index from id x (passed_over (is_arrival_of from id) x (omega (arith, s, once, later))) in
+      ap (λ (o : Option ℕ). or_else o (arrived_at from id (map (arrival_found_at k t deadline) A))) other ∙ rest (omega (arith, s, once)) e
   still_step from id index x A (Some i) once here rest e =
-      let mine = indexed from id x i (is_of from id x) refl here in
-      ap (λ (y : Arrival). or_else (index_of from id y) (arrived_at from id (map (found_at k t deadline) A))) (placed_lies x i mine.1 (awaits k t deadline x) refl)
-      ∙ ap (λ (o : Option ℕ). or_else o (arrived_at from id (map (found_at k t deadline) A))) here ∙ e
+      let mine = indexed from id x i (is_arrival_of from id x) refl here in
+      ap (λ (y : Arrival). or_else (arrival_index from id y) (arrived_at from id (map (arrival_found_at k t deadline) A))) (placed_lies x i mine.1 (awaits k t deadline x) refl)
+      ∙ ap (λ (o : Option ℕ). or_else o (arrived_at from id (map (arrival_found_at k t deadline) A))) here ∙ e
 
   -- what has its place keeps it
-  pub still_arrived : (from : ℕ) (id : List ℕ) (index : ℕ) (A : List Arrival) → count_by (is_of from id) A ≤ 1 → arrived_at from id A ≡ Some index → arrived_at from id (map (found_at k t deadline) A) ≡ Some index
+  pub still_arrived : (from : ℕ) (id : List ℕ) (index : ℕ) (A : List Arrival) → count_by (is_arrival_of from id) A ≤ 1 → arrived_at from id A ≡ Some index → arrived_at from id (map (arrival_found_at k t deadline) A) ≡ Some index
   still_arrived from id index [] once e = e
-  still_arrived from id index (x ∷ A) once e = still_step from id index x A (index_of from id x) once refl (still_arrived from id index A) e
+  still_arrived from id index (x ∷ A) once e = still_step from id index x A (arrival_index from id x) once refl (still_arrived from id index A) e
 
-  still_placed : (A : List Arrival) → ((x : Arrival) → Contains A x → is_some x.index ≡ true) → (x : Arrival) → Contains (map (found_at k t deadline) A) x → is_some x.index ≡ true
+  still_placed : (A : List Arrival) → ((x : Arrival) → Contains A x → is_some x.index ≡ true) → (x : Arrival) → Contains (map (arrival_found_at k t deadline) A) x → is_some x.index ≡ true
   still_placed A all x there = ⊎_elim (λ old. all x old) (λ new. ap is_some new.3) (found_cases A x there)
 
 abbrev pub with_arrivals : Book → List Arrival → Book
@@ -264,9 +264,9 @@ with_arrivals book A = record book { arrivals = A }
 module _ {B : Type 0} (settings : B → HubSettings) (knows : B → Fact → Type 0) (has_role : B → ℕ → Type 0) (c : B) (book : Book) (sound : IsSound book.settings book.who book.events) where
   -- what is pending at the place is known opened
   found_pending : (k : Place) (t : Terms) (deadline : ℕ) → KnowsOpening knows c k t deadline → t.to ≡ book.who → IsLawfulBoard settings knows has_role c book
-      → IsLawfulBoard settings knows has_role c (with_arrivals book (map (found_at k t deadline) book.arrivals))
+      → IsLawfulBoard settings knows has_role c (with_arrivals book (map (arrival_found_at k t deadline) book.arrivals))
   found_pending k t deadline known mine was =
-      let A : List Arrival = map (found_at k t deadline) book.arrivals in
+      let A : List Arrival = map (arrival_found_at k t deadline) book.arrivals in
       record {
         same_settings = was.same_settings;
         role = was.role;
@@ -309,7 +309,7 @@ module _ {B : Type 0} (settings : B → HubSettings) (knows : B → Fact → Typ
   found_keeps k (Decided t o) known was = was
   found_keeps k (Pending t d) known was = either (t.to == book.who) refl
     where
-      either : (b : Bool) → (t.to == book.who) ≡ b → IsLawfulBoard settings knows has_role c (cond b (with_arrivals book (map (found_at k t d) book.arrivals)) book)
+      either : (b : Bool) → (t.to == book.who) ≡ b → IsLawfulBoard settings knows has_role c (cond b (with_arrivals book (map (arrival_found_at k t d) book.arrivals)) book)
       either true mine = found_pending k t d (known t d refl) (eqb-true t.to book.who mine) was
       either false other = was
 
@@ -318,14 +318,14 @@ found_adopted book k Unused all = all
 found_adopted book k (Decided t o) all = all
 found_adopted book k (Pending t d) all = either (t.to == book.who)
   where
-    either : (b : Bool) → AllAreAdopted (cond b (with_arrivals book (map (found_at k t d) book.arrivals)) book)
+    either : (b : Bool) → AllAreAdopted (cond b (with_arrivals book (map (arrival_found_at k t d) book.arrivals)) book)
     either true = still_placed k t d book.arrivals all
     either false = all
 
 -- what is made of a transfer that is pending at the place
-module _ (A : List Arrival) (k : Place) (t : Terms) (deadline : ℕ) (once : count_by (is_of k.owner t.id) A ≤ 1) where
+module _ (A : List Arrival) (k : Place) (t : Terms) (deadline : ℕ) (once : count_by (is_arrival_of k.owner t.id) A ≤ 1) where
   abbrev after : List Arrival
-  after = map (found_at k t deadline) A
+  after = map (arrival_found_at k t deadline) A
 
   pub record IsNotFound : Type 0 where
     pub found : false ≡ list_any (awaits k t deadline) A
@@ -334,7 +334,7 @@ module _ (A : List Arrival) (k : Place) (t : Terms) (deadline : ℕ) (once : cou
   not_found : NothingFound k t deadline A → IsNotFound
   not_found n = record { found = sym n.none; kept = sym n.same }
 
-  pub no_arrival : count_by (is_of k.owner t.id) A ≡ 0 → IsNotFound
+  pub no_arrival : count_by (is_arrival_of k.owner t.id) A ≡ 0 → IsNotFound
   no_arrival none = not_found (none_of_it k t deadline A none)
 
   set_again : (A : List Arrival) (i : ℕ) (x : Arrival) → slice_get A i ≡ Some x → set A i x ≡ A
@@ -342,14 +342,14 @@ module _ (A : List Arrival) (k : Place) (t : Terms) (deadline : ℕ) (once : cou
   set_again (y ∷ A) zero x e = let same : y ≡ x = cc in ap (λ (z : Arrival). z ∷ A) (sym same)
   set_again (y ∷ A) (suc i) x e = ap (λ (l : List Arrival). y ∷ l) (set_again A i x e)
 
-  pub another_arrival : (i : ℕ) (x : Arrival) → slice_get A i ≡ Some x → is_of k.owner t.id x ≡ true → awaits k t deadline x ≡ false → IsNotFound
+  pub another_arrival : (i : ℕ) (x : Arrival) → slice_get A i ≡ Some x → is_arrival_of k.owner t.id x ≡ true → awaits k t deadline x ≡ false → IsNotFound
   another_arrival i x there mine other =
       let o = one_of_it k t deadline A i x once there mine in
       not_found (record { none = o.any ∙ other; same = o.new ∙ ap (set A i) (still_lies k t deadline x other) ∙ set_again A i x there })
 
-  pub this_arrival : (i : ℕ) (x : Arrival) → slice_get A i ≡ Some x → is_of k.owner t.id x ≡ true → awaits k t deadline x ≡ true
+  pub this_arrival : (i : ℕ) (x : Arrival) → slice_get A i ≡ Some x → is_arrival_of k.owner t.id x ≡ true → awaits k t deadline x ≡ true
       → (true ≡ list_any (awaits k t deadline) A) × (set A i (record { entry = x.entry; index = Some k.index }) ≡ after)
   this_arrival i x there mine yes_it =
       let o = one_of_it k t deadline A i x once there mine in
-      let new : found_at k t deadline x ≡ record { entry = x.entry; index = Some k.index } = ap (λ (b : Bool). cond b (record { entry = x.entry; index = Some k.index }) x) yes_it in
+      let new : arrival_found_at k t deadline x ≡ record { entry = x.entry; index = Some k.index } = ap (λ (b : Bool). cond b (record { entry = x.entry; index = Some k.index }) x) yes_it in
       (sym (o.any ∙ yes_it), ap (λ (y : Arrival). set A i y) (sym new) ∙ sym o.new)

@@ -5,8 +5,8 @@ use Rattle.std.proofs.lemmas.List.Sums.{sum_by-cons}
 use Rattle.std.proofs.lemmas.Bool.{cases_Bool}
 use Rattle.inst_journal.specs.Booked.{or_else}
 use Rattle.inst_slot.specs.declared.arrival.Arrival.{Arrival}
-use Rattle.inst_slot.specs.Book.{index_of, arrived_at}
-use Rattle.inst_slot.specs.Opening.{is_of}
+use Rattle.inst_slot.specs.Book.{arrival_index, arrived_at}
+use Rattle.inst_slot.specs.Opening.{is_arrival_of}
 
 module _ (p : Arrival → Bool) where
   one_step : (x : Arrival) (A : List Arrival) → count_by p (x ∷ A) ≡ cond (p x) 1 0 + count_by p A
@@ -40,23 +40,23 @@ module _ (p : Arrival → Bool) where
       fewer i j e = omega (arith, e)
 
 -- where its place was found, by its position
-pub none_arrived : (from : ℕ) (id : List ℕ) (A : List Arrival) → ((j : ℕ) (y : Arrival) → slice_get A j ≡ Some y → is_of from id y ≡ true → ⊥) → arrived_at from id A ≡ None
+pub none_arrived : (from : ℕ) (id : List ℕ) (A : List Arrival) → ((j : ℕ) (y : Arrival) → slice_get A j ≡ Some y → is_arrival_of from id y ≡ true → ⊥) → arrived_at from id A ≡ None
 none_arrived from id [] none = refl
 none_arrived from id (x ∷ A) none = ⊎_elim
     (λ yes. absurd (none 0 x refl yes))
     (λ no. ap (λ (b : Bool). or_else (cond b x.index None) (arrived_at from id A)) no ∙ none_arrived from id A (λ j y there. none (suc j) y there))
-    (cases_Bool (is_of from id x))
+    (cases_Bool (is_arrival_of from id x))
 
 or_none : (o : Option ℕ) → or_else o None ≡ o
 or_none None = refl
 or_none (Some n) = refl
 
-pub arrived_there : (from : ℕ) (id : List ℕ) (A : List Arrival) (i : ℕ) (x : Arrival) → slice_get A i ≡ Some x → is_of from id x ≡ true
-    → ((j : ℕ) (y : Arrival) → slice_get A j ≡ Some y → is_of from id y ≡ true → i ≡ j) → arrived_at from id A ≡ x.index
+pub arrived_there : (from : ℕ) (id : List ℕ) (A : List Arrival) (i : ℕ) (x : Arrival) → slice_get A i ≡ Some x → is_arrival_of from id x ≡ true
+    → ((j : ℕ) (y : Arrival) → slice_get A j ≡ Some y → is_arrival_of from id y ≡ true → i ≡ j) → arrived_at from id A ≡ x.index
 arrived_there from id [] i x there mine unique = let no : ⊥ = cc in absurd no
 arrived_there from id (z ∷ A) zero x there mine unique =
     let at : z ≡ x = cc in
-    ap (λ (y : Arrival). or_else (index_of from id y) (arrived_at from id A)) at
+    ap (λ (y : Arrival). or_else (arrival_index from id y) (arrived_at from id A)) at
     ∙ ap (λ (b : Bool). or_else (cond b x.index None) (arrived_at from id A)) mine
     ∙ ap (or_else x.index) (none_arrived from id A (λ j y here yours. apart j (unique (suc j) y here yours)))
     ∙ or_none x.index
@@ -68,7 +68,7 @@ arrived_there from id (z ∷ A) (suc i) x there mine unique = ⊎_elim
     (λ no.
     ap (λ (b : Bool). or_else (cond b z.index None) (arrived_at from id A)) no
     ∙ arrived_there from id A i x there mine (λ j y here yours. fewer j (unique (suc j) y here yours)))
-    (cases_Bool (is_of from id z))
+    (cases_Bool (is_arrival_of from id z))
   where
     apart : suc i ≡ 0 → ⊥
     apart e = absurd (omega (arith, e))

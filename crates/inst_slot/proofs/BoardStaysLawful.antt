@@ -23,7 +23,7 @@ use Rattle.inst_journal.specs.Opened.{carried, is_opening, is_live, takes_live, 
 use Rattle.inst_journal.specs.Reply.{entry_of}
 use Rattle.inst_journal.proofs.FirstSome.{first_some-append}
 use Rattle.inst_slot.specs.declared.arrival.Arrival.{Arrival}
-use Rattle.inst_slot.specs.Book.{Book, place_at, terms_to, live_inbox, index_of, arrived_at}
+use Rattle.inst_slot.specs.Book.{Book, place_at, terms_to, live_inbox, arrival_index, arrived_at}
 use Rattle.inst_slot.specs.LawfulBoard.{LiesAt, KnowsEnd, IsLawfulBoard}
 use Rattle.inst_slot.proofs.LiveTransfersAfterEvent.{slice_get_left, live_taken_still, live_push, live_inbox_still}
 
@@ -49,7 +49,7 @@ later_arrival from id index x A h = record {
   index_is = h.index_is;
 }
 
-arrival_step : (from : ℕ) (id : List ℕ) (index : ℕ) (x : Arrival) (A : List Arrival) (o : Option ℕ) → index_of from id x ≡ o → or_else o (arrived_at from id A) ≡ Some index
+arrival_step : (from : ℕ) (id : List ℕ) (index : ℕ) (x : Arrival) (A : List Arrival) (o : Option ℕ) → arrival_index from id x ≡ o → or_else o (arrived_at from id A) ≡ Some index
     → (arrived_at from id A ≡ Some index → ArrivedAt from id index A) → ArrivedAt from id index (x ∷ A)
 arrival_step from id index x A None here e rest = later_arrival from id index x A (rest e)
 arrival_step from id index x A (Some i) here e rest =
@@ -65,10 +65,10 @@ arrival_step from id index x A (Some i) here e rest =
 
 pub arrival_at : (from : ℕ) (id : List ℕ) (index : ℕ) (A : List Arrival) → arrived_at from id A ≡ Some index → ArrivedAt from id index A
 arrival_at from id index [] e = let no : ⊥ = cc in absurd no
-arrival_at from id index (x ∷ A) e = arrival_step from id index x A (index_of from id x) refl e (λ f. arrival_at from id index A f)
+arrival_at from id index (x ∷ A) e = arrival_step from id index x A (arrival_index from id x) refl e (λ f. arrival_at from id index A f)
 
 pub arrived_still : (from : ℕ) (id : List ℕ) (index : ℕ) (A : List Arrival) (x : Arrival) → arrived_at from id A ≡ Some index → arrived_at from id (A ++ x ∷ []) ≡ Some index
-arrived_still from id index A x e = first_some-append (index_of from id) A (x ∷ []) ∙ ap (λ (o : Option ℕ). or_else o (arrived_at from id (x ∷ []))) e
+arrived_still from id index A x e = first_some-append (arrival_index from id) A (x ∷ []) ∙ ap (λ (o : Option ℕ). or_else o (arrived_at from id (x ∷ []))) e
 
 -- a transfer lies where it lay after an arrival
 pub lies_with_arrival : (book : Book) (K : List Event) (x : Arrival) (from : ℕ) (id : List ℕ) (index : ℕ) → live_taken book.who K ≡ live_taken book.who book.events → LiesAt book from id index

@@ -11,20 +11,20 @@ use Rattle.inst_journal.specs.Booked.{takes}
 use Rattle.inst_journal.specs.Opened.{carried, takes_live, live_taken}
 use Rattle.inst_journal.specs.Sound.{IsSound, Fits}
 use Rattle.inst_journal.proofs.KeyOnce.{taken_once}
-use Rattle.inst_ledger.specs.Book.{Book as Kept, with_event}
+use Rattle.inst_ledger.specs.Book.{LedgerBook as Kept, ledger_with_event}
 use Rattle.inst_slot.specs.inner.Answering.{IsOwnAt}
 use Rattle.inst_slot.specs.Book.{place_at}
 use Rattle.inst_ledger.specs.Right.{own_ids}
 use Rattle.inst_slot.specs.Telling.{taken_by}
-use Rattle.inst_slot.specs.Waiting.{Deadlines, IsRight}
+use Rattle.inst_slot.specs.Waiting.{Deadlines, IsRightSlot}
 use Rattle.inst_slot.proofs.OwnTransfersThatWait.{books_at, books_another}
 use Rattle.inst_slot.proofs.ArrivalGetsItsPlace.{step, fewer, counted}
 use Rattle.inst_slot.proofs.OwnIds.{keeps_right, re_listed, own_taken}
 
 -- one of the own waits no more
-pub own_booked : (old new : Kept) (w v : Deadlines) (from : ℕ) (id : List ℕ) (index : ℕ) (o : Outcome) → IsRight old.settings old.who old.events (own_ids old.who old.events) w → Fits old.settings old.who old.events (Booked from id o)
-    → new ≡ with_event old (Booked from id o) → from ≡ old.who → IsOwnAt old id (place_at from index) → v.deadlines ≡ w.deadlines → ((d k : ℕ) → has v.pairs d k ≡ (has w.pairs d k && not (nat_eq k index)))
-    → IsRight new.settings new.who new.events (own_ids new.who new.events) v
+pub own_booked : (old new : Kept) (w v : Deadlines) (from : ℕ) (id : List ℕ) (index : ℕ) (o : Outcome) → IsRightSlot old.settings old.who old.events (own_ids old.who old.events) w → Fits old.settings old.who old.events (Booked from id o)
+    → new ≡ ledger_with_event old (Booked from id o) → from ≡ old.who → IsOwnAt old id (place_at from index) → v.deadlines ≡ w.deadlines → ((d k : ℕ) → has v.pairs d k ≡ (has w.pairs d k && not (nat_eq k index)))
+    → IsRightSlot new.settings new.who new.events (own_ids new.who new.events) v
 own_booked old new w v from id index o right fits ok mine at same out =
     let ids = own_ids old.who old.events in
     re_listed (keeps_right old new ids w v (Booked from id o) right fits refl ok same old.who refl
@@ -34,8 +34,8 @@ apart : (a b : ℕ) → (a ≡ b → ⊥) → (a == b) ≡ false
 apart a b other = ⊎_elim (λ yes. absurd (other (eqb-true a b yes))) (λ no. no) (cases_Bool (a == b))
 
 -- all of the own wait as before
-pub another_booked : (old new : Kept) (w : Deadlines) (from : ℕ) (id : List ℕ) (o : Outcome) → IsRight old.settings old.who old.events (own_ids old.who old.events) w → Fits old.settings old.who old.events (Booked from id o)
-    → new ≡ with_event old (Booked from id o) → (from ≡ old.who → ⊥) → IsRight new.settings new.who new.events (own_ids new.who new.events) w
+pub another_booked : (old new : Kept) (w : Deadlines) (from : ℕ) (id : List ℕ) (o : Outcome) → IsRightSlot old.settings old.who old.events (own_ids old.who old.events) w → Fits old.settings old.who old.events (Booked from id o)
+    → new ≡ ledger_with_event old (Booked from id o) → (from ≡ old.who → ⊥) → IsRightSlot new.settings new.who new.events (own_ids new.who new.events) w
 another_booked old new w from id o right fits ok other =
     let ids = own_ids old.who old.events in
     re_listed (keeps_right old new ids w w (Booked from id o) right fits refl ok refl old.who refl

@@ -17,7 +17,7 @@ use Rattle.inst_board.specs.declared.look.Look.{Look}
 use Rattle.inst_board.specs.declared.about.About.TheVariants.{Opened, HasTerms, Due, Decided}
 use Rattle.inst_board.specs.declared.about.Fact.{Fact}
 use Rattle.inst_board.specs.Standing.{Standing, unused, pending, decided, Says, about}
-use Rattle.inst_board.specs.Learning.{Learns, Looks, Decides, IsParty, Answers, IsAnswer, MayDecide}
+use Rattle.inst_board.specs.Learning.{Learns, Looks, Decides, IsParty, AnswersWish, IsAnswer, MayDecide}
 use Rattle.inst_board.specs.Wish.{wanted}
 use Rattle.inst_journal.specs.declared.event.Event.{Event}
 use Rattle.inst_journal.specs.declared.event.Event.TheVariants.{Funded, Defunded, Taken, Forwarded, Booked, Fetched, Opened as OpenedEvent}
@@ -44,7 +44,7 @@ module _ {B : Type 0} (settings : B → HubSettings) (knows : B → Fact → Typ
     (seldom : (b : B) (k : Place) (t : Terms) (o : Outcome) → knows b (about k (HasTerms t)) → has_role b t.to → stood b k o → knows b (about k (Decided o)) ⊎ (o ≡ TimedOut)) where
   -- an outcome that stood, or was wanted by an expiry or by another, is no new answer of this participant's
   old_answer : (m c : B) (k : Place) (wish : Wish) (at : ℕ) (found : Option Outcome) (may : MayDecide knows has_role m k wish) (who : ℕ) → (wish ≡ Expire) ⊎ (may.terms.to ≡ who)
-      → (p : Standing) → Learns margin knows m k p c → Answers margin (stood m k) wish at p found → (other : ℕ) → other ≢ who → has_role m other → (t : Terms) (o : Outcome) → t.to ≡ other → IsAnswer o
+      → (p : Standing) → Learns margin knows m k p c → AnswersWish margin (stood m k) wish at p found → (other : ℕ) → other ≢ who → has_role m other → (t : Terms) (o : Outcome) → t.to ≡ other → IsAnswer o
       → Says p (HasTerms t) → Says p (Decided o) → knows m (about k (HasTerms t)) × knows m (about k (Decided o))
   old_answer m c k wish at found may who mine unused l answers other ne role t o to answer says ended = absurd says
   old_answer m c k wish at found may who mine (pending u d) l answers other ne role t o to answer says ended = absurd ended

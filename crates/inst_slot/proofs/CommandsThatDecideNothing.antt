@@ -35,7 +35,7 @@ use Rattle.inst_journal.specs.Booked.{is_taken, is_forwarded, booked, books}
 use Rattle.inst_journal.specs.Keys.{is_fund_repeat, is_defund_repeat, is_submission_repeat}
 use Rattle.inst_journal.specs.Money.{position, reserved, available}
 use Rattle.inst_journal.specs.Opened.{is_opening, carried, takes_live, live_taken, live_submissions}
-use Rattle.inst_journal.specs.Reply.{entry_of, funding, is_new_funding, standing, still_pending, unread, hand_out, handle, submit, copies, told, kept_event, kept_events}
+use Rattle.inst_journal.specs.Reply.{entry_of, funding, is_new_funding, state_reply, still_pending, unread, hand_out, handle, submit, copies, reply_result, kept_event, kept_events}
 use Rattle.inst_journal.specs.Sound.{Fits, FitAfter, IsSound}
 use Rattle.inst_journal.proofs.EventsCarriedOverOpening.{carried_unbooked}
 use Rattle.inst_journal.proofs.CountsOfEvents.{stranger_unbooked}
@@ -77,7 +77,7 @@ funding_keeps p reference new (Err fault) all = refl
 funding_keeps p reference new (Ok true) all = all
 funding_keeps p reference new (Ok false) all = refl
 
-standing_keeps : (p : Event → Bool) (from : ℕ) (id : List ℕ) (waiting : Result Handled Fault) (known : Option Outcome) → KeepsOnly p waiting → KeepsOnly p (standing from id waiting known None)
+standing_keeps : (p : Event → Bool) (from : ℕ) (id : List ℕ) (waiting : Result Handled Fault) (known : Option Outcome) → KeepsOnly p waiting → KeepsOnly p (state_reply from id waiting known None)
 standing_keeps p from id waiting None all = all
 standing_keeps p from id waiting (Some o) all = refl
 
@@ -255,16 +255,16 @@ next_unused settings knows has_role b book was kn =
 
 module _ {B : Type 0} (knows : B → Fact → Type 0) (margin : ℕ) (book : Book) (ask : Ask) where
   -- an ask that is handled so, and keeps this
-  pub enters_as : (b c : B) (h : Result Handled Fault) (result : Result Reply Fault) (new : Book) → handle_ask book ask None ≡ h → result ≡ told h
+  pub enters_as : (b c : B) (h : Result Handled Fault) (result : Result Reply Fault) (new : Book) → handle_ask book ask None ≡ h → result ≡ reply_result h
       → new ≡ with_events book (book.events ++ kept_events h) → Opens margin knows book (kept_events h) b c → Enters margin knows b book ask result c new
   enters_as b c h result new is replied kept opens = inl (
-    replied ∙ ap told (sym is),
+    replied ∙ ap reply_result (sym is),
     kept ∙ ap (λ (r : Result Handled Fault). with_events book (book.events ++ kept_events r)) (sym is),
     subst (λ (r : Result Handled Fault). Opens margin knows book (kept_events r) b c) (sym is) opens,
   )
 
   -- an ask that is handled so, and keeps nothing
-  pub enters_quietly : (b : B) (h : Result Handled Fault) (result : Result Reply Fault) → handle_ask book ask None ≡ h → kept_events h ≡ [] → result ≡ told h → Enters margin knows b book ask result b book
+  pub enters_quietly : (b : B) (h : Result Handled Fault) (result : Result Reply Fault) → handle_ask book ask None ≡ h → kept_events h ≡ [] → result ≡ reply_result h → Enters margin knows b book ask result b book
   enters_quietly b h result is none replied =
       enters_as b b h result book is replied
       (sym (ap (λ (K : List Event). with_events book (book.events ++ K)) none ∙ ap (λ (J : List Event). with_events book J) (append-nil book.events)))
@@ -303,7 +303,7 @@ module _ (book : Book) (ask : Ask) (handled : Handled) (other : (x : Submission)
   -- such a command is answered as it was handled, and what is to be kept is kept
   pub alone_as : (new : Book) → new ≡ with_events book (book.events ++ kept_event handled.kept) → EntersAlone book ask (Ok handled.reply) new
   alone_as new kept = inl (
-    ap told (sym is),
+    ap reply_result (sym is),
     kept ∙ ap (λ (r : Result Handled Fault). with_events book (book.events ++ kept_events r)) (sym is),
     others_apart book.settings book.who book.events ask.command ask.at other,
   )

@@ -12,7 +12,7 @@ use Rattle.inst_board.specs.declared.about.About.TheVariants.{Opened, HasTerms, 
 use Rattle.inst_board.specs.declared.about.Fact.{Fact}
 use Rattle.inst_board.specs.Standing.{Standing, unused, pending, decided, Says, about, look_of}
 use Rattle.inst_board.specs.Laws.{KnowsOpening}
-use Rattle.inst_board.specs.Learning.{Learns, Looks, Decides, Answers}
+use Rattle.inst_board.specs.Learning.{Learns, Looks, Decides, AnswersWish}
 use Rattle.inst_journal.specs.declared.event.Event.{Event}
 use Rattle.inst_journal.specs.declared.event.Event.TheVariants.{Booked}
 use Rattle.inst_journal.specs.Booked.{booked}
@@ -113,13 +113,13 @@ module _ {B : Type 0} (settings : B → HubSettings) (knows : B → Fact → Typ
   -- a decision of the place of a transfer of the books, with nothing booked
   module _ (margin : ℕ) (stood : B → Place → Outcome → Type 0) (b c : B) (from index : ℕ) (wish : Wish) (at : ℕ) (found : Option Outcome)
       (h : Decides margin knows stood b (place_at from index) wish at found c) where
-    ended : (p : Standing) (o : Outcome) → Learns margin knows b (place_at from index) p c → Answers margin (stood b (place_at from index)) wish at p found → found ≡ Some o
+    ended : (p : Standing) (o : Outcome) → Learns margin knows b (place_at from index) p c → AnswersWish margin (stood b (place_at from index)) wish at p found → found ≡ Some o
         → knows c (about (place_at from index) (Decided o)) × Says p (Decided o)
     ended unused o l a e = absurd a
     ended (pending t d) o l a e = let f = a.0 in let no : ⊥ = cc in absurd no
     ended (decided t d z m) o l a e = let f = a.0 in let x : o ≡ z = cc in (l.shown (Decided o) x, x)
 
-    unended : (p : Standing) (o : Outcome) → Answers margin (stood b (place_at from index)) wish at p found → found ≡ None → Says p (Decided o) → ⊥
+    unended : (p : Standing) (o : Outcome) → AnswersWish margin (stood b (place_at from index)) wish at p found → found ≡ None → Says p (Decided o) → ⊥
     unended unused o a e says = says
     unended (pending t d) o a e says = says
     unended (decided t d z m) o a e says = let f = a.0 in let no : ⊥ = cc in no

@@ -18,7 +18,7 @@ use Rattle.inst_journal.specs.Booked.{is_forwarded, same_transfer, or_else}
 use Rattle.inst_journal.specs.Opened.{is_live}
 use Rattle.inst_journal.specs.Reply.{inbox}
 use Rattle.inst_slot.specs.declared.arrival.Arrival.{Arrival}
-use Rattle.inst_slot.specs.Book.{Book, place_at, index_of, arrived_at}
+use Rattle.inst_slot.specs.Book.{Book, place_at, arrival_index, arrived_at}
 use Rattle.inst_slot.specs.LawfulBoard.{IsLawfulBoard, IsAdopted, AllAreAdopted}
 use Rattle.inst_slot.specs.Asking.{AsksAdopted}
 
@@ -58,8 +58,8 @@ first_is None p some = absurd (false≢true some)
 found_arrival : (from : ℕ) (id : List ℕ) (A : List Arrival) → ((x : Arrival) → Contains A x → is_some x.index ≡ true) → list_any (names from id) (map (λ (x : Arrival). x.entry) A) ≡ true → is_some (arrived_at from id A) ≡ true
 found_arrival from id [] adopted any = absurd (false≢true any)
 found_arrival from id (x ∷ A) adopted any = ⊎_elim
-    (λ here. first_is (index_of from id x) (arrived_at from id A) (ap (λ (b : Bool). is_some (cond b x.index None)) here ∙ adopted x (Contains-append_left (x ∷ []) A x (zero, omega arith, refl))))
-    (λ later. some_first (index_of from id x) (arrived_at from id A) (found_arrival from id A (λ y there. adopted y (Contains-append_right (x ∷ []) A y there)) later))
+    (λ here. first_is (arrival_index from id x) (arrived_at from id A) (ap (λ (b : Bool). is_some (cond b x.index None)) here ∙ adopted x (Contains-append_left (x ∷ []) A x (zero, omega arith, refl))))
+    (λ later. some_first (arrival_index from id x) (arrived_at from id A) (found_arrival from id A (λ y there. adopted y (Contains-append_right (x ∷ []) A y there)) later))
     (or_cases (names from id x.entry) (list_any (names from id) (map (λ (y : Arrival). y.entry) A)) any)
 
 module _ {B : Type 0} (settings : B → HubSettings) (knows : B → Fact → Type 0) (has_role : B → ℕ → Type 0) where

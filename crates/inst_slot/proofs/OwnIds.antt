@@ -20,13 +20,13 @@ use Rattle.inst_journal.specs.Sound.{Fits, IsSound}
 use Rattle.inst_journal.proofs.CountsOfEvents.{stranger_unbooked}
 use Rattle.inst_journal.proofs.OwnBookings.{own_unforwarded}
 use Rattle.inst_journal.proofs.Soundness.{sound_push}
-use Rattle.inst_ledger.specs.Book.{Book as Kept, with_event}
+use Rattle.inst_ledger.specs.Book.{LedgerBook as Kept, ledger_with_event}
 use Rattle.inst_slot.specs.Book.{Book}
 use Rattle.inst_slot.specs.Telling.{taken_by, if_unbooked, unbooked_at}
 use Rattle.inst_ledger.specs.Right.{id_of, own_ids}
 use Rattle.inst_slot.specs.inner.Indexed.{is_id}
 use Rattle.inst_slot.specs.OwnState.{booked_state, state_of_taken, own_state}
-use Rattle.inst_slot.specs.Waiting.{Deadlines, IsRight, IsWaiting, GivesNextDue, waits, takes_waiting, deadline_in}
+use Rattle.inst_slot.specs.Waiting.{Deadlines, IsRightSlot, IsWaiting, GivesNextDue, waits, takes_waiting, deadline_in}
 use Rattle.inst_slot.specs.inner.Waiting.{is_apart}
 use Rattle.inst_slot.proofs.OwnTransfersThatWait.{books_own, waiting_after, and_true_is, taken_books_none, at_end}
 use Rattle.inst_slot.proofs.CommandsThatDecideNothing.{takes_the_next}
@@ -169,10 +169,10 @@ waits_still s who J e ids w v held was still same out = record {
       ∙ ap (λ (l : List Event). takes_waiting s who (J ++ e ∷ []) d (slice_get l k)) (sym (still_taken who J e still));
 }
 
-pub keeps_right : (old new : Kept) (ids : List (List ℕ)) (w v : Deadlines) (e : Event) → IsRight old.settings old.who old.events ids w → Fits old.settings old.who old.events e → moves_none e ≡ true → new ≡ with_event old e
-    → v.deadlines ≡ w.deadlines → (who : ℕ) → who ≡ old.who → ((d k : ℕ) → has v.pairs d k ≡ (has w.pairs d k && not (books_own who e (slice_get ids k)))) → IsRight new.settings new.who new.events ids v
+pub keeps_right : (old new : Kept) (ids : List (List ℕ)) (w v : Deadlines) (e : Event) → IsRightSlot old.settings old.who old.events ids w → Fits old.settings old.who old.events e → moves_none e ≡ true → new ≡ ledger_with_event old e
+    → v.deadlines ≡ w.deadlines → (who : ℕ) → who ≡ old.who → ((d k : ℕ) → has v.pairs d k ≡ (has w.pairs d k && not (books_own who e (slice_get ids k)))) → IsRightSlot new.settings new.who new.events ids v
 keeps_right old new ids w v e right fits still ok same who own out =
-    subst (λ (x : Kept). IsRight x.settings x.who x.events ids v) (sym ok) (
+    subst (λ (x : Kept). IsRightSlot x.settings x.who x.events ids v) (sym ok) (
       right.0,
       sound_push old.settings old.who old.events e right.1 fits,
       right.2 ∙ ap (map id_of) (sym (still_taken old.who old.events e still)),
@@ -208,12 +208,12 @@ own_more s who J id to cents stamp sound fits =
     ap (map id_of) (live_taken_push who J (Taken id to cents stamp) true refl (takes_the_next s who J id to cents stamp sound fits))
     ∙ map-append id_of (live_taken who J) (Taken id to cents stamp ∷ [])
 
-pub takes_right : (old new : Kept) (ids more : List (List ℕ)) (w v : Deadlines) (id : List ℕ) (to cents stamp : ℕ) → IsRight old.settings old.who old.events ids w → Fits old.settings old.who old.events (Taken id to cents stamp)
-    → more ≡ ids ++ id ∷ [] → v.deadlines ≡ w.deadlines ++ deadline_of old.settings.limit stamp ∷ [] → Adds w.pairs v.pairs (deadline_of old.settings.limit stamp) (length w.deadlines) → new ≡ with_event old (Taken id to cents stamp)
-    → IsRight new.settings new.who new.events more v
+pub takes_right : (old new : Kept) (ids more : List (List ℕ)) (w v : Deadlines) (id : List ℕ) (to cents stamp : ℕ) → IsRightSlot old.settings old.who old.events ids w → Fits old.settings old.who old.events (Taken id to cents stamp)
+    → more ≡ ids ++ id ∷ [] → v.deadlines ≡ w.deadlines ++ deadline_of old.settings.limit stamp ∷ [] → Adds w.pairs v.pairs (deadline_of old.settings.limit stamp) (length w.deadlines) → new ≡ ledger_with_event old (Taken id to cents stamp)
+    → IsRightSlot new.settings new.who new.events more v
 takes_right old new ids more w v id to cents stamp right fits added longer adds ok =
     let e : Event = Taken id to cents stamp in
-    subst (λ (x : Kept). IsRight x.settings x.who x.events more v) (sym ok) (
+    subst (λ (x : Kept). IsRightSlot x.settings x.who x.events more v) (sym ok) (
       right.0,
       sound_push old.settings old.who old.events e right.1 fits,
       added ∙ ap (λ (l : List (List ℕ)). l ++ id ∷ []) right.2 ∙ sym (own_more old.settings old.who old.events id to cents stamp right.1 fits),
@@ -230,19 +230,19 @@ next_due book pairs pair (Some first) same least = record {
 }
 
 -- what is right by the identifiers that are the history's own
-pub re_listed : {s : HubSettings} {who : ℕ} {J : List Event} {ids : List (List ℕ)} {w : Deadlines} → IsRight s who J ids w → IsRight s who J (own_ids who J) w
+pub re_listed : {s : HubSettings} {who : ℕ} {J : List Event} {ids : List (List ℕ)} {w : Deadlines} → IsRightSlot s who J ids w → IsRightSlot s who J (own_ids who J) w
 re_listed h = (h.0, h.1, refl, h.3)
 
-pub keeps_over : (old new : Kept) (w v : Deadlines) (e : Event) → IsRight old.settings old.who old.events (own_ids old.who old.events) w → Fits old.settings old.who old.events e → moves_none e ≡ true → new ≡ with_event old e
-    → v.deadlines ≡ w.deadlines → (who : ℕ) → who ≡ old.who → ((d k : ℕ) → has v.pairs d k ≡ (has w.pairs d k && not (books_own who e (slice_get (own_ids new.who new.events) k)))) → IsRight new.settings new.who new.events (own_ids new.who new.events) v
+pub keeps_over : (old new : Kept) (w v : Deadlines) (e : Event) → IsRightSlot old.settings old.who old.events (own_ids old.who old.events) w → Fits old.settings old.who old.events e → moves_none e ≡ true → new ≡ ledger_with_event old e
+    → v.deadlines ≡ w.deadlines → (who : ℕ) → who ≡ old.who → ((d k : ℕ) → has v.pairs d k ≡ (has w.pairs d k && not (books_own who e (slice_get (own_ids new.who new.events) k)))) → IsRightSlot new.settings new.who new.events (own_ids new.who new.events) v
 keeps_over old new w v e right fits still ok same who own out =
     let ids : own_ids new.who new.events ≡ own_ids old.who old.events = ap (λ (x : Kept). own_ids x.who x.events) ok ∙ ap (map id_of) (still_taken old.who old.events e still) in
     re_listed (keeps_right old new (own_ids old.who old.events) w v e right fits still ok same who own
     (λ d k. out d k ∙ ap (λ (l : List (List ℕ)). has w.pairs d k && not (books_own who e (slice_get l k))) ids))
 
-pub takes_over : (old new : Kept) (w v : Deadlines) (id : List ℕ) (to cents stamp : ℕ) → IsRight old.settings old.who old.events (own_ids old.who old.events) w → Fits old.settings old.who old.events (Taken id to cents stamp)
-    → v.deadlines ≡ w.deadlines ++ deadline_of old.settings.limit stamp ∷ [] → Adds w.pairs v.pairs (deadline_of old.settings.limit stamp) (length w.deadlines) → new ≡ with_event old (Taken id to cents stamp)
-    → IsRight new.settings new.who new.events (own_ids new.who new.events) v
+pub takes_over : (old new : Kept) (w v : Deadlines) (id : List ℕ) (to cents stamp : ℕ) → IsRightSlot old.settings old.who old.events (own_ids old.who old.events) w → Fits old.settings old.who old.events (Taken id to cents stamp)
+    → v.deadlines ≡ w.deadlines ++ deadline_of old.settings.limit stamp ∷ [] → Adds w.pairs v.pairs (deadline_of old.settings.limit stamp) (length w.deadlines) → new ≡ ledger_with_event old (Taken id to cents stamp)
+    → IsRightSlot new.settings new.who new.events (own_ids new.who new.events) v
 takes_over old new w v id to cents stamp right fits longer adds ok =
     re_listed (takes_right old new (own_ids old.who old.events) (own_ids old.who old.events ++ id ∷ []) w v id to cents stamp right fits refl longer adds ok)
 

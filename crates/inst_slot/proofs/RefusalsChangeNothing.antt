@@ -15,10 +15,10 @@ use Rattle.inst_board.specs.declared.about.About.TheVariants.{Opened, HasTerms, 
 use Rattle.inst_board.specs.declared.about.Fact.{Fact}
 use Rattle.inst_board.specs.Standing.{Standing, unused, pending, decided, Says, about}
 use Rattle.inst_board.specs.Laws.{KnowsOpening}
-use Rattle.inst_board.specs.Learning.{KnowTheSame, Answers}
+use Rattle.inst_board.specs.Learning.{KnowTheSame, AnswersWish}
 use Rattle.inst_journal.specs.declared.event.Event.{Event}
 use Rattle.inst_journal.specs.declared.handle.Handled.{Handled}
-use Rattle.inst_journal.specs.Reply.{told, kept_event, kept_events}
+use Rattle.inst_journal.specs.Reply.{reply_result, kept_event, kept_events}
 use Rattle.inst_slot.specs.Book.{Book}
 use Rattle.inst_slot.specs.LawfulBoard.{LiesAt, IsLawfulBoard}
 use Rattle.inst_slot.specs.Asking.{request, Finds, handle_ask, book_after, Settles}
@@ -35,11 +35,11 @@ pub on_error : (P : Fault → Type 0) (r : Result Reply Fault) → ((fault : Fau
 on_error P (Ok reply) all = tt
 on_error P (Err fault) all = all fault refl
 
-nothing_kept : (r : Result Handled Fault) (fault : Fault) → told r ≡ Err fault → kept_events r ≡ []
+nothing_kept : (r : Result Handled Fault) (fault : Fault) → reply_result r ≡ Err fault → kept_events r ≡ []
 nothing_kept (Ok handled) fault e = let no : ⊥ = cc in absurd no
 nothing_kept (Err other) fault e = refl
 
-as_it_was : (book : Book) (ask : Ask) (found : Option Outcome) (fault : Fault) → told (handle_ask book ask found) ≡ Err fault → book_after book ask found ≡ book
+as_it_was : (book : Book) (ask : Ask) (found : Option Outcome) (fault : Fault) → reply_result (handle_ask book ask found) ≡ Err fault → book_after book ask found ≡ book
 as_it_was book ask found fault e =
     ap (λ (K : List Event). with_events book (book.events ++ K)) (nothing_kept (handle_ask book ask found) fault e) ∙ ap (λ (J : List Event). with_events book J) (append-nil book.events)
 
@@ -59,7 +59,7 @@ module _ {B : Type 0} (settings : B → HubSettings) (knows : B → Fact → Typ
     settles_left ask k (Err fault) new e = settles_nothing ask k (Err fault) new fault e refl
 
     -- what is true of a pending place was known
-    pending_known : (k : Place) (t : Terms) (d : ℕ) (p : Standing) → KnowsOpening knows b k t d → ((a : About) → knows b (about k a) → Says p a) → (o : Option Outcome) (wish : Wish) (at : ℕ) (m : B) → Answers margin (stood m k) wish at p o → o ≡ None
+    pending_known : (k : Place) (t : Terms) (d : ℕ) (p : Standing) → KnowsOpening knows b k t d → ((a : About) → knows b (about k a) → Says p a) → (o : Option Outcome) (wish : Wish) (at : ℕ) (m : B) → AnswersWish margin (stood m k) wish at p o → o ≡ None
         → (a : About) → Says p a → knows b (about k a)
     pending_known k t d unused kn agrees o wish at m answers none a says = absurd answers
     pending_known k t d (pending u e) kn agrees o wish at m answers none Opened says = kn.opened

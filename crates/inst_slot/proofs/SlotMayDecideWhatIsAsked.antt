@@ -26,7 +26,7 @@ use Rattle.inst_journal.specs.declared.event.Event.TheVariants.{Funded, Defunded
 use Rattle.inst_journal.specs.declared.handle.Handled.{Handled}
 use Rattle.inst_journal.specs.Booked.{takes, is_taken, is_forwarded, booked}
 use Rattle.inst_journal.specs.Opened.{carried, takes_live, live_taken}
-use Rattle.inst_journal.specs.Reply.{handle, kept_event, kept_events, standing, still_pending}
+use Rattle.inst_journal.specs.Reply.{handle, kept_event, kept_events, state_reply, still_pending}
 use Rattle.inst_journal.proofs.EventsCarriedOverOpening.{carried_unbooked}
 use Rattle.inst_slot.specs.Book.{Book, place_at, terms_to, arrived_at}
 use Rattle.inst_slot.specs.LawfulBoard.{IsTakenAt, LiesAt, IsLawfulBoard, IsAdopted}
@@ -71,7 +71,7 @@ taken_at_position book id index e =
 
 -- what a side with nothing booked keeps
 standing_kept : (from : ℕ) (id : List ℕ) (pending : Result Handled Fault) (known found : Option Outcome) (b : Bool) → b ≡ true → known ≡ None → kept_events pending ≡ []
-    → kept_events (cond b (standing from id pending known found) (Err UnknownTransfer)) ≡ kept_event (booking from id found)
+    → kept_events (cond b (state_reply from id pending known found) (Err UnknownTransfer)) ≡ kept_event (booking from id found)
 standing_kept from id pending None None true yes_is none nothing = nothing
 standing_kept from id pending None (Some o) true yes_is none nothing = refl
 standing_kept from id pending (Some o) found true yes_is none nothing = let no : ⊥ = cc in absurd no
@@ -79,9 +79,9 @@ standing_kept from id pending known found false yes_is none nothing = absurd (fa
 
 -- what a side with nothing booked is answered
 standing_answered : (from : ℕ) (id : List ℕ) (pending : Result Handled Fault) (known found : Option Outcome) (b : Bool) → b ≡ true → known ≡ None
-    → cond b (standing from id pending known found) (Err UnknownTransfer) ≡ standing from id pending None found
+    → cond b (state_reply from id pending known found) (Err UnknownTransfer) ≡ state_reply from id pending None found
 standing_answered from id pending known found b yes_is none =
-    ap (λ (b : Bool). cond b (standing from id pending known found) (Err UnknownTransfer)) yes_is ∙ ap (λ (k : Option Outcome). standing from id pending k found) none
+    ap (λ (b : Bool). cond b (state_reply from id pending known found) (Err UnknownTransfer)) yes_is ∙ ap (λ (k : Option Outcome). state_reply from id pending k found) none
 
 module _ {B : Type 0} (settings : B → HubSettings) (knows : B → Fact → Type 0) (has_role : B → ℕ → Type 0) where
   -- what a command asks of the board: a place of the books where nothing is booked, which the slot may decide
@@ -93,7 +93,7 @@ module _ {B : Type 0} (settings : B → HubSettings) (knows : B → Fact → Typ
     pub mine : (asked.1 ≡ Expire) ⊎ (may.terms.to ≡ book.who)
     pub kept : (at : ℕ) (found : Option Outcome) → kept_events (handle book.settings book.who book.events command at found) ≡ kept_event (booking asked.0.owner id found)
     pub id_is : id ≡ decided_id command
-    pub answered : (at : ℕ) (found : Option Outcome) → handle book.settings book.who book.events command at found ≡ standing asked.0.owner id (pending_for asked.1 asked.0.owner id) None found
+    pub answered : (at : ℕ) (found : Option Outcome) → handle book.settings book.who book.events command at found ≡ state_reply asked.0.owner id (pending_for asked.1 asked.0.owner id) None found
     pub answers : is_expiry asked.1 ≡ false → is_forwarded asked.0.owner id book.events ≡ true
 
   may_answer : (b : B) (book : Book) (from : ℕ) (id : List ℕ) (index : ℕ) (wish : Wish) → IsLawfulBoard settings knows has_role b book → arrived_at from id book.arrivals ≡ Some index

@@ -36,7 +36,7 @@ use Rattle.inst_ledger.proofs.HistoryEventByEvent.{fits_at_place}
 use Rattle.inst_slot.specs.declared.arrival.Arrival.{Arrival}
 use Rattle.inst_slot.specs.Book.{Book, place_at, terms_to, live_inbox}
 use Rattle.inst_slot.specs.LawfulBoard.{KnowsEnd, IsLawfulBoard, KeepsOthers}
-use Rattle.inst_slot.specs.Opening.{arrival_without_place, opened_again, MayOpenAgain, IsOfOpening, OpensPlaces}
+use Rattle.inst_slot.specs.Opening.{arrival_without_place, opened_again, MayOpenAgain, IsOfTakenSubmission, OpensPlaces}
 use Rattle.inst_slot.proofs.LiveTransfersAfterEvent.{slice_get_left, filtered}
 use Rattle.inst_slot.proofs.BooksOfOthersStay.{others_opening}
 use Rattle.inst_slot.proofs.Spots.{is_unbooked}
@@ -148,7 +148,7 @@ last_got (y ∷ ys) x = last_got ys x
 shown_pending : (t : Terms) (d : ℕ) (a : About) → Says (pending t d) a → Shows (pending t d) a
 shown_pending t d a says = says
 
-pub still_there : (who : ℕ) (s : HubSettings) (taken : List Event) (x : Event) (f : Fact) → IsOfOpening s who taken f → IsOfOpening s who (taken ++ x ∷ []) f
+pub still_there : (who : ℕ) (s : HubSettings) (taken : List Event) (x : Event) (f : Fact) → IsOfTakenSubmission s who taken f → IsOfTakenSubmission s who (taken ++ x ∷ []) f
 still_there who s taken x f o = record {
   index = o.index;
   id = o.id;

@@ -25,7 +25,7 @@ use Rattle.inst_transfers.specs.declared.transfer.Transfer.{Transfer}
 use Rattle.inst_transfers.specs.State.{Key, same_key, row_of, outcome_in}
 use Rattle.inst_transfers.specs.Held.{Held, state_in, found_at, row_in, rows_in, AreApart, AreWithin, AreRising, IsFound}
 use Rattle.inst_transfers.proofs.Rows.{within_more, within_last, rising_push, rising_all, same_index, row_there, keys_equiv}
-use Rattle.inst_ledger.specs.Book.{Book as Kept, with_event}
+use Rattle.inst_ledger.specs.Book.{LedgerBook as Kept, ledger_with_event}
 use Rattle.inst_ledger.specs.Right.{IsRight}
 use Rattle.inst_ledger.proofs.Inbox.{get_still, get_next}
 use Rattle.inst_ledger.proofs.TableStaysRight.{rows_push}
@@ -34,7 +34,7 @@ use Rattle.inst_slot.specs.declared.arrivals.Spot.{Spot}
 use Rattle.inst_slot.specs.inner.Answering.{book_with_arrivals, book_with_spots}
 use Rattle.inst_slot.specs.Arrived.{unbooked_place, NoneUnbooked}
 use Rattle.inst_slot.specs.Book.{Book, arrived_at, place_with_index}
-use Rattle.inst_slot.specs.Opening.{is_of}
+use Rattle.inst_slot.specs.Opening.{is_arrival_of}
 use Rattle.inst_slot.specs.Spots.{rows_of, no_entry, arrival_of, arrivals_of, positions_of, AreSpots}
 use Rattle.inst_slot.specs.inner.Spots.{FindsSpot, IsSpotAt}
 use Rattle.inst_slot.proofs.ArrivalsOfOneTransfer.{none_counted, counted_once, none_arrived, arrived_there}
@@ -57,14 +57,14 @@ spots_still rows more S are = (within_more (length rows) (length (rows ++ more))
 spots_after : (who : ℕ) (J : List Event) (e : Event) (S : List Spot) → AreSpots (rows_of who J) S → AreSpots (rows_of who (J ++ e ∷ [])) S
 spots_after who J e S are = subst (λ (rows : List Entry). AreSpots rows S) (sym (rows_push who J e)) (spots_still (rows_of who J) (cons_option (row_of who e) []) S are)
 
-pub spots_over : (old new : Kept) (e : Event) (S : List Spot) → new ≡ with_event old e → AreSpots (rows_of old.who old.events) S → AreSpots (rows_of new.who new.events) S
+pub spots_over : (old new : Kept) (e : Event) (S : List Spot) → new ≡ ledger_with_event old e → AreSpots (rows_of old.who old.events) S → AreSpots (rows_of new.who new.events) S
 spots_over old new e S is are = subst (λ (x : Kept). AreSpots (rows_of x.who x.events) S) (sym is) (spots_after old.who old.events e S are)
 
-pub over_after : (old new : Kept) (e : Event) (S : List Spot) → new ≡ with_event old e → AreSpots (rows_of old.who old.events) S → book_with_spots new S ≡ book_with_arrivals (with_event old e) (arrivals_of (rows_of old.who old.events) S)
+pub over_after : (old new : Kept) (e : Event) (S : List Spot) → new ≡ ledger_with_event old e → AreSpots (rows_of old.who old.events) S → book_with_spots new S ≡ book_with_arrivals (ledger_with_event old e) (arrivals_of (rows_of old.who old.events) S)
 over_after old new e S is are =
     ap (λ (x : Kept). book_with_spots x S) is
-    ∙ ap (λ (rows : List Entry). book_with_arrivals (with_event old e) (arrivals_of rows S)) (rows_push old.who old.events e)
-    ∙ ap (book_with_arrivals (with_event old e)) (arrivals_still (rows_of old.who old.events) (cons_option (row_of old.who e) []) S are.0)
+    ∙ ap (λ (rows : List Entry). book_with_arrivals (ledger_with_event old e) (arrivals_of rows S)) (rows_push old.who old.events e)
+    ∙ ap (book_with_arrivals (ledger_with_event old e)) (arrivals_still (rows_of old.who old.events) (cons_option (row_of old.who e) []) S are.0)
 
 -- one spot more, at the position of a row that comes
 pub spots_next : (rows : List Entry) (entry : Entry) (S : List Spot) (s : Spot) → s.position ≡ length rows → AreSpots rows S → AreSpots (rows ++ entry ∷ []) (S ++ s ∷ [])
@@ -156,7 +156,7 @@ module _ (S : List Spot) (rising : AreRising (positions_of S)) (position : ℕ) 
               omega (arith, above, at)
 
 -- by what names the transfer
-named : (from : ℕ) (id : List ℕ) (x : Arrival) → is_of from id x ≡ true → (x.entry.from ≡ from) × (x.entry.id ≡ id)
+named : (from : ℕ) (id : List ℕ) (x : Arrival) → is_arrival_of from id x ≡ true → (x.entry.from ≡ from) × (x.entry.id ≡ id)
 named from id x mine =
     let parts = and_parts (x.entry.from == from) (same_text x.entry.id id) mine in
     (eqb-true x.entry.from from parts.0, text_same x.entry.id id (sym parts.1))
@@ -166,7 +166,7 @@ module _ (rows : List Entry) (S : List Spot) (apart : AreApart rows) (are : AreS
   row_at i s there = slice_get-get_or rows s.position no_entry (within_there (length rows) S i s are.0 there)
 
   -- an arrival of the transfer is at a spot of its position
-  at_position : (p : ℕ) (e : Entry) → slice_get rows p ≡ Some e → e.from ≡ from → e.id ≡ id → (j : ℕ) (y : Arrival) → slice_get (arrivals_of rows S) j ≡ Some y → is_of from id y ≡ true
+  at_position : (p : ℕ) (e : Entry) → slice_get rows p ≡ Some e → e.from ≡ from → e.id ≡ id → (j : ℕ) (y : Arrival) → slice_get (arrivals_of rows S) j ≡ Some y → is_arrival_of from id y ≡ true
       → (s : Spot) × (slice_get S j ≡ Some s) × (s.position ≡ p)
   at_position p e row from_is id_is j y there mine =
       let s = spot_of rows S j y there in
@@ -174,21 +174,21 @@ module _ (rows : List Entry) (S : List Spot) (apart : AreApart rows) (are : AreS
       let here : slice_get rows s.0.position ≡ Some y.entry = row_at j s.0 s.1 ∙ ap (λ (x : Arrival). Some x.entry) s.2 in
       (s.0, s.1, apart s.0.position p y.entry e here row (n.0 ∙ sym from_is) (n.1 ∙ sym id_is))
 
-  unique : (i j : ℕ) (x y : Arrival) → slice_get (arrivals_of rows S) i ≡ Some x → slice_get (arrivals_of rows S) j ≡ Some y → is_of from id x ≡ true → is_of from id y ≡ true → i ≡ j
+  unique : (i j : ℕ) (x y : Arrival) → slice_get (arrivals_of rows S) i ≡ Some x → slice_get (arrivals_of rows S) j ≡ Some y → is_arrival_of from id x ≡ true → is_arrival_of from id y ≡ true → i ≡ j
   unique i j x y here there mine yours =
       let s = spot_of rows S i x here in
       let n = named from id x mine in
       let t = at_position s.0.position x.entry (row_at i s.0 s.1 ∙ ap (λ (z : Arrival). Some z.entry) s.2) n.0 n.1 j y there yours in
       one_spot S i j s.0 t.0 are.1 s.1 t.1 (sym t.2)
 
-  pub arrives_once : count_by (is_of from id) (arrivals_of rows S) ≤ 1
-  arrives_once = counted_once (is_of from id) (arrivals_of rows S) unique
+  pub arrives_once : count_by (is_arrival_of from id) (arrivals_of rows S) ≤ 1
+  arrives_once = counted_once (is_arrival_of from id) (arrivals_of rows S) unique
 
   module _ (p : ℕ) (e : Entry) (row : slice_get rows p ≡ Some e) (from_is : e.from ≡ from) (id_is : e.id ≡ id) where
     pub is_here : (k : ℕ) (at : IsSpotAt S p k) → (arrival_of rows at.spot).entry ≡ e
     is_here k at = ap (λ (n : ℕ). get_or rows n no_entry) at.is ∙ get_or_from_slice_get rows p e no_entry row
 
-    pub is_named : (k : ℕ) (at : IsSpotAt S p k) → is_of from id (arrival_of rows at.spot) ≡ true
+    pub is_named : (k : ℕ) (at : IsSpotAt S p k) → is_arrival_of from id (arrival_of rows at.spot) ≡ true
     is_named k at =
         ap (λ (x : Entry). (x.from == from) && same_text x.id id) (is_here k at)
         ∙ ap (λ (b : Bool). b && same_text e.id id) (eq-eqb e.from from from_is) ∙ ap (λ (l : List ℕ). same_text l id) id_is ∙ same_text_refl id
@@ -199,7 +199,7 @@ module _ (rows : List Entry) (S : List Spot) (apart : AreApart rows) (are : AreS
         let mine = is_named k at in
         arrived_there from id (arrivals_of rows S) k (arrival_of rows at.spot) there mine (λ j y here yours. unique k j (arrival_of rows at.spot) y there here mine yours)
 
-    none_here : FindsSpot S p None → (j : ℕ) (y : Arrival) → slice_get (arrivals_of rows S) j ≡ Some y → is_of from id y ≡ true → ⊥
+    none_here : FindsSpot S p None → (j : ℕ) (y : Arrival) → slice_get (arrivals_of rows S) j ≡ Some y → is_arrival_of from id y ≡ true → ⊥
     none_here none j y there mine =
         let s = at_position p e row from_is id_is j y there mine in
         absurd (none j s.0 s.1 s.2)
@@ -207,8 +207,8 @@ module _ (rows : List Entry) (S : List Spot) (apart : AreApart rows) (are : AreS
     pub not_here : FindsSpot S p None → arrived_at from id (arrivals_of rows S) ≡ None
     not_here none = none_arrived from id (arrivals_of rows S) (none_here none)
 
-    pub counted_none : FindsSpot S p None → count_by (is_of from id) (arrivals_of rows S) ≡ 0
-    counted_none none = none_counted (is_of from id) (arrivals_of rows S) (none_here none)
+    pub counted_none : FindsSpot S p None → count_by (is_arrival_of from id) (arrivals_of rows S) ≡ 0
+    counted_none none = none_counted (is_arrival_of from id) (arrivals_of rows S) (none_here none)
 
 -- what the table doesn't find hasn't arrived
 module _ (es : List (Key × Transfer)) (rows : List Entry) (S : List Spot) (same : rows_in es ≡ rows) (are : AreSpots rows S) (from : ℕ) (id : List ℕ) (none : found_at es (from, id) ≡ None) where
@@ -217,7 +217,7 @@ module _ (es : List (Key × Transfer)) (rows : List Entry) (S : List Spot) (same
   key_there (e ∷ es) zero x there = let same : row_in e ≡ x = cc in ap (λ (y : Entry). Some (y.from, y.id)) same
   key_there (e ∷ es) (suc p) x there = key_there es p x there
 
-  absent : (j : ℕ) (y : Arrival) → slice_get (arrivals_of rows S) j ≡ Some y → is_of from id y ≡ true → ⊥
+  absent : (j : ℕ) (y : Arrival) → slice_get (arrivals_of rows S) j ≡ Some y → is_arrival_of from id y ≡ true → ⊥
   absent j y there mine =
       let s = spot_of rows S j y there in
       let n = named from id y mine in
@@ -230,8 +230,8 @@ module _ (es : List (Key × Transfer)) (rows : List Entry) (S : List Spot) (same
   pub unknown_here : arrived_at from id (arrivals_of rows S) ≡ None
   unknown_here = none_arrived from id (arrivals_of rows S) absent
 
-  pub unknown_counted : count_by (is_of from id) (arrivals_of rows S) ≡ 0
-  unknown_counted = none_counted (is_of from id) (arrivals_of rows S) absent
+  pub unknown_counted : count_by (is_arrival_of from id) (arrivals_of rows S) ≡ 0
+  unknown_counted = none_counted (is_arrival_of from id) (arrivals_of rows S) absent
 
 -- what was found stands in the rows of the history
 pub found_row : (who : ℕ) (J : List Event) (h : Held) (f : Found) → IsRight who J (state_in h) → IsFound h f → slice_get (rows_of who J) f.position ≡ Some (row_in ((f.from, f.id), f.transfer))
@@ -249,19 +249,19 @@ positions_set (x ∷ S) zero s t there same = let here : x ≡ s = cc in ap (λ 
 positions_set (x ∷ S) (suc i) s t there same = ap (λ (l : List ℕ). x.position ∷ l) (positions_set S i s t there same)
 
 -- after a transfer was forwarded
-pub spots_forwarded : (old new : Kept) (entry : Entry) (S : List Spot) (s : Spot) → new ≡ with_event old (Forwarded entry.from entry.id entry.cents entry.deadline) → s.position ≡ length (rows_of old.who old.events) → AreSpots (rows_of old.who old.events) S
+pub spots_forwarded : (old new : Kept) (entry : Entry) (S : List Spot) (s : Spot) → new ≡ ledger_with_event old (Forwarded entry.from entry.id entry.cents entry.deadline) → s.position ≡ length (rows_of old.who old.events) → AreSpots (rows_of old.who old.events) S
     → AreSpots (rows_of new.who new.events) (S ++ s ∷ [])
 spots_forwarded old new entry S s is at are =
     subst (λ (x : Kept). AreSpots (rows_of x.who x.events) (S ++ s ∷ [])) (sym is)
     (subst (λ (rows : List Entry). AreSpots rows (S ++ s ∷ [])) (sym (rows_push old.who old.events (Forwarded entry.from entry.id entry.cents entry.deadline))) (spots_next (rows_of old.who old.events) entry S s at are))
 
-pub over_forwarded : (old new : Kept) (entry : Entry) (S : List Spot) (s : Spot) → new ≡ with_event old (Forwarded entry.from entry.id entry.cents entry.deadline) → s.position ≡ length (rows_of old.who old.events) → AreSpots (rows_of old.who old.events) S
-    → book_with_spots new (S ++ s ∷ []) ≡ book_with_arrivals (with_event old (Forwarded entry.from entry.id entry.cents entry.deadline)) (arrivals_of (rows_of old.who old.events) S ++ lying s.index entry ∷ [])
+pub over_forwarded : (old new : Kept) (entry : Entry) (S : List Spot) (s : Spot) → new ≡ ledger_with_event old (Forwarded entry.from entry.id entry.cents entry.deadline) → s.position ≡ length (rows_of old.who old.events) → AreSpots (rows_of old.who old.events) S
+    → book_with_spots new (S ++ s ∷ []) ≡ book_with_arrivals (ledger_with_event old (Forwarded entry.from entry.id entry.cents entry.deadline)) (arrivals_of (rows_of old.who old.events) S ++ lying s.index entry ∷ [])
 over_forwarded old new entry S s is at are =
     let e : Event = Forwarded entry.from entry.id entry.cents entry.deadline in
     ap (λ (x : Kept). book_with_spots x (S ++ s ∷ [])) is
-    ∙ ap (λ (rows : List Entry). book_with_arrivals (with_event old e) (arrivals_of rows (S ++ s ∷ []))) (rows_push old.who old.events e)
-    ∙ ap (book_with_arrivals (with_event old e)) (arrivals_next (rows_of old.who old.events) entry S s at are)
+    ∙ ap (λ (rows : List Entry). book_with_arrivals (ledger_with_event old e) (arrivals_of rows (S ++ s ∷ []))) (rows_push old.who old.events e)
+    ∙ ap (book_with_arrivals (ledger_with_event old e)) (arrivals_next (rows_of old.who old.events) entry S s at are)
 
 -- what is booked of the arrival at a spot
 pub unbooked_is : (book : Book) (h : Held) (f : Found) (s : Spot) → IsRight book.who book.events (state_in h) → IsFound h f → f.position ≡ s.position

@@ -26,7 +26,7 @@ use Rattle.inst_journal.specs.declared.event.Event.TheVariants.{Taken}
 use Rattle.inst_journal.specs.declared.handle.Handled.{Handled}
 use Rattle.inst_journal.specs.Booked.{takes, is_taken, is_forwarded, booked}
 use Rattle.inst_journal.specs.Opened.{live_taken, live_submissions}
-use Rattle.inst_journal.specs.Reply.{handle, told, kept_events, copies}
+use Rattle.inst_journal.specs.Reply.{handle, reply_result, kept_events, copies}
 use Rattle.inst_slot.specs.Book.{Book, place_at, terms_to, arrived_at}
 use Rattle.inst_slot.specs.LawfulBoard.{IsAdopted}
 
@@ -118,7 +118,7 @@ takes_memory book ask =
 abbrev pub Enters : {B : Type 0} → ℕ → (B → Fact → Type 0) → B → Book → Ask → Result Reply Fault →
     B → Book → Type 0
 Enters margin knows b book ask result c new =
-    ((result ≡ told (handle_ask book ask None)) × (new ≡ book_after book ask None)
+    ((result ≡ reply_result (handle_ask book ask None)) × (new ≡ book_after book ask None)
     × Opens margin knows book (kept_events (handle_ask book ask None)) b c)
     ⊎ ((result ≡ Err Memory) × (new ≡ book) × (c ≡ b) × (takes_memory book ask ≡ true))
 
@@ -128,7 +128,7 @@ abbrev pub Settles : {B : Type 0} → ℕ → (B → Fact → Type 0) → (B →
     (B → Place → Outcome → Type 0) →
     (B → B → Type 0) → B → Book → Ask → Place → Wish → Result Reply Fault → B → Book → Type 0
 Settles margin knows has_role stood stays b book ask k wish result c new =
-    ((found : Option Outcome) × (result ≡ told (handle_ask book ask found))
+    ((found : Option Outcome) × (result ≡ reply_result (handle_ask book ask found))
     × (new ≡ book_after book ask found)
     × Finds margin knows has_role stood stays b k wish ask.at found c)
     ⊎ ((result ≡ Err Memory) × (new ≡ book)

@@ -36,13 +36,13 @@ abbrev pub live_inbox : List Event → List Entry
 live_inbox J = filter (λ entry. is_live entry.from entry.id J) (inbox J)
 
 -- the index of the place, where the arrival is of this transfer and its place was found
-abbrev pub index_of : ℕ → List ℕ → Arrival → Option ℕ
-index_of from id arrival =
+abbrev pub arrival_index : ℕ → List ℕ → Arrival → Option ℕ
+arrival_index from id arrival =
     if same_transfer from id arrival.entry.from arrival.entry.id then arrival.index else None
 
 -- the index of the place from which the transfer was forwarded
 abbrev pub arrived_at : ℕ → List ℕ → List Arrival → Option ℕ
-arrived_at from id arrivals = first_some (index_of from id) arrivals
+arrived_at from id arrivals = first_some (arrival_index from id) arrivals
 
 -- whether it is this index
 abbrev pub is_at : ℕ → Option ℕ → Bool

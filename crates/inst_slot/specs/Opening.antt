@@ -53,7 +53,7 @@ pub record MayOpenAgain {B : Type 0} (settings : B → HubSettings) (knows : B �
 
 -- the fact is of the opening of one of these submissions, which have the first places of `who` in
 -- their order
-pub record IsOfOpening (hub : HubSettings) (who : ℕ) (taken : List Event) (f : Fact) : Type 0 where
+pub record IsOfTakenSubmission (hub : HubSettings) (who : ℕ) (taken : List Event) (f : Fact) : Type 0 where
   pub index : ℕ
   pub id : List ℕ
   pub to : ℕ
@@ -68,15 +68,15 @@ pub record IsOfOpening (hub : HubSettings) (who : ℕ) (taken : List Event) (f :
 -- agrees: what was known of such a place is true of the pending transfer
 pub record OpensPlaces {B : Type 0} (knows : B → Fact →
     Type 0) (hub : HubSettings) (who : ℕ) (taken : List Event) (b c : B) : Type 0 where
-  pub known : (f : Fact) → knows c f ↔ (knows b f ⊎ IsOfOpening hub who taken f)
+  pub known : (f : Fact) → knows c f ↔ (knows b f ⊎ IsOfTakenSubmission hub who taken f)
   pub agrees : (index : ℕ) (id : List ℕ) (to cents stamp : ℕ) →
       slice_get taken index ≡ Some (Taken id to cents stamp) →
       (a : About) → knows b (about (place_at who index) a) →
       Says (pending (terms_to to cents id) (deadline_of hub.limit stamp)) a
 
 -- whether the arrival is of this transfer
-abbrev pub is_of : ℕ → List ℕ → Arrival → Bool
-is_of from id arrival = same_transfer from id arrival.entry.from arrival.entry.id
+abbrev pub is_arrival_of : ℕ → List ℕ → Arrival → Bool
+is_arrival_of from id arrival = same_transfer from id arrival.entry.from arrival.entry.id
 
 -- whether the place of the arrival isn't found yet
 abbrev pub is_unfound : Arrival → Bool
@@ -86,7 +86,7 @@ is_unfound arrival = is_none arrival.index
 -- transfer
 abbrev pub awaits : Place → Terms → ℕ → Arrival → Bool
 awaits k t deadline arrival =
-    is_of k.owner t.id arrival && is_unfound arrival && (arrival.entry.cents == t.cents)
+    is_arrival_of k.owner t.id arrival && is_unfound arrival && (arrival.entry.cents == t.cents)
     && (arrival.entry.deadline == deadline)
 
 -- how many places of carried transfers aren't found yet
@@ -101,14 +101,14 @@ finds_carried book k (Pending t deadline) =
 finds_carried book k _ = false
 
 -- the arrival, which lies at this place where it awaits it
-abbrev pub found_at : Place → Terms → ℕ → Arrival → Arrival
-found_at k t deadline arrival =
+abbrev pub arrival_found_at : Place → Terms → ℕ → Arrival → Arrival
+arrival_found_at k t deadline arrival =
     if awaits k t deadline arrival then record { entry = arrival.entry; index = Some k.index }
     else arrival
 
 -- the book after a look at the place
 abbrev pub with_found : Book → Place → Look → Book
 with_found book k (Pending t deadline) =
-    if t.to == book.who then record book { arrivals = map (found_at k t deadline) book.arrivals }
+    if t.to == book.who then record book { arrivals = map (arrival_found_at k t deadline) book.arrivals }
     else book
 with_found book k _ = book

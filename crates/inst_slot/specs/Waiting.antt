@@ -61,6 +61,6 @@ pub record IsWaiting (s : HubSettings) (who : ℕ) (J : List Event) (waiting : D
     pub pairs : (d k : ℕ) → has waiting.pairs d k ≡ waits s who J d k
 
 -- what is right of a slot's history, and of all that it keeps beside it
-abbrev pub IsRight : HubSettings → ℕ → List Event → List (List ℕ) → Deadlines → Type 0
-IsRight s who J ids waiting =
+abbrev pub IsRightSlot : HubSettings → ℕ → List Event → List (List ℕ) → Deadlines → Type 0
+IsRightSlot s who J ids waiting =
     IsSettings s × IsSound s who J × (ids ≡ own_ids who J) × IsWaiting s who J waiting

@@ -2,7 +2,7 @@
 ghost use Rattle.std.specs.Prelude.{◌≡◌, false, position};
 ghost use Rattle.inst_journal.specs.Booked.{takes, booked};
 ghost use Rattle.inst_journal.specs.Opened.{live_taken};
-ghost use Rattle.inst_journal.specs.Reply.{told};
+ghost use Rattle.inst_journal.specs.Reply.{reply_result};
 ghost use Rattle.inst_slot.specs.Asking.{wish_for, request, Settles};
 ghost use Rattle.inst_slot.specs.Book.{arrived_at};
 ghost use Rattle.inst_ledger.specs.Right.{own_ids};
@@ -10,8 +10,8 @@ ghost use Rattle.inst_slot.specs.LawfulBoard.{IsLawfulBoard};
 ghost use Rattle.inst_slot.specs.Spots.{rows_of, arrivals_of, AreSpots};
 ghost use Rattle.inst_slot.specs.inner.Answering.{book_with_spots, decided_id, is_expiry};
 ghost use Rattle.inst_slot.specs.inner.Answering.{pending_for, IsAsking};
-ghost use Rattle.inst_slot.specs.inner.Answering.{Gives};
-ghost use Rattle.inst_slot.specs.Waiting.{IsRight};
+ghost use Rattle.inst_slot.specs.inner.Answering.{GivesRequest};
+ghost use Rattle.inst_slot.specs.Waiting.{IsRightSlot};
 
 use crate::arrivals::{Spot, arrived_at};
 use crate::booking::book;
@@ -35,7 +35,7 @@ pub(crate) struct Request {
 /// The transfer that the command decides, its place, and what it wishes for it.
 pub(crate) fn request_of(ledger: &Ledger, arrivals: &[Spot], command: &Command) -> Option<Request>
     requires spots { AreSpots (rows_of ledger.now.book.who ledger.now.book.events) arrivals.now }
-    ensures { Gives ledger.now (request (book_with_spots ledger.now.book arrivals.now) command.now)
+    ensures { GivesRequest ledger.now (request (book_with_spots ledger.now.book arrivals.now) command.now)
         (decided_id command.now) result }
 {
     match command {
@@ -62,7 +62,7 @@ fn answer_to(
 ) -> Option<Request>
     requires spots { AreSpots (rows_of ledger.now.book.who ledger.now.book.events) arrivals.now }
     requires answers { is_expiry wish ≡ false }
-    ensures { Gives ledger.now
+    ensures { GivesRequest ledger.now
         (wish_for wish from (booked from id.now ledger.now.book.events)
         (arrived_at from id.now
         (arrivals_of (rows_of ledger.now.book.who ledger.now.book.events) arrivals.now))) id.now
@@ -80,7 +80,7 @@ fn answer_to(
 
 /// Of a taken transfer with nothing booked, which may expire.
 fn question_about(ledger: &Ledger, id: &Ident) -> Option<Request>
-    ensures { Gives ledger.now
+    ensures { GivesRequest ledger.now
         (wish_for Wish.Expire ledger.now.book.who
         (booked ledger.now.book.who id.now ledger.now.book.events)
         (position (takes id.now) (live_taken ledger.now.book.who ledger.now.book.events))) id.now
@@ -101,7 +101,7 @@ fn question_about(ledger: &Ledger, id: &Ident) -> Option<Request>
 /// What the participant is answered where the transfer stays pending: a confirmation comes too
 /// late.
 fn pending(wish: &Wish, from: u8, id: Ident) -> Result<Reply, Fault>
-    ensures { result ≡ told (pending_for wish.now from id) }
+    ensures { result ≡ reply_result (pending_for wish.now from id) }
 {
     match wish {
         Wish::Accept => Err(Fault::Expired),
@@ -130,13 +130,13 @@ pub(crate) fn settle<B: Board>(
         (decided_id ask.now.command)
         asked.now }
     requires spots { AreSpots (rows_of ledger.old.book.who ledger.old.book.events) arrivals.now }
-    requires right { IsRight ledger.old.book.settings ledger.old.book.who ledger.old.book.events
+    requires right { IsRightSlot ledger.old.book.settings ledger.old.book.who ledger.old.book.events
         (own_ids ledger.old.book.who ledger.old.book.events) waiting.old }
     ensures settles { Settles (B.settings board.old).margin B.knows B.has_role B.stood B.stays
         board.old
         (book_with_spots ledger.old.book arrivals.now) ask.now asked.now.place asked.now.wish result
         board.new (book_with_spots ledger.new.book arrivals.now) }
-    ensures right { IsRight ledger.new.book.settings ledger.new.book.who ledger.new.book.events
+    ensures right { IsRightSlot ledger.new.book.settings ledger.new.book.who ledger.new.book.events
         (own_ids ledger.new.book.who ledger.new.book.events) waiting.new }
     ensures spots { AreSpots (rows_of ledger.new.book.who ledger.new.book.events) arrivals.now }
     ensures stays { B.stays board.old board.new }

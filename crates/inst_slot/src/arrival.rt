@@ -1,7 +1,7 @@
 //! Where a live transfer lies that was forwarded to a participant.
 ghost use Rattle.std.specs.Prelude.{◌≡◌};
 ghost use Rattle.inst_slot.specs.Book.{is_at};
-ghost use Rattle.inst_slot.specs.Opening.{is_of, is_unfound, awaits};
+ghost use Rattle.inst_slot.specs.Opening.{is_arrival_of, is_unfound, awaits};
 
 use inst_base::{Ident, Moment};
 use inst_command::{Entry, Place};
@@ -27,7 +27,7 @@ pub(crate) fn is_at(index: u16, found: Option<u16>) -> bool
 
 /// Whether the arrival is of this transfer.
 fn is_of(arrival: &Arrival, from: u8, id: &Ident) -> bool
-    ensures { result ≡ is_of from id.now arrival.now }
+    ensures { result ≡ is_arrival_of from id.now arrival.now }
 {
     arrival.entry.from == from && arrival.entry.id == *id
 }

@@ -5,7 +5,7 @@ ghost use Rattle.std.specs.List.{list_any};
 ghost use Rattle.inst_journal.specs.Opened.{carried};
 ghost use Rattle.inst_transfers.specs.Held.{IsFound, AreRising};
 ghost use Rattle.inst_slot.specs.Book.{live_inbox, arrived_at};
-ghost use Rattle.inst_slot.specs.Opening.{arrival_without_place, awaits, found_at};
+ghost use Rattle.inst_slot.specs.Opening.{arrival_without_place, awaits, arrival_found_at};
 ghost use Rattle.inst_slot.specs.Spots.{rows_of, arrivals_of, positions_of, AreSpots};
 ghost use Rattle.inst_slot.specs.inner.Spots.{booked_at, FindsSpot};
 
@@ -70,7 +70,7 @@ pub(crate) fn find_at(
     ensures found { result ≡ list_any (awaits place terms.now deadline)
         (arrivals_of (rows_of ledger.now.book.who ledger.now.book.events) spots.old.items) }
     ensures kept { arrivals_of (rows_of ledger.now.book.who ledger.now.book.events) spots.new.items
-        ≡ map (found_at place terms.now deadline)
+        ≡ map (arrival_found_at place terms.now deadline)
         (arrivals_of (rows_of ledger.now.book.who ledger.now.book.events) spots.old.items) }
     ensures spots { AreSpots (rows_of ledger.now.book.who ledger.now.book.events) spots.new.items }
 {

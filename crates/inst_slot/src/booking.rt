@@ -2,12 +2,12 @@
 ghost use Rattle.std.specs.Prelude.{◌≡◌, ◌<◌, OnOk, OnErr, IsOk};
 ghost use Rattle.inst_journal.specs.declared.event.Event.{Event};
 ghost use Rattle.inst_journal.specs.Sound.{Fits};
-ghost use Rattle.inst_ledger.specs.Book.{with_event};
+ghost use Rattle.inst_ledger.specs.Book.{ledger_with_event};
 ghost use Rattle.inst_transfers.specs.Held.{IsFound};
 ghost use Rattle.inst_slot.specs.inner.Answering.{IsOwnAt};
 ghost use Rattle.inst_slot.specs.Book.{place_at};
 ghost use Rattle.inst_ledger.specs.Right.{own_ids};
-ghost use Rattle.inst_slot.specs.Waiting.{IsRight};
+ghost use Rattle.inst_slot.specs.Waiting.{IsRightSlot};
 
 use crate::waiting::Waiting;
 use inst_base::mention;
@@ -30,12 +30,12 @@ pub(crate) fn book(
         IsOwnAt ledger.old.book found.now.id (place_at found.now.from index) }
     requires fits { Fits ledger.old.book.settings ledger.old.book.who ledger.old.book.events
         (Event.Booked found.now.from found.now.id outcome.now) }
-    requires right { IsRight ledger.old.book.settings ledger.old.book.who ledger.old.book.events
+    requires right { IsRightSlot ledger.old.book.settings ledger.old.book.who ledger.old.book.events
         (own_ids ledger.old.book.who ledger.old.book.events) waiting.old }
     ensures ok { OnOk result (ledger.new.book
-        ≡ with_event ledger.old.book (Event.Booked found.now.from found.now.id outcome.now)) }
+        ≡ ledger_with_event ledger.old.book (Event.Booked found.now.from found.now.id outcome.now)) }
     ensures err { OnErr result (ledger.new.book ≡ ledger.old.book) }
-    ensures right { IsRight ledger.new.book.settings ledger.new.book.who ledger.new.book.events
+    ensures right { IsRightSlot ledger.new.book.settings ledger.new.book.who ledger.new.book.events
         (own_ids ledger.new.book.who ledger.new.book.events) waiting.new }
     ensures room { 0 < ledger.old.room → IsOk result }
 {

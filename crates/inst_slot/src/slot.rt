@@ -47,7 +47,7 @@ impl Model for Slot {
     ghost use Rattle.inst_slot.specs.Book.{Book};
     ghost use Rattle.inst_ledger.specs.Right.{own_ids};
     ghost use Rattle.inst_slot.specs.Spots.{rows_of, arrivals_of, AreSpots};
-    ghost use Rattle.inst_slot.specs.Waiting.{IsRight};
+    ghost use Rattle.inst_slot.specs.Waiting.{IsRightSlot};
 
     ghost Value = { Book };
 

@@ -9,7 +9,7 @@ use Rattle.inst_base.specs.Cents.{is_amount}
 use Rattle.inst_command.specs.declared.line.Line.{Line}
 use Rattle.inst_journal.specs.declared.event.Event.{Event}
 use Rattle.inst_statement.specs.declared.kept_line.KeptLine.{KeptLine}
-use Rattle.inst_statement.specs.KeptLine.{name_of, name_at, AreNamed, line_at, lines_at, reached, MoveByAmounts}
+use Rattle.inst_statement.specs.KeptLine.{line_name, name_at, AreNamed, line_at, lines_at, reached, MoveByAmounts}
 
 pub reached_push : (before : ℕ) (lines : List KeptLine) (kept : KeptLine) → reached before (lines ++ kept ∷ []) ≡ kept.position
 reached_push before [] kept = refl
@@ -62,7 +62,7 @@ name_stands (event ∷ J) new zero named = refl
 name_stands (event ∷ J) new (suc index) named = name_stands J new index named
 
 -- the new event's name
-pub name_last : (J : List Event) (new : Event) → name_at (J ++ new ∷ []) (length J) ≡ name_of new
+pub name_last : (J : List Event) (new : Event) → name_at (J ++ new ∷ []) (length J) ≡ line_name new
 name_last [] new = refl
 name_last (event ∷ J) new = name_last J new
 
@@ -87,7 +87,7 @@ named_stand J new lines named =
     (λ k here. ap is_some (name_stands J new k.event here) ∙ here) lines named
 
 -- and with the line of the new event
-pub named_push : (J : List Event) (new : Event) (lines : List KeptLine) (kept : KeptLine) → kept.event ≡ length J → IsSome (name_of new) → AreNamed J lines → AreNamed (J ++ new ∷ []) (lines ++ kept ∷ [])
+pub named_push : (J : List Event) (new : Event) (lines : List KeptLine) (kept : KeptLine) → kept.event ≡ length J → IsSome (line_name new) → AreNamed J lines → AreNamed (J ++ new ∷ []) (lines ++ kept ∷ [])
 named_push J new lines kept last here named =
     All-push (λ (k : KeptLine). IsSome (name_at (J ++ new ∷ []) k.event)) lines kept (named_stand J new lines named)
     (ap (λ i. is_some (name_at (J ++ new ∷ []) i)) last ∙ ap is_some (name_last J new) ∙ here)

@@ -21,8 +21,8 @@ use Rattle.inst_journal.proofs.Soundness.{sound_push}
 use Rattle.inst_journal.proofs.WalkOverFronts.{may_have_line, lined, lines_few, front_fits, rest_fits}
 use Rattle.inst_statement.specs.declared.kept_line.KeptLine.{KeptLine}
 use Rattle.inst_statement.specs.declared.movement.Movement.{Movement}
-use Rattle.inst_statement.specs.KeptLine.{name_of, name_at, AreNamed, line_at, lines_at, reached}
-use Rattle.inst_statement.specs.KeptStatement.{Stated, Adds, IsStatementOf, LeadsTo, position_of, line_with}
+use Rattle.inst_statement.specs.KeptLine.{line_name, name_at, AreNamed, line_at, lines_at, reached}
+use Rattle.inst_statement.specs.KeptStatement.{Stated, AddsLine, IsStatementOf, LeadsOn, position_of, line_with}
 use Rattle.inst_statement.specs.inner.Movement.{movement_of}
 use Rattle.inst_statement.proofs.KeptLines.{name_last, lines_length, lines_push, kept_stand, named_stand, named_push}
 use Rattle.inst_statement.proofs.LinesSoFar.{so_far, as_list, so_far_more, so_far_anew}
@@ -48,7 +48,7 @@ may_line front (Fetched count) m some = absurd (cc)
 may_line front Opened m some = absurd (cc)
 
 -- and has a name
-has_name : (front : List Event) (event : Event) (m : Movement) → movement_of front event ≡ Some m → IsSome (name_of event)
+has_name : (front : List Event) (event : Event) (m : Movement) → movement_of front event ≡ Some m → IsSome (line_name event)
 has_name front (Funded funding) m some = refl
 has_name front (Defunded funding) m some = refl
 has_name front (Booked from id outcome) m some = refl
@@ -69,7 +69,7 @@ stated_same {J} before after lines begun of = record {
 }
 
 -- the amount of a movement lies between the positions that it leads from and to
-amount_between : (m : Movement) (before after : ℕ) → LeadsTo before m after → abs_diff after before ≡ m.cents
+amount_between : (m : Movement) (before after : ℕ) → LeadsOn before m after → abs_diff after before ≡ m.cents
 amount_between m before after leads = by m.kind leads
   where
     by : (kind : LineKind) → after + lowered kind m.cents ≡ before + raised kind m.cents → abs_diff after before ≡ m.cents
@@ -116,7 +116,7 @@ module _ (s : HubSettings) (who : ℕ) (J : List Event) (new : Event) (sound : I
   statement_stands = lines_stand (carried J) (current J) (carried_front J) (front_fits s who [] (carried J) (current J) split) (rest_fits s who [] (carried J) (current J) split) 1
 
   -- the line of the new event, if it has one, comes last
-  statement_more : is_opening new ≡ false → statement K ≡ statement J ++ as_list (option_map (line_told (1 + length (statement J)) (position K) (unwrap_or (name_of new) [])) (movement_of J new))
+  statement_more : is_opening new ≡ false → statement K ≡ statement J ++ as_list (option_map (line_told (1 + length (statement J)) (position K) (unwrap_or (line_name new) [])) (movement_of J new))
   statement_more other =
       so_far_more K J new other ∙ ap (λ L. L ++ as_list (line_of K (1 + length L) (position K) new)) statement_stands
       ∙ ap (λ o. statement J ++ as_list o) (movement_line s who K whole J new [] refl sound fits (1 + length (statement J)) (position K))
@@ -131,13 +131,13 @@ module _ (s : HubSettings) (who : ℕ) (J : List Event) (new : Event) (sound : I
   pub covers_movement : (m : Movement) (stated : Stated) → movement_of J new ≡ Some m → IsStatementOf J stated → lowered m.kind m.cents ≤ position_of stated + raised m.kind m.cents
   covers_movement m stated is of = omega (arith, moves (Some m) is, of.is_position)
 
-  pub line_added : (m : Movement) (index : ℕ) (before after : Stated) → movement_of J new ≡ Some m → index ≡ length J → IsStatementOf J before → Adds before index m after → IsStatementOf K after
+  pub line_added : (m : Movement) (index : ℕ) (before after : Stated) → movement_of J new ≡ Some m → index ≡ length J → IsStatementOf J before → AddsLine before index m after → IsStatementOf K after
   line_added m index before after is last of adds =
       let moved : position K + lowered m.kind m.cents ≡ position J + raised m.kind m.cents = moves (Some m) is in
       let at : position_of after ≡ position K = omega (arith, moved, adds.leads, of.is_position) in
       let kept : KeptLine = line_with index (position_of after) m in
       let next : ℕ = 1 + length (statement J) in
-      let id : List ℕ = unwrap_or (name_of new) [] in
+      let id : List ℕ = unwrap_or (line_name new) [] in
       let number : 1 + length before.lines ≡ next = ap (λ n. 1 + n) (sym (lines_length J 1 before.begun before.lines) ∙ ap length of.are_lines) in
       let name : unwrap_or (name_at K index) [] ≡ id = ap (λ i. unwrap_or (name_at K i) []) last ∙ ap (λ (o : Option (List ℕ)). unwrap_or o []) (name_last J new) in
       let line : line_at K (1 + length before.lines) (position_of before) kept ≡ line_told next (position K) id m =
@@ -162,7 +162,7 @@ module _ (s : HubSettings) (who : ℕ) (J : List Event) (new : Event) (sound : I
         named = named_stand J new after.lines same.named;
         are_lines =
             kept_stand J new 1 after.begun after.lines same.named ∙ same.are_lines ∙ sym (append-nil (statement J))
-            ∙ sym (statement_more other ∙ ap (λ o. statement J ++ as_list (option_map (line_told (1 + length (statement J)) (position K) (unwrap_or (name_of new) [])) o)) none);
+            ∙ sym (statement_more other ∙ ap (λ o. statement J ++ as_list (option_map (line_told (1 + length (statement J)) (position K) (unwrap_or (line_name new) [])) o)) none);
         is_position = same.is_position ∙ sym still;
       }
 

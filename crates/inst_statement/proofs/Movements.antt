@@ -14,15 +14,15 @@ use Rattle.inst_journal.specs.Laws.{taking}
 use Rattle.inst_journal.specs.Lines.{raised, lowered}
 use Rattle.inst_journal.specs.Money.{position}
 use Rattle.inst_journal.specs.Sound.{Fits, IsSound}
-use Rattle.inst_journal.specs.Statement.{received, paid, line_of, accepted as accepted_line}
+use Rattle.inst_journal.specs.Statement.{received, paid, line_of, line_of_accepted as accepted_line}
 use Rattle.inst_journal.proofs.FirstSome.{first_some-append}
 use Rattle.inst_journal.proofs.KeyOnce.{forwarded_once, taken_once}
 use Rattle.inst_journal.proofs.StatementLeadsToPosition.{zero_summed}
 use Rattle.inst_journal.proofs.PositionAfterEvent.{coming, credited_by, debited_by, position_funded, position_credited, position_debited, position_released}
 use Rattle.inst_journal.proofs.OwnBookings.{own_unforwarded}
 use Rattle.inst_statement.specs.declared.movement.Movement.{Movement}
-use Rattle.inst_statement.specs.KeptLine.{name_of}
-use Rattle.inst_statement.specs.inner.Movement.{came, sent, accepted, accepted_movement, movement_of}
+use Rattle.inst_statement.specs.KeptLine.{line_name}
+use Rattle.inst_statement.specs.inner.Movement.{came, sent, movement_of_accepted, accepted_movement, movement_of}
 use Rattle.inst_statement.proofs.AmountAndTermsInHistory.{takes_sent, forwards_came, taken_found, forwarded_found, not_come}
 
 -- the line of a movement of this name
@@ -100,18 +100,18 @@ accepted_made s who J whole front from id rest all (Coming cents came_is another
     ap (λ b. cond b (first_some (received number after from id) J) (first_some (paid number after id) J)) there
     ∙ first_mapped (received number after from id) (came from id) (λ c. line_told number after id (record { kind = Received; other = Some from; cents = c })) (received_made number after from id) J
     ∙ ap (option_map (λ c. line_told number after id (record { kind = Received; other = Some from; cents = c }))) in_all
-    ∙ sym (ap (λ o. option_map (line_told number after id) (accepted from o (first_some (sent id) front))) came_is)
+    ∙ sym (ap (λ o. option_map (line_told number after id) (movement_of_accepted from o (first_some (sent id) front))) came_is)
 accepted_made s who J whole front from id rest all (Own to cents none_came sent_is own) number after =
     let in_all : first_some (sent id) J ≡ Some (to, cents) = found_in_all (sent id) front (Booked from id Accepted) rest J (to, cents) all sent_is in
     let none : is_forwarded from id J ≡ false = ap (λ f. is_forwarded f id J) own ∙ own_unforwarded s who id J whole in
     ap (λ b. cond b (first_some (received number after from id) J) (first_some (paid number after id) J)) none
     ∙ first_mapped (paid number after id) (sent id) (λ (terms : ℕ × ℕ). line_told number after id (record { kind = Paid; other = Some terms.0; cents = terms.1 })) (paid_made number after id) J
     ∙ ap (option_map (λ (terms : ℕ × ℕ). line_told number after id (record { kind = Paid; other = Some terms.0; cents = terms.1 }))) in_all
-    ∙ sym (ap (λ o. option_map (line_told number after id) (accepted from o (first_some (sent id) front))) none_came ∙ ap (λ o. option_map (line_told number after id) (accepted from None o)) sent_is)
+    ∙ sym (ap (λ o. option_map (line_told number after id) (movement_of_accepted from o (first_some (sent id) front))) none_came ∙ ap (λ o. option_map (line_told number after id) (movement_of_accepted from None o)) sent_is)
 
 -- the line of an event is that of its movement
 pub movement_line : (s : HubSettings) (who : ℕ) (J : List Event) → IsSound s who J → (front : List Event) (x : Event) (rest : List Event) → front ++ x ∷ rest ≡ J → IsSound s who front → Fits s who front x → (number after : ℕ)
-    → line_of J number after x ≡ option_map (line_told number after (unwrap_or (name_of x) [])) (movement_of front x)
+    → line_of J number after x ≡ option_map (line_told number after (unwrap_or (line_name x) [])) (movement_of front x)
 movement_line s who J whole front (Booked from id Accepted) rest all sound fits number after = accepted_made s who J whole front from id rest all (terms_there s who front from id sound fits) number after
 movement_line s who J whole front (Booked from id (Rejected reason)) rest all sound fits number after = refl
 movement_line s who J whole front (Booked from id TimedOut) rest all sound fits number after = refl
@@ -179,18 +179,18 @@ accepted_moves s who front from id sound fits (Coming cents came_is another) =
     let moves : position front + (0 + credited_by from id Accepted front) ≡ position (front ++ Booked from id Accepted ∷ []) + (0 + 0) = position_credited s who front from id Accepted sound fits another in
     let amount : credited_by from id Accepted front ≡ cents =
     once_summed (forwards from id) coming (came from id) (λ c. c) (came_weighs from id) (forwards_came from id) front (forwarded_once s who from id front sound) ∙ ap (weight (λ c. c)) came_is in
-    let here : Moves (position front) (position (front ++ Booked from id Accepted ∷ [])) (accepted from (Some cents) (first_some (sent id) front)) = omega (arith, moves, amount) in
-    subst (λ o. Moves (position front) (position (front ++ Booked from id Accepted ∷ [])) (accepted from o (first_some (sent id) front))) (sym came_is) here
+    let here : Moves (position front) (position (front ++ Booked from id Accepted ∷ [])) (movement_of_accepted from (Some cents) (first_some (sent id) front)) = omega (arith, moves, amount) in
+    subst (λ o. Moves (position front) (position (front ++ Booked from id Accepted ∷ [])) (movement_of_accepted from o (first_some (sent id) front))) (sym came_is) here
 accepted_moves s who front from id sound fits (Own to cents none_came sent_is own) =
     let at_who : Fits s who front (Booked who id Accepted) = subst (λ f. Fits s who front (Booked f id Accepted)) own fits in
     let moves : position front + (0 + 0) ≡ position (front ++ Booked who id Accepted ∷ []) + (0 + debited_by id Accepted front) = position_debited s who front id Accepted sound at_who in
     let amount : debited_by id Accepted front ≡ cents =
     once_summed (takes id) taking (sent id) (λ (terms : ℕ × ℕ). terms.1) (sent_weighs id) (takes_sent id) front (taken_once s who id front sound) ∙ ap (weight (λ (terms : ℕ × ℕ). terms.1)) sent_is in
     let same : position (front ++ Booked from id Accepted ∷ []) ≡ position (front ++ Booked who id Accepted ∷ []) = ap (λ f. position (front ++ Booked f id Accepted ∷ [])) own in
-    let here : Moves (position front) (position (front ++ Booked from id Accepted ∷ [])) (accepted from None (Some (to, cents))) = omega (arith, moves, amount, same) in
-    let with_terms : Moves (position front) (position (front ++ Booked from id Accepted ∷ [])) (accepted from None (first_some (sent id) front)) =
-    subst (λ o. Moves (position front) (position (front ++ Booked from id Accepted ∷ [])) (accepted from None o)) (sym sent_is) here in
-    subst (λ o. Moves (position front) (position (front ++ Booked from id Accepted ∷ [])) (accepted from o (first_some (sent id) front))) (sym none_came) with_terms
+    let here : Moves (position front) (position (front ++ Booked from id Accepted ∷ [])) (movement_of_accepted from None (Some (to, cents))) = omega (arith, moves, amount, same) in
+    let with_terms : Moves (position front) (position (front ++ Booked from id Accepted ∷ [])) (movement_of_accepted from None (first_some (sent id) front)) =
+    subst (λ o. Moves (position front) (position (front ++ Booked from id Accepted ∷ [])) (movement_of_accepted from None o)) (sym sent_is) here in
+    subst (λ o. Moves (position front) (position (front ++ Booked from id Accepted ∷ [])) (movement_of_accepted from o (first_some (sent id) front))) (sym none_came) with_terms
 
 still : (before after : ℕ) → before + (0 + 0) ≡ after + (0 + 0) → after ≡ before
 still before after same = omega (arith, same)

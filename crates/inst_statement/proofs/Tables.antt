@@ -9,7 +9,7 @@ use Rattle.inst_journal.specs.declared.event.Event.TheVariants.{Taken, Forwarded
 use Rattle.inst_journal.specs.Booked.{or_else, first_some, is_taken, is_forwarded, same_transfer}
 use Rattle.inst_journal.proofs.OneMoreElement.{first_some_push, or_else-none}
 use Rattle.inst_statement.specs.inner.Movement.{came, sent}
-use Rattle.inst_statement.specs.inner.Kept.{AreKept, same_key}
+use Rattle.inst_statement.specs.inner.Kept.{AreKept, is_same_transfer}
 use Rattle.inst_statement.proofs.AmountAndTermsInHistory.{unsent, not_come}
 
 pub put_first : {V : Type 0} (b : Bool) (o : Option V) (v : V) → (b ≡ true → o ≡ None) → or_else o (cond b (Some v) None) ≡ cond b (Some v) o
@@ -39,7 +39,7 @@ kept_taken front id to cents stamp taken new forwarded is_new updates kept = rec
   came_amount = λ q. kept.came_amount q ∙ kept_first (came q.0 q.1) front (Taken id to cents stamp) refl;
 }
 
-pub kept_forwarded : {S : Type 0} (front : List Event) (from : ℕ) (id : List ℕ) (cents deadline : ℕ) (taken : IndexMap (List ℕ) (ℕ × ℕ) S) (forwarded new : IndexMap (ℕ × List ℕ) ℕ S) → is_forwarded from id front ≡ false → Updates same_key forwarded new (from, id) (Some cents)
+pub kept_forwarded : {S : Type 0} (front : List Event) (from : ℕ) (id : List ℕ) (cents deadline : ℕ) (taken : IndexMap (List ℕ) (ℕ × ℕ) S) (forwarded new : IndexMap (ℕ × List ℕ) ℕ S) → is_forwarded from id front ≡ false → Updates is_same_transfer forwarded new (from, id) (Some cents)
     → AreKept front taken forwarded → AreKept (front ++ Forwarded from id cents deadline ∷ []) taken new
 kept_forwarded front from id cents deadline taken forwarded new is_new updates kept = record {
   sent_terms = λ q. kept.sent_terms q ∙ kept_first (sent q) front (Forwarded from id cents deadline) refl;

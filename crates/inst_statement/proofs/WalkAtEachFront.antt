@@ -20,7 +20,7 @@ use Rattle.inst_statement.specs.inner.Movement.{movement_of}
 use Rattle.inst_statement.specs.inner.Kept.{AreKept, IsNewTransfer}
 use Rattle.inst_statement.specs.Someones.{IsSomeones}
 use Rattle.inst_statement.specs.KeptLine.{reached}
-use Rattle.inst_statement.specs.KeptStatement.{Stated, MayAdd, Adds, IsStatementOf, position_of}
+use Rattle.inst_statement.specs.KeptStatement.{Stated, MayAdd, AddsLine, IsStatementOf, position_of}
 use Rattle.inst_statement.proofs.KeptStatementStaysRight.{may_line, position_same, stated_same, covers_movement, line_added, line_less, line_anew, number_fits}
 
 -- what the walk holds at a front of the history: its transfers, its statement, and a position that its lines bound
@@ -116,7 +116,7 @@ module _ {S : Type 0} {taken after_taken : IndexMap (List ℕ) (ℕ × ℕ) S} {
     (kept : AreKept (take i J ++ x ∷ []) after_taken after_forwarded) where
   -- a line more
   pub stands_added : (m : Movement) (before now after : Stated) → movement_of (take i J) x ≡ Some m → m.cents ≤ MOST_CENTS → Stands (take i J) taken forwarded before
-      → now.lines ≡ before.lines → now.begun ≡ before.begun → Adds now i m after → Stands (take (i + 1) J) after_taken after_forwarded after
+      → now.lines ≡ before.lines → now.begun ≡ before.begun → AddsLine now i m after → Stands (take (i + 1) J) after_taken after_forwarded after
   stands_added m before now after is most stands lines begun adds =
       let same : IsStatementOf (take i J) now = stated_same before now lines begun stands.lines in
       at_next J i x p after (record {

@@ -13,18 +13,18 @@ use Rattle.inst_statement.specs.declared.kept_line.KeptLine.{KeptLine}
 
 -- the name in the line of an event that may have one: the reference, or the identifier of what is
 -- booked
-abbrev pub name_of : Event → Option (List ℕ)
-name_of (Funded funding) = Some funding.reference
-name_of (Defunded funding) = Some funding.reference
-name_of (Booked from id outcome) = Some id
-name_of (Taken id to cents stamp) = None
-name_of (Forwarded from id cents deadline) = None
-name_of (Fetched count) = None
-name_of Opened = None
+abbrev pub line_name : Event → Option (List ℕ)
+line_name (Funded funding) = Some funding.reference
+line_name (Defunded funding) = Some funding.reference
+line_name (Booked from id outcome) = Some id
+line_name (Taken id to cents stamp) = None
+line_name (Forwarded from id cents deadline) = None
+line_name (Fetched count) = None
+line_name Opened = None
 
 -- the name of the history's event of this index
 abbrev pub name_at : List Event → ℕ → Option (List ℕ)
-name_at J index = option_and_then name_of (slice_get J index)
+name_at J index = option_and_then line_name (slice_get J index)
 
 -- each of the lines has an event with a name
 abbrev pub AreNamed : List Event → List KeptLine → Type 0

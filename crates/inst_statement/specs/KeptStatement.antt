@@ -31,8 +31,8 @@ abbrev pub lines_of_statement : List Event → Stated → List Line
 lines_of_statement J stated = lines_at J 1 stated.begun stated.lines
 
 -- the movement leads from one position to another
-abbrev pub LeadsTo : ℕ → Movement → ℕ → Type 0
-LeadsTo before movement after =
+abbrev pub LeadsOn : ℕ → Movement → ℕ → Type 0
+LeadsOn before movement after =
     after + lowered movement.kind movement.cents ≡ before + raised movement.kind movement.cents
 
 -- the line of a movement, by the event of this index
@@ -54,9 +54,9 @@ pub record MayAdd (before : Stated) (movement : Movement) : Type 0 where
   pub few : length before.lines + 1 < 2 ^ 32
 
 -- the movement leads on, and has the next line
-pub record Adds (before : Stated) (event : ℕ) (movement : Movement) (after : Stated) : Type 0 where
+pub record AddsLine (before : Stated) (event : ℕ) (movement : Movement) (after : Stated) : Type 0 where
   pub begun : after.begun ≡ before.begun
-  pub leads : LeadsTo (position_of before) movement (position_of after)
+  pub leads : LeadsOn (position_of before) movement (position_of after)
   pub line : after.lines ≡ before.lines ++ line_with event (position_of after) movement ∷ []
 
 -- the lines are those of the history's statement, each by an event of it, and the position is the

@@ -1,7 +1,7 @@
 ghost use Rattle.std.specs.Prelude.{◌≡◌, IsSome, IsTrue};
 ghost use Rattle.std.specs.Int.{abs_diff};
 ghost use Rattle.inst_base.specs.Cents.{is_amount};
-ghost use Rattle.inst_statement.specs.KeptLine.{name_of, name_at, line_at};
+ghost use Rattle.inst_statement.specs.KeptLine.{line_name, name_at, line_at};
 
 use inst_base::{Cents, Ident};
 use inst_command::{Line, LineKind};
@@ -41,7 +41,7 @@ impl KeptLine {
 
 /// The name in the line of an event that may have one.
 fn name_of(event: &Event) -> Option<Ident>
-    ensures { result ≡ name_of event.now }
+    ensures { result ≡ line_name event.now }
 {
     match event {
         Event::Funded(funding) | Event::Defunded(funding) => Some(funding.reference),

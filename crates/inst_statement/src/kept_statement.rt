@@ -3,7 +3,7 @@ ghost use Rattle.std.specs.Prelude.{slice_range, IfOk, OnOk, IsOk, IsTrue};
 ghost use Rattle.std.specs.Int.{abs_diff};
 ghost use Rattle.inst_base.specs.Cents.{is_amount};
 ghost use Rattle.inst_statement.specs.KeptLine.{AreNamed, reached};
-ghost use Rattle.inst_statement.specs.KeptStatement.{MayAdd, LeadsTo, Adds, position_of};
+ghost use Rattle.inst_statement.specs.KeptStatement.{MayAdd, LeadsOn, AddsLine, position_of};
 ghost use Rattle.inst_statement.specs.KeptStatement.{lines_of_statement};
 
 use crate::kept_line::KeptLine;
@@ -98,7 +98,7 @@ impl KeptStatement {
     /// The position after a movement, in cents.
     fn position_after(&self, movement: &Movement) -> u64
         requires { MayAdd self.now movement.now }
-        ensures leads { LeadsTo (position_of self.now) movement.now result }
+        ensures leads { LeadsOn (position_of self.now) movement.now result }
         ensures amount { IsTrue (is_amount (abs_diff result (position_of self.now))) }
     {
         let before = self.position();
@@ -112,7 +112,7 @@ impl KeptStatement {
     /// Adds the line of a movement, by the event of this index, in room that was made.
     pub fn add(&mut self, event: u32, movement: &Movement)
         requires { MayAdd self.old movement.now }
-        ensures { Adds self.old event movement.now self.new }
+        ensures { AddsLine self.old event movement.now self.new }
     {
         let position = self.position_after(movement);
         self.lines.push_reserved(KeptLine {

@@ -5,7 +5,7 @@ use Rattle.std.proofs.lemmas.Bool.{cases_lt}
 use Rattle.inst_command.specs.declared.outcome.Outcome.{Outcome}
 use Rattle.inst_terms.specs.declared.word.Word.{Word}
 use Rattle.inst_terms.specs.declared.word.Word.TheVariants.{Unused, Pending, Decided}
-use Rattle.inst_terms.specs.WordLaw.{InTime, Moves, Follow, IsLawful, word_state, IsAtLeast}
+use Rattle.inst_terms.specs.WordLaw.{InTime, MovesWord, Follow, AreLawful, word_state, IsAtLeast}
 
 module _ (margin : ℕ) where
   -- the second word may come after the first, in any number of exchanges
@@ -21,16 +21,16 @@ module _ (margin : ℕ) where
   leads_same (Pending d) = refl
   leads_same (Decided o t) = refl
 
-  leads_move : (u v w : Word) → Leads u v → Moves margin v w → Leads u w
+  leads_move : (u v w : Word) → Leads u v → MovesWord margin v w → Leads u w
   leads_move Unused v w l m = tt
   leads_move (Pending d) Unused w l m = absurd l
   leads_move (Pending d) (Pending e) Unused l m = absurd m
   leads_move (Pending d) (Pending e) (Pending f) l m = absurd m
   leads_move (Pending d) (Pending e) (Decided o t) l m = subst (λ (x : ℕ). InTime margin o x t) l m
   leads_move (Pending d) (Decided o t) w l m = absurd m
-  leads_move (Decided o t) v w l m = absurd (subst (λ (x : Word). Moves margin x w) l m)
+  leads_move (Decided o t) v w l m = absurd (subst (λ (x : Word). MovesWord margin x w) l m)
 
-  leads_on : (u v w : Word) → Leads u v → (w ≡ v) ⊎ Moves margin v w → Leads u w
+  leads_on : (u v w : Word) → Leads u v → (w ≡ v) ⊎ MovesWord margin v w → Leads u w
   leads_on u v w l (inl e) = subst (λ (x : Word). Leads u x) (sym e) l
   leads_on u v w l (inr m) = leads_move u v w l m
 
@@ -57,16 +57,16 @@ module _ (margin : ℕ) where
   after_seen (Pending d) (Decided o t) l = tt
   after_seen (Decided o t) w l = ap word_state l
 
-  pub never_back : (words : List Word) → IsLawful margin words → (i j : ℕ) → i ≤ j → (v w : Word) → slice_get words i ≡ Some v → slice_get words j ≡ Some w → IsAtLeast (word_state w) (word_state v)
+  pub never_back : (words : List Word) → AreLawful margin words → (i j : ℕ) → i ≤ j → (v w : Word) → slice_get words i ≡ Some v → slice_get words j ≡ Some w → IsAtLeast (word_state w) (word_state v)
   never_back words h i j below v w isv isw = after_seen v w (leads_between Unused words h i j below v w isv isw)
 
-  pub one_decided : (words : List Word) → IsLawful margin words → (i j : ℕ) (o p : Outcome) (t u : ℕ) → slice_get words i ≡ Some (Decided o t) → slice_get words j ≡ Some (Decided p u) → Decided o t ≡ Decided p u
+  pub one_decided : (words : List Word) → AreLawful margin words → (i j : ℕ) (o p : Outcome) (t u : ℕ) → slice_get words i ≡ Some (Decided o t) → slice_get words j ≡ Some (Decided p u) → Decided o t ≡ Decided p u
   one_decided words h i j o p t u iso isp = elim (cases_lt i j) [
     | inl less ↦ sym (leads_between Unused words h i j (omega arith) (Decided o t) (Decided p u) iso isp)
     | inr more ↦ leads_between Unused words h j i more (Decided p u) (Decided o t) isp iso
   ]
 
-  pub one_deadline : (words : List Word) → IsLawful margin words → (i j d e : ℕ) → slice_get words i ≡ Some (Pending d) → slice_get words j ≡ Some (Pending e) → d ≡ e
+  pub one_deadline : (words : List Word) → AreLawful margin words → (i j d e : ℕ) → slice_get words i ≡ Some (Pending d) → slice_get words j ≡ Some (Pending e) → d ≡ e
   one_deadline words h i j d e isd ise = elim (cases_lt i j) [
     | inl less ↦ sym (leads_between Unused words h i j (omega arith) (Pending d) (Pending e) isd ise)
     | inr more ↦ leads_between Unused words h j i more (Pending e) (Pending d) ise isd
@@ -78,11 +78,11 @@ module _ (margin : ℕ) where
   Decider (Pending d) ws i o t = InTime margin o d t
   Decider (Decided p u) ws i o t = Unit {0}
 
-  not_first : {o : Outcome} {t : ℕ} (x w : Word) → (x ≡ Unused) ⊎ Moves margin Unused x → x ≡ w → w ≡ Decided o t → ⊥
+  not_first : {o : Outcome} {t : ℕ} (x w : Word) → (x ≡ Unused) ⊎ MovesWord margin Unused x → x ≡ w → w ≡ Decided o t → ⊥
   not_first x w (inl e) same is = absurd (cc)
-  not_first x w (inr m) same is = subst (λ (y : Word). Moves margin Unused y) (same ∙ is) m
+  not_first x w (inr m) same is = subst (λ (y : Word). MovesWord margin Unused y) (same ∙ is) m
 
-  opened : (d : ℕ) → (Pending d ≡ Unused) ⊎ Moves margin Unused (Pending d) → 1 ≤ d
+  opened : (d : ℕ) → (Pending d ≡ Unused) ⊎ MovesWord margin Unused (Pending d) → 1 ≤ d
   opened d (inl e) = absurd (cc)
   opened d (inr m) = m
 
@@ -96,6 +96,6 @@ module _ (margin : ℕ) where
   decider (Pending d) ws h i o t is = leads_at (Pending d) (Pending d) ws refl h i (Decided o t) is
   decider (Decided p u) ws h i o t is = tt
 
-  pub in_time : (words : List Word) → IsLawful margin words → (i : ℕ) (o : Outcome) (t : ℕ) → slice_get words i ≡ Some (Decided o t) →
+  pub in_time : (words : List Word) → AreLawful margin words → (i : ℕ) (o : Outcome) (t : ℕ) → slice_get words i ≡ Some (Decided o t) →
       (j : ℕ) × (d : ℕ) × (j < i) × (slice_get words j ≡ Some (Pending d)) × (1 ≤ d) × InTime margin o d t
   in_time words h i o t is = decider Unused words h i o t is

@@ -12,7 +12,7 @@ use Rattle.inst_terms.specs.declared.word.Word.{Word}
 use Rattle.inst_terms.specs.declared.word.Word.TheVariants.{Unused, Pending, Decided as DecidedWord}
 use Rattle.inst_terms.specs.Terms.{IsTerms, words_of}
 use Rattle.inst_terms.specs.Word.{IsWord, word_number}
-use Rattle.inst_terms.specs.WordLaw.{InTime, IsLawful, word_state, IsAtLeast}
+use Rattle.inst_terms.specs.WordLaw.{InTime, AreLawful, word_state, IsAtLeast}
 
 abbrev pub DifferentTermsHaveDifferentWords : Type 0
 DifferentTermsHaveDifferentWords =
@@ -25,27 +25,27 @@ DifferentWordsHaveDifferentNumbers =
 -- a place has one decided word at most
 abbrev pub OneDecidedWord : Type 0
 OneDecidedWord =
-    (margin : ℕ) (words : List Word) → IsLawful margin words → (i j : ℕ) (o p : Outcome) (t u : ℕ) →
+    (margin : ℕ) (words : List Word) → AreLawful margin words → (i j : ℕ) (o p : Outcome) (t u : ℕ) →
     slice_get words i ≡ Some (DecidedWord o t) → slice_get words j ≡ Some (DecidedWord p u) →
     DecidedWord o t ≡ DecidedWord p u
 
 -- a place has one deadline, for as long as it is pending
 abbrev pub OneDeadline : Type 0
-OneDeadline = (margin : ℕ) (words : List Word) → IsLawful margin words → (i j deadline other : ℕ) →
+OneDeadline = (margin : ℕ) (words : List Word) → AreLawful margin words → (i j deadline other : ℕ) →
     slice_get words i ≡ Some (Pending deadline) → slice_get words j ≡ Some (Pending other) →
     deadline ≡ other
 
 -- what was seen of a place is seen of it from then on, or more
 abbrev pub NothingSeenGoesBack : Type 0
 NothingSeenGoesBack =
-    (margin : ℕ) (words : List Word) → IsLawful margin words → (i j : ℕ) → i ≤ j → (v w : Word) →
+    (margin : ℕ) (words : List Word) → AreLawful margin words → (i j : ℕ) → i ≤ j → (v w : Word) →
     slice_get words i ≡ Some v → slice_get words j ≡ Some w →
     IsAtLeast (word_state w) (word_state v)
 
 -- before a decided word stood the pending one, and by its deadline the outcome is in time
-abbrev pub EachOutcomeIsInTime : Type 0
-EachOutcomeIsInTime =
-    (margin : ℕ) (words : List Word) → IsLawful margin words → (i : ℕ) (o : Outcome) (t : ℕ) →
+abbrev pub EachDecidedWordIsInTime : Type 0
+EachDecidedWordIsInTime =
+    (margin : ℕ) (words : List Word) → AreLawful margin words → (i : ℕ) (o : Outcome) (t : ℕ) →
     slice_get words i ≡ Some (DecidedWord o t) →
     (j : ℕ) × (d : ℕ) × (j < i) × (slice_get words j ≡ Some (Pending d)) × (1 ≤ d)
     × InTime margin o d t
@@ -66,7 +66,7 @@ abbrev pub EachOutcomeInTimeMayStand : Type 0
 EachOutcomeInTimeMayStand =
     (margin : ℕ) (o : Outcome) (deadline moment : ℕ) → 1 ≤ deadline →
     InTime margin o deadline moment →
-    IsLawful margin (Unused ∷ Pending deadline ∷ Pending deadline ∷ DecidedWord o moment
+    AreLawful margin (Unused ∷ Pending deadline ∷ Pending deadline ∷ DecidedWord o moment
     ∷ DecidedWord o moment ∷ [])
 
 -- what is at least what was seen: after nothing anything, after a pending place it or an outcome,

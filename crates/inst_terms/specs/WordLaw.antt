@@ -20,25 +20,25 @@ InTime margin (Rejected reason) deadline moment = IsTrue (is_in_time deadline mo
 InTime margin TimedOut deadline moment = IsTrue (is_due deadline moment)
 
 -- one exchange leads from the first word to the second
-abbrev pub Moves : ℕ → Word → Word → Type 0
-Moves margin Unused Unused = ⊥
-Moves margin Unused (Pending deadline) = 1 ≤ deadline
-Moves margin Unused (DecidedWord outcome moment) = ⊥
-Moves margin (Pending deadline) Unused = ⊥
-Moves margin (Pending deadline) (Pending other) = ⊥
-Moves margin (Pending deadline) (DecidedWord outcome moment) = InTime margin outcome deadline moment
-Moves margin (DecidedWord outcome moment) word = ⊥
+abbrev pub MovesWord : ℕ → Word → Word → Type 0
+MovesWord margin Unused Unused = ⊥
+MovesWord margin Unused (Pending deadline) = 1 ≤ deadline
+MovesWord margin Unused (DecidedWord outcome moment) = ⊥
+MovesWord margin (Pending deadline) Unused = ⊥
+MovesWord margin (Pending deadline) (Pending other) = ⊥
+MovesWord margin (Pending deadline) (DecidedWord outcome moment) = InTime margin outcome deadline moment
+MovesWord margin (DecidedWord outcome moment) word = ⊥
 
 -- the words that a place has one after another, after the word `before`: each is the one before it,
 -- or moves from it
 abbrev pub Follow : ℕ → Word → List Word → Type 0
 Follow margin before [] = Unit {0}
 Follow margin before (word ∷ words) =
-    ((word ≡ before) ⊎ Moves margin before word) × Follow margin word words
+    ((word ≡ before) ⊎ MovesWord margin before word) × Follow margin word words
 
 -- the words of a place from the opening of the hub on
-abbrev pub IsLawful : ℕ → List Word → Type 0
-IsLawful margin words = Follow margin Unused words
+abbrev pub AreLawful : ℕ → List Word → Type 0
+AreLawful margin words = Follow margin Unused words
 
 -- what a word shows
 abbrev pub word_state : Word → State

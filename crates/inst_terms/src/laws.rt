@@ -3,7 +3,7 @@
 ghost use Rattle.inst_terms.specs.Laws.{DifferentTermsHaveDifferentWords};
 ghost use Rattle.inst_terms.specs.Laws.{DifferentWordsHaveDifferentNumbers};
 ghost use Rattle.inst_terms.specs.Laws.{OneDecidedWord, OneDeadline, NothingSeenGoesBack};
-ghost use Rattle.inst_terms.specs.Laws.{EachOutcomeIsInTime, WhatIsInTime};
+ghost use Rattle.inst_terms.specs.Laws.{EachDecidedWordIsInTime, WhatIsInTime};
 ghost use Rattle.inst_terms.specs.Laws.{EachOutcomeInTimeMayStand, WhatIsSeen};
 ghost use Rattle.inst_terms.specs.Rows.{WordsOfTheFormat};
 
@@ -35,7 +35,7 @@ pub fn nothing_seen_goes_back()
 /// A place is accepted before its deadline by more than the margin, rejected before its deadline,
 /// and timed out at it or after it.
 pub fn each_outcome_is_in_time()
-    ensures { EachOutcomeIsInTime }
+    ensures { EachDecidedWordIsInTime }
 {}
 
 /// In time is before the deadline by more than the margin for an acceptance, before the deadline

@@ -112,5 +112,5 @@ abbrev pub CoversSide : State → ℕ → Side → Type 0
 CoversSide st cents (Own to stamp) = (cents ≤ st.reserved) × (st.debits + cents < 2 ^ 128)
 CoversSide st cents (Other deadline) = st.credits + cents < 2 ^ 128
 
-abbrev pub Covers : State → Transfer → Type 0
-Covers st t = CoversSide st t.cents t.side
+abbrev pub CoversEntry : State → Transfer → Type 0
+CoversEntry st t = CoversSide st t.cents t.side

@@ -5,7 +5,7 @@ ghost use Rattle.std.specs.Map.{keys_of};
 ghost use Rattle.inst_journal.specs.declared.event.Event.{Event};
 ghost use Rattle.inst_journal.specs.Sums.{if_accepted};
 ghost use Rattle.inst_transfers.specs.State.{empty_table, step};
-ghost use Rattle.inst_transfers.specs.Held.{IsLookedUp, FindsAt, FindsOwn, IsFound, Covers};
+ghost use Rattle.inst_transfers.specs.Held.{IsLookedUp, FindsAt, FindsOwn, IsFound, CoversEntry};
 ghost use Rattle.inst_transfers.specs.Held.{AreApart};
 ghost use Rattle.inst_transfers.specs.Held.{AreRising, found_at, rows_in, state_in};
 ghost use Rattle.inst_transfers.specs.inner.Held.{waits_at, FindsIndex};
@@ -194,7 +194,7 @@ impl Transfers {
     /// Books the outcome of a transfer that was found. It takes no memory and looks nothing up.
     pub fn book(&mut self, found: &Found, outcome: &Outcome)
         requires there { IsFound self.old found.now }
-        requires covers { Covers (state_in self.old) found.now.transfer }
+        requires covers { CoversEntry (state_in self.old) found.now.transfer }
         ensures who { self.new.who ≡ self.old.who }
         ensures state { state_in self.new
             ≡ step self.old.who (state_in self.old)

@@ -8,7 +8,7 @@ ghost use Rattle.inst_board.specs.Learning.{MayDecide};
 ghost use Rattle.inst_slot.specs.LawfulBoard.{IsLawfulBoard, AllAreAdopted};
 ghost use Rattle.inst_slot.specs.Asking.{AsksAdopted};
 ghost use Rattle.inst_cell.specs.Held.{AtOneTable, knows};
-ghost use Rattle.inst_cell.specs.Seen.{board_of};
+ghost use Rattle.inst_cell.specs.Seen.{board_of_sight};
 ghost use Rattle.inst_row.specs.Row.{row_id, key_of, size};
 ghost use Rattle.inst_row.specs.Seated.{IsOn, IsFree};
 
@@ -51,7 +51,7 @@ pub fn slot<B: Board>(
 
 /// What is seen of a place that was told of.
 pub fn shared_board(board: &mut SharedBoard, sight: &mut Sight, place: Place) -> State
-    requires one { AtOneTable board.old (board_of sight.old) }
+    requires one { AtOneTable board.old (board_of_sight sight.old) }
     requires opened { knows board.old (about place Opened) }
 {
     let ticket = board.tell(sight, place); // the sight knows what the board knows

@@ -3,7 +3,7 @@ ghost use Rattle.std.specs.Prelude.{◌≡◌, ◌<◌, true, length};
 ghost use Rattle.inst_command.specs.Ask.{ask_fits};
 ghost use Rattle.inst_model.specs.Opening.{Opening};
 ghost use Rattle.inst_cell.specs.Held.{AtOneTable};
-ghost use Rattle.inst_cell.specs.Seen.{board_of};
+ghost use Rattle.inst_cell.specs.Seen.{board_of_sight};
 ghost use Rattle.inst_participant.specs.LockLaw.{IsReady};
 ghost use Rattle.inst_participant.specs.Apart.{IsPartsOf};
 ghost use Rattle.inst_hub.specs.Calls.{IsTellerOf, AreOf};
@@ -53,7 +53,7 @@ pub fn participant(
     requires ready { IsReady participant.old }
     requires own { ask.now.who ≡ participant.old.slot.who }
     requires fits { ask_fits participant.old.slot.settings ask.now ≡ true }
-    requires one { AtOneTable participant.old.board (board_of sight.old) }
+    requires one { AtOneTable participant.old.board (board_of_sight sight.old) }
 {
     let (reply, _ticket) = participant.serve(sight, ask)?; // its slot's answer
     let news = participant.sweep(ask.at)?; // how many events the history then has more

@@ -25,7 +25,7 @@ use Rattle.inst_journal.specs.declared.event.Event.TheVariants.{Funded, Defunded
 use Rattle.inst_journal.specs.declared.handle.Handled.{Handled}
 use Rattle.inst_journal.specs.Booked.{booked, is_taken, is_forwarded, or_else}
 use Rattle.inst_journal.specs.Opened.{carried, is_live, live_submissions}
-use Rattle.inst_journal.specs.Reply.{handle, told, kept_events, standing, still_pending, copies}
+use Rattle.inst_journal.specs.Reply.{handle, reply_result, kept_events, state_reply, still_pending, copies}
 use Rattle.inst_journal.proofs.EventsCarriedOverOpening.{carried_unbooked}
 use Rattle.inst_model.specs.Opening.{Opening, IsOpening}
 use Rattle.inst_model.specs.Interleaving.{IsInterleaving}
@@ -79,7 +79,7 @@ either_true false c is = inr is
 
 -- what is found for a command that decides a transfer is kept
 kept_of : (party : Bool) (from : ℕ) (id : List ℕ) (else_so : Result Handled Fault) (before : Option Outcome) (o : Outcome) → (party && is_none before) ≡ true
-    → 0 < length (kept_events (cond party (standing from id else_so before (Some o)) (Err UnknownTransfer)))
+    → 0 < length (kept_events (cond party (state_reply from id else_so before (Some o)) (Err UnknownTransfer)))
 kept_of true from id else_so None o decided = omega arith
 kept_of true from id else_so (Some z) o decided = absurd (false≢true decided)
 kept_of false from id else_so before o decided = absurd (false≢true decided)
@@ -127,7 +127,7 @@ module _ (s : HubSettings) (O : Opening) (opening : IsOpening s O) (L : List Ste
     -- the ask was run: it is answered as in the model; or memory was refused that it needs, and nothing changed
     abbrev pub AskRanOrNot : Result Reply Fault → Book → Contents → Type 0
     AskRanOrNot result new c =
-        ((result ≡ told model_handles) × Ran s O (Ask ask) L new c) ⊎ ((result ≡ Err Memory) × (new ≡ book) × IsBoardOf s O L c × NeedsMemory s O L (Ask ask))
+        ((result ≡ reply_result model_handles) × Ran s O (Ask ask) L new c) ⊎ ((result ≡ Err Memory) × (new ≡ book) × IsBoardOf s O L c × NeedsMemory s O L (Ask ask))
 
     -- an ask whose event is kept needs memory
     keeping_needs : (h : Result Handled Fault) → h ≡ model_handles → 0 < length (kept_events h) → NeedsMemory s O L (Ask ask)
@@ -193,7 +193,7 @@ module _ (s : HubSettings) (O : Opening) (opening : IsOpening s O) (L : List Ste
       enters_run : (margin : ℕ) (c : Contents) (result : Result Reply Fault) (new : Book) → Enters margin plain_knows b book ask result c new → AskRanOrNot result new c
       enters_run margin c result new did = elim did [
         | inl done ↦ inl (
-          done.0 ∙ ap told handled_none,
+          done.0 ∙ ap reply_result handled_none,
           record {
             events = events_after None new done.1 handled_none;
             board = board_after margin c (subst (λ (h : Result Handled Fault). Opens margin plain_knows book (kept_events h) b c) handled_none done.2)
@@ -224,7 +224,7 @@ module _ (s : HubSettings) (O : Opening) (opening : IsOpening s O) (L : List Ste
             let same : handle_ask book ask o ≡ model_handles =
             handled_alike o ∙ ap (handle s ask.who (history s O L ask.who) ask.command ask.at) (sym (d.found_is ∙ after_is)) in
             inl (
-              done.1 ∙ ap told same,
+              done.1 ∙ ap reply_result same,
               record {
                 events = events_after o new done.2 same;
                 board = board_settles s O opening L steps (Ask ask) b c board

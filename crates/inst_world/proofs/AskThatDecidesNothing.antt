@@ -19,7 +19,7 @@ use Rattle.inst_journal.specs.Booked.{is_taken, booked, is_forwarded, or_else, s
 use Rattle.inst_journal.specs.Keys.{is_fund_repeat, is_defund_repeat, is_submission_repeat, has_reference, fundings}
 use Rattle.inst_journal.specs.Money.{available}
 use Rattle.inst_journal.specs.Opened.{live_submissions}
-use Rattle.inst_journal.specs.Reply.{handle, told, funding, standing, still_pending, hand_out, unread}
+use Rattle.inst_journal.specs.Reply.{handle, reply_result, funding, state_reply, still_pending, hand_out, unread}
 use Rattle.inst_model.specs.Opening.{Opening, IsOpening}
 use Rattle.inst_model.specs.Transfer.{Transfer, transfer, deadline}
 use Rattle.inst_model.specs.Found.{found}
@@ -69,7 +69,7 @@ funded_not s reference new false true full n = is_duplicate
 funded_not s reference new false false true n = is_full
 funded_not s reference new false false false n = n
 
-standing_not : (from : ℕ) (id : List ℕ) (pending : Result Handled Fault) (before o : Option Outcome) → NotMemory pending → NotMemory (standing from id pending before o)
+standing_not : (from : ℕ) (id : List ℕ) (pending : Result Handled Fault) (before o : Option Outcome) → NotMemory pending → NotMemory (state_reply from id pending before o)
 standing_not from id pending (Some z) o n = tt
 standing_not from id pending None (Some z) n = tt
 standing_not from id pending None None n = n
@@ -91,16 +91,16 @@ handled_not s who J (Investigate id) at o = either (is_taken id J) _ _ (standing
 handled_not s who J (Fetch max) at o = handed_not (take max (unread J))
 handled_not s who J (Query query) at o = tt
 
-told_not : (r : Result Handled Fault) → NotMemory r → told r ≢ Err Memory
+told_not : (r : Result Handled Fault) → NotMemory r → reply_result r ≢ Err Memory
 told_not (Ok handled) n e = let no : ⊥ = cc in no
 told_not (Err fault) n e = let same : fault ≡ Memory = cc in n same
 
-pub never_memory : (s : HubSettings) (who : ℕ) (J : List Event) (command : Command) (at : ℕ) (o : Option Outcome) → told (handle s who J command at o) ≢ Err Memory
+pub never_memory : (s : HubSettings) (who : ℕ) (J : List Event) (command : Command) (at : ℕ) (o : Option Outcome) → reply_result (handle s who J command at o) ≢ Err Memory
 never_memory s who J command at o = told_not (handle s who J command at o) (handled_not s who J command at o)
 
 -- where the command decides nothing, it is answered the same, whatever is found
 unfound_case : (party : Bool) (from : ℕ) (id : List ℕ) (pending : Result Handled Fault) (before o : Option Outcome) → (party && is_none before) ≡ false
-    → cond party (standing from id pending before (cond party o None)) (Err UnknownTransfer) ≡ cond party (standing from id pending before None) (Err UnknownTransfer)
+    → cond party (state_reply from id pending before (cond party o None)) (Err UnknownTransfer) ≡ cond party (state_reply from id pending before None) (Err UnknownTransfer)
 unfound_case true from id pending (Some z) o none = refl
 unfound_case true from id pending None o none = absurd (true≢false none)
 unfound_case false from id pending before o none = refl

@@ -30,7 +30,7 @@ use Rattle.inst_model.proofs.Strangers.{of_a_participant}
 use Rattle.inst_model.proofs.Transfers.{as_transfer, place_there, place_live, each_to_participant}
 use Rattle.inst_slot.specs.Book.{Book, place_at}
 use Rattle.inst_slot.specs.LawfulBoard.{IsLawfulBoard, KeepsOthers}
-use Rattle.inst_slot.specs.Opening.{opened_again, MayOpenAgain, IsOfOpening, OpensPlaces}
+use Rattle.inst_slot.specs.Opening.{opened_again, MayOpenAgain, IsOfTakenSubmission, OpensPlaces}
 use Rattle.inst_slot.proofs.SlotOpensAgain.{may_open_first, others_may_open}
 use Rattle.inst_world.specs.HasRun.{World, world_settings, StandsWith, StandsFor, IsBoardOf, terms_of}
 use Rattle.inst_world.specs.NextOpening.{kept_by, books_of}
@@ -93,7 +93,7 @@ module _ (s : HubSettings) (J : ℕ → List Event) where
 
       back : (f : Fact) → IsOpenedBelow s J (n + 1) f → plain_knows c f
       back f x = elim (cases_eq x.owner n) [
-        | inl same ↦ (opened.known f).1 (inr (subst (λ (q : ℕ). IsOfOpening s q (live_taken q (J q ++ Opened ∷ [])) f) same x.opening))
+        | inl same ↦ (opened.known f).1 (inr (subst (λ (q : ℕ). IsOfTakenSubmission s q (live_taken q (J q ++ Opened ∷ [])) f) same x.opening))
         | inr other ↦ (opened.known f).1 (inl ((was.known f).1 (record { owner = x.owner; below = less x.owner n x.below other; opening = x.opening })))
       ]
 

@@ -18,7 +18,7 @@ use Rattle.inst_board.specs.Laws.{SayTheSame}
 use Rattle.inst_slot.specs.declared.arrival.Arrival.{Arrival}
 use Rattle.inst_slot.specs.Book.{events_of, Book, place_at, terms_to}
 use Rattle.inst_slot.specs.LawfulBoard.{IsLawfulBoard, KeepsOthers}
-use Rattle.inst_slot.specs.Opening.{is_of, is_unfound, awaits, found_at, with_found}
+use Rattle.inst_slot.specs.Opening.{is_arrival_of, is_unfound, awaits, arrival_found_at, with_found}
 use Rattle.inst_model.proofs.TextsTestsAndFirstThings.{same_transfer_refl}
 use Rattle.inst_world.specs.HasRun.{World, world_settings}
 use Rattle.inst_world.specs.inner.NextOpening.{IsCarrying, IsCarryingWorld, StandsBefore, HaveFoundBefore, OnlyFinds}
@@ -58,29 +58,29 @@ mapped f (x ∷ xs) y (suc i, below, is) =
     (rest.0, (Contains-append_right (x ∷ []) xs rest.0 rest.1.0, rest.1.1))
 
 module _ (k : Place) (t : Terms) (d : ℕ) (x : Arrival) where
-  entry_kept : (found_at k t d x).entry ≡ x.entry
+  entry_kept : (arrival_found_at k t d x).entry ≡ x.entry
   entry_kept = go (awaits k t d x)
     where
       go : (b : Bool) → (cond b (record { entry = x.entry; index = Some k.index }) x).entry ≡ x.entry
       go true = refl
       go false = refl
 
-  found_kept : is_some x.index ≡ true → is_some (found_at k t d x).index ≡ true
+  found_kept : is_some x.index ≡ true → is_some (arrival_found_at k t d x).index ≡ true
   found_kept some = go (awaits k t d x)
     where
       go : (b : Bool) → is_some (cond b (record { entry = x.entry; index = Some k.index }) x).index ≡ true
       go true = refl
       go false = some
 
-  found_there : is_of k.owner t.id x ≡ true → (x.entry.cents == t.cents) ≡ true → (x.entry.deadline == d) ≡ true → is_some (found_at k t d x).index ≡ true
+  found_there : is_arrival_of k.owner t.id x ≡ true → (x.entry.cents == t.cents) ≡ true → (x.entry.deadline == d) ≡ true → is_some (arrival_found_at k t d x).index ≡ true
   found_there named cents due = go x.index refl
     where
-      go : (o : Option ℕ) → x.index ≡ o → is_some (found_at k t d x).index ≡ true
+      go : (o : Option ℕ) → x.index ≡ o → is_some (arrival_found_at k t d x).index ≡ true
       go (Some i) some = found_kept (ap is_some some)
       go None none =
           let all : awaits k t d x ≡ true =
-          and_from (is_of k.owner t.id x && is_unfound x && (x.entry.cents == t.cents)) (x.entry.deadline == d)
-          (and_from (is_of k.owner t.id x && is_unfound x) (x.entry.cents == t.cents) (and_from (is_of k.owner t.id x) (is_unfound x) named (ap is_none none)) cents) due in
+          and_from (is_arrival_of k.owner t.id x && is_unfound x && (x.entry.cents == t.cents)) (x.entry.deadline == d)
+          (and_from (is_arrival_of k.owner t.id x && is_unfound x) (x.entry.cents == t.cents) (and_from (is_arrival_of k.owner t.id x) (is_unfound x) named (ap is_none none)) cents) due in
           ap (λ (b : Bool). is_some (cond b (record { entry = x.entry; index = Some k.index }) x).index) all
 
 -- nothing is pending at the place
@@ -99,8 +99,8 @@ module _ (books : List Book) (b c : Contents) (k : Place) (t : Terms) (d i : ℕ
   who_is : slot.who ≡ t.to
   who_is = (world.member t.to slot there).who_is
 
-  new_is : new ≡ record slot { arrivals = map (found_at k t d) slot.arrivals }
-  new_is = is ∙ ap (λ (x : Bool). cond x (record slot { arrivals = map (found_at k t d) slot.arrivals }) slot) (eq-eqb t.to slot.who (sym who_is))
+  new_is : new ≡ record slot { arrivals = map (arrival_found_at k t d) slot.arrivals }
+  new_is = is ∙ ap (λ (x : Bool). cond x (record slot { arrivals = map (arrival_found_at k t d) slot.arrivals }) slot) (eq-eqb t.to slot.who (sym who_is))
 
   was_pending : (j : Place) (u : Terms) (e : ℕ) → standing_at c j ≡ pending u e → standing_at b j ≡ pending u e
   was_pending j u e stands =
@@ -113,8 +113,8 @@ module _ (books : List Book) (b c : Contents) (k : Place) (t : Terms) (d i : ℕ
       elim (set_cases books i p new book below at) [
         | inl own ↦
             let mine : p ≡ t.to = own.0 ∙ number in
-            let held : Contains (map (found_at k t d) slot.arrivals) x = subst (λ (y : Book). Contains y.arrivals x) (own.1 ∙ new_is) has in
-            let y = mapped (found_at k t d) slot.arrivals x held in
+            let held : Contains (map (arrival_found_at k t d) slot.arrivals) x = subst (λ (y : Book). Contains y.arrivals x) (own.1 ∙ new_is) has in
+            let y = mapped (arrival_found_at k t d) slot.arrivals x held in
             let entry : x.entry ≡ y.0.entry = ap (λ (z : Arrival). z.entry) (sym y.1.1) ∙ entry_kept k t d y.0 in
             elim (place_further k.owner k.index (place_at x.entry.from n) before) [
               | inl earlier ↦
@@ -128,8 +128,8 @@ module _ (books : List Book) (b c : Contents) (k : Place) (t : Terms) (d i : ℕ
                   let terms_are : t ≡ terms_to p x.entry.cents x.entry.id = cc in
                   let due : d ≡ x.entry.deadline = cc in
                   let owner : x.entry.from ≡ k.owner = ap (λ (j : Place). j.owner) at_k in
-                  let named : is_of x.entry.from x.entry.id y.0 ≡ true = subst (λ (z : _). is_of x.entry.from x.entry.id (record { entry = z; index = y.0.index }) ≡ true) entry (same_transfer_refl x.entry.from x.entry.id) in
-                  let of_k : is_of k.owner t.id y.0 ≡ true = ap (λ (f : ℕ). is_of f t.id y.0) (sym owner) ∙ ap (λ (u : Terms). is_of x.entry.from u.id y.0) terms_are ∙ named in
+                  let named : is_arrival_of x.entry.from x.entry.id y.0 ≡ true = subst (λ (z : _). is_arrival_of x.entry.from x.entry.id (record { entry = z; index = y.0.index }) ≡ true) entry (same_transfer_refl x.entry.from x.entry.id) in
+                  let of_k : is_arrival_of k.owner t.id y.0 ≡ true = ap (λ (f : ℕ). is_arrival_of f t.id y.0) (sym owner) ∙ ap (λ (u : Terms). is_arrival_of x.entry.from u.id y.0) terms_are ∙ named in
                   ap (λ (z : Arrival). is_some z.index) (sym y.1.1)
                   ∙ found_there k t d y.0 of_k
                   (eq-eqb y.0.entry.cents t.cents (ap (λ (z : _). z.cents) (sym entry) ∙ ap (λ (u : Terms). u.cents) (sym terms_are)))

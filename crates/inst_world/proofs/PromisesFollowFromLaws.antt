@@ -33,7 +33,7 @@ use Rattle.inst_model.specs.Once.{IsSettledOnce}
 use Rattle.inst_model.specs.Opening.{Opening, IsOpening}
 use Rattle.inst_model.specs.Trace.{answer, trace, own_answers, replies}
 use Rattle.inst_model.specs.Transfer.{Transfer, transfer}
-use Rattle.inst_model.specs.Untold.{signed_sum_below, total, if_untold, signed_total, untold_by, untold}
+use Rattle.inst_model.specs.Untold.{signed_sum_below, sum_over_participants, if_untold, signed_total, untold_by, untold}
 use Rattle.inst_model.proofs.HistoriesAgreeWithOutcomes.{nothing_untold}
 use Rattle.inst_model.proofs.ConservationOfMoney.{money_is_conserved, plus_nothing}
 use Rattle.inst_model.proofs.HistoriesFitOneAnother.{histories_are_sound, histories_fit}
@@ -201,7 +201,7 @@ adds_up s run is = record {
     same : (p : ℕ) → p < participants s → run.journals p ≡ history s O L p
     same p below = is.journals_are p (lt-ltb p (participants s) below)
 
-    summed : pos (total s (λ p. position (run.journals p))) ≡ (signed_total s (λ p. net (run.journals p)) +ℤ pos (untold s O L))
+    summed : pos (sum_over_participants s (λ p. position (run.journals p))) ≡ (signed_total s (λ p. net (run.journals p)) +ℤ pos (untold s O L))
     summed =
         ap pos (sum_below_same (participants s) (λ p. position (run.journals p)) (λ p. position (history s O L p)) (λ p below. ap position (same p below)))
         ∙ law.signed_sum

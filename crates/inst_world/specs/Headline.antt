@@ -27,7 +27,7 @@ use Rattle.inst_model.specs.Once.{IsSettledOnce}
 use Rattle.inst_model.specs.Opening.{Opening, IsOpening, beginning}
 use Rattle.inst_model.specs.Trace.{trace, own_answers}
 use Rattle.inst_model.specs.Transfer.{Transfer, transfer}
-use Rattle.inst_model.specs.Untold.{total, signed_total, if_untold, untold_by, untold}
+use Rattle.inst_model.specs.Untold.{sum_over_participants, signed_total, if_untold, untold_by, untold}
 
 -- what a run was given, in order, and what it returned: the journal of each participant, and an
 -- answer to each step
@@ -117,11 +117,11 @@ AllAreTold s run = (p : ℕ) (id : List ℕ) (o : Outcome) → is_participant s 
 -- sums: no money is made or lost, what is untold is still reserved at its originator, in sum and
 -- transfer by transfer, and nobody is overdrawn
 pub record AddsUp (s : HubSettings) (run : Run) : Type 0 where
-  pub sum : pos (total s (λ p. position (run.journals p)))
+  pub sum : pos (sum_over_participants s (λ p. position (run.journals p)))
       ≡ (signed_total s (λ p.
       net (run.journals p)) +ℤ pos (untold s run.opening (reverse run.steps)))
   pub all_told : AllAreTold s run →
-      pos (total s (λ p. position (run.journals p))) ≡ signed_total s (λ p. net (run.journals p))
+      pos (sum_over_participants s (λ p. position (run.journals p))) ≡ signed_total s (λ p. net (run.journals p))
   pub untold_is_reserved : (p : ℕ) → is_participant s p ≡ true →
       untold_by s run.opening (reverse run.steps) p ≤ reserved (run.journals p)
   pub each_untold_is_reserved : (p : ℕ) (id : List ℕ) (to cents stamp : ℕ) →

@@ -3,25 +3,25 @@ use Rattle.std.specs.Prelude.{◌≡◌, ◌⊎◌, ℕ, Bool, true, false, ◌&
 use Rattle.std.specs.Prelude.{Option, Some, None}
 use Rattle.inst_base.specs.TimeLimit.{is_due}
 use Rattle.inst_command.specs.declared.place.Place.{Place}
-use Rattle.inst_agenda.specs.Agenda.{Agenda, is_place, is_entry, waits, is_next}
+use Rattle.inst_agenda.specs.Agenda.{Agenda, is_same_place, is_entry, is_awaited, is_next}
 
 -- whether one place comes before another: by originator, and of one originator by index
-abbrev pub comes_before : ℕ × ℕ → ℕ × ℕ → Bool
-comes_before one other = nat_lt one.0 other.0 || (nat_eq one.0 other.0 && nat_lt one.1 other.1)
+abbrev pub place_comes_before : ℕ × ℕ → ℕ × ℕ → Bool
+place_comes_before one other = nat_lt one.0 other.0 || (nat_eq one.0 other.0 && nat_lt one.1 other.1)
 
 -- the place is one of the next, and nothing else changed
 pub record Notes (old new : Agenda) (place : Place) : Type 0 where
   pub waiting_is : new.waiting ≡ old.waiting
   pub next_are : (owner index : ℕ) →
       is_next new owner index
-      ≡ (is_next old owner index || is_place place.owner place.index (owner, index))
+      ≡ (is_next old owner index || is_same_place place.owner place.index (owner, index))
 
 -- the place waits for the moment, and nothing else changed
 pub record Waits (old new : Agenda) (moment : ℕ) (place : Place) : Type 0 where
   pub next_is : new.next ≡ old.next
   pub waiting_are : (m owner index : ℕ) →
-      waits new m owner index
-      ≡ (waits old m owner index || is_entry moment place.owner place.index (m, (owner, index)))
+      is_awaited new m owner index
+      ≡ (is_awaited old m owner index || is_entry moment place.owner place.index (m, (owner, index)))
 
 -- the first that waits is due and was taken out
 pub record TakesDue (old new : Agenda) (at moment : ℕ) (place : Place) : Type 0 where
@@ -32,7 +32,7 @@ pub record TakesDue (old new : Agenda) (at moment : ℕ) (place : Place) : Type 
 -- nothing that waits is due
 abbrev pub NothingIsDue : Agenda → ℕ → Type 0
 NothingIsDue agenda at =
-    (m owner index : ℕ) → waits agenda m owner index ≡ true → is_due m at ≡ false
+    (m owner index : ℕ) → is_awaited agenda m owner index ≡ true → is_due m at ≡ false
 
 -- what waits and is due is taken out, if anything is
 abbrev pub TakesAnyDue : Agenda → Agenda → ℕ → Option (ℕ × Place) → Type 0
@@ -41,14 +41,14 @@ TakesAnyDue old new at (Some taken) = TakesDue old new at taken.0 taken.1
 
 -- some that waited are among the next, and nothing else changed
 pub record Moves (old new : Agenda) : Type 0 where
-  pub waits_on : (m owner index : ℕ) → waits new m owner index ≡ true →
-      waits old m owner index ≡ true
-  pub waits_still : (m owner index : ℕ) → waits old m owner index ≡ true →
-      (waits new m owner index ≡ true) ⊎ (is_next new owner index ≡ true)
+  pub waits_on : (m owner index : ℕ) → is_awaited new m owner index ≡ true →
+      is_awaited old m owner index ≡ true
+  pub waits_still : (m owner index : ℕ) → is_awaited old m owner index ≡ true →
+      (is_awaited new m owner index ≡ true) ⊎ (is_next new owner index ≡ true)
   pub next_still : (owner index : ℕ) → is_next old owner index ≡ true →
       is_next new owner index ≡ true
   pub next_from : (owner index : ℕ) → is_next new owner index ≡ true →
-      (is_next old owner index ≡ true) ⊎ ((m : ℕ) × (waits old m owner index ≡ true))
+      (is_next old owner index ≡ true) ⊎ ((m : ℕ) × (is_awaited old m owner index ≡ true))
 
 -- what was due is among the next
 abbrev pub MovesDue : Agenda → Agenda → ℕ → Type 0
@@ -59,7 +59,7 @@ pub record TakesNext (old new : Agenda) (place : Place) : Type 0 where
   pub waiting_is : new.waiting ≡ old.waiting
   pub first : old.next ≡ (place.owner, place.index) ∷ new.next
   pub after : (owner index : ℕ) → is_next new owner index ≡ true →
-      comes_before (place.owner, place.index) (owner, index) ≡ true
+      place_comes_before (place.owner, place.index) (owner, index) ≡ true
 
 -- the first of the next was taken out, if there are any
 abbrev pub TakesAnyNext : Agenda → Agenda → Option Place → Type 0

@@ -6,7 +6,7 @@ use Rattle.inst_command.specs.declared.place.Place.{Place}
 use Rattle.inst_model.specs.Opening.{Opening}
 use Rattle.inst_model.specs.Transfer.{Transfer, at_place, deadline}
 use Rattle.inst_model.specs.Hub.{history, outcome}
-use Rattle.inst_agenda.specs.Agenda.{Agenda, waits, is_next}
+use Rattle.inst_agenda.specs.Agenda.{Agenda, is_awaited, is_next}
 use Rattle.inst_agenda.specs.FollowUps.{of_transfer}
 use Rattle.inst_world.specs.HasRun.{World, world_settings, HasRun}
 
@@ -44,7 +44,7 @@ pub record GoesOver (O : Opening) (L : List Step) (at : ℕ) (place : Place) (hu
       at_place place.owner (history (world_settings hub) O L place.owner) place.index ≡ Some x →
       outcome (world_settings hub) O (reverse (of_transfer at place.owner place.index x.to)
       ++ L) place.owner x.id ≡ None →
-      waits new (deadline (world_settings hub) x) place.owner place.index ≡ true
-  pub waits_still : (m p k : ℕ) → waits old m p k ≡ true → waits new m p k ≡ true
-  pub waits_from : (m p k : ℕ) → waits new m p k ≡ true →
-      (waits old m p k ≡ true) ⊎ ((p ≡ place.owner) × (k ≡ place.index))
+      is_awaited new (deadline (world_settings hub) x) place.owner place.index ≡ true
+  pub waits_still : (m p k : ℕ) → is_awaited old m p k ≡ true → is_awaited new m p k ≡ true
+  pub waits_from : (m p k : ℕ) → is_awaited new m p k ≡ true →
+      (is_awaited old m p k ≡ true) ⊎ ((p ≡ place.owner) × (k ≡ place.index))

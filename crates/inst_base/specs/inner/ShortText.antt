@@ -4,7 +4,7 @@ use Rattle.std.specs.Prelude.{◌≡◌, ℕ, ◌-◌, ◌≤◌, List, length, 
 use Rattle.std.specs.Str.{IsAscii}
 
 -- the first `len` of the bytes are the text, and the others are 0
-pub record IsKept (room : ℕ) (bytes : List ℕ) (len : ℕ) : Type 0 where
+pub record IsPaddedText (room : ℕ) (bytes : List ℕ) (len : ℕ) : Type 0 where
   pub room_is : length bytes ≡ room
   pub within : len ≤ room
   pub ascii : IsAscii (take len bytes)

@@ -53,5 +53,5 @@ kept_in None = []
 kept_in (Some ledger) = ledger.book.events
 
 -- the history that each participant's ledger keeps, by its number
-abbrev pub histories_of : List BookAndRoom → ℕ → List Event
-histories_of ledgers p = kept_in (slice_get ledgers p)
+abbrev pub ledger_histories : List BookAndRoom → ℕ → List Event
+ledger_histories ledgers p = kept_in (slice_get ledgers p)

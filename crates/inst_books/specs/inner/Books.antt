@@ -4,14 +4,14 @@ use Rattle.inst_journal.specs.declared.event.Event.{Event}
 use Rattle.inst_books.specs.declared.fault.BookFault.{BookFault}
 use Rattle.inst_books.specs.declared.fault.BookFault.TheVariants.{Memory}
 use Rattle.inst_books.specs.Reading.{Entry}
-use Rattle.inst_books.specs.Books.{with_event}
+use Rattle.inst_books.specs.Books.{books_with_event}
 
 -- The event that a line says was put into its book, or it is told why not: memory was refused, or
 -- the line is a bad one.
 abbrev pub KeepsEvent : Result Entry BookFault → Result (Unit {0}) BookFault → List (List Event) →
     List (List Event) →
     Type 0
-KeepsEvent (Ok entry) (Ok done) before after = after ≡ with_event entry.0 entry.1 before
+KeepsEvent (Ok entry) (Ok done) before after = after ≡ books_with_event entry.0 entry.1 before
 KeepsEvent (Ok entry) (Err fault) before after = fault ≡ Memory
 KeepsEvent (Err bad) (Ok done) before after = ⊥
 KeepsEvent (Err bad) (Err fault) before after = (fault ≡ Memory) ⊎ (fault ≡ bad)

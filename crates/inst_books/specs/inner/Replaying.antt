@@ -7,7 +7,7 @@ use Rattle.inst_journal.specs.Opened.{HasOpeningsLeft}
 use Rattle.inst_journal.specs.Sound.{IsSound}
 use Rattle.inst_ledger.specs.Book.{BookAndRoom}
 use Rattle.inst_world.specs.NextOpening.{books_of}
-use Rattle.inst_books.specs.inner.Agreeing.{histories_of}
+use Rattle.inst_books.specs.inner.Agreeing.{ledger_histories}
 
 -- a history that a participant can open from, whatever the others have
 pub record CanBeBook (s : HubSettings) (who : ℕ) (J : List Event) : Type 0 where
@@ -15,13 +15,13 @@ pub record CanBeBook (s : HubSettings) (who : ℕ) (J : List Event) : Type 0 whe
   pub few : HasOpeningsLeft J
 
 -- the first of the journals can be books, and are kept by the ledgers
-pub record AreKept (s : HubSettings) (journals : List History) (ledgers : List BookAndRoom) : Type 0
+pub record AreKeptJournals (s : HubSettings) (journals : List History) (ledgers : List BookAndRoom) : Type 0
   where
     pub can : (p : ℕ) → p < length ledgers → CanBeBook s p (books_of journals p)
-    pub same : (p : ℕ) → p < length ledgers → histories_of ledgers p ≡ books_of journals p
+    pub same : (p : ℕ) → p < length ledgers → ledger_histories ledgers p ≡ books_of journals p
 
 -- each of the journals, kept by a ledger
 pub record AreAllKept (s : HubSettings) (journals : List History) (ledgers : List BookAndRoom) :
     Type 0 where
   pub one_each : length ledgers ≡ length journals
-  pub kept : AreKept s journals ledgers
+  pub kept : AreKeptJournals s journals ledgers

@@ -11,7 +11,7 @@ ghost use Rattle.inst_board.specs.Standing.{IsPlace, pending, about};
 ghost use Rattle.inst_board.specs.Learning.{IsAnswer};
 ghost use Rattle.inst_board.specs.Plain.{place_number};
 ghost use Rattle.inst_cell.specs.View.{view_after_learning, with_note};
-ghost use Rattle.inst_cell.specs.Steps.{Shows};
+ghost use Rattle.inst_cell.specs.Steps.{ShowsWord};
 ghost use Rattle.inst_cell.specs.Held.{settings_of, view_of, knows, has_role, wrote, Stays};
 
 use super::SharedBoard;
@@ -26,7 +26,7 @@ impl SharedBoard {
     pub(super) fn load(&mut self, place: Place) -> u64
         requires { IsPlace (settings_of self.old) place }
         ensures stays { Stays self.old self.new }
-        ensures shows { Shows ⊥ (place_number (settings_of self.old) place) (view_of self.old)
+        ensures shows { ShowsWord ⊥ (place_number (settings_of self.old) place) (view_of self.old)
             result
             (view_of self.new) }
     {
@@ -120,7 +120,7 @@ impl SharedBoard {
             × (IsAnswer outcome.now → has_role self.old t.to)
             × (has_role self.old place.owner ⊎ has_role self.old t.to) }
         ensures stays { Stays self.old self.new }
-        ensures shows { Shows (result
+        ensures shows { ShowsWord (result
             ≡ outcome_number outcome.now at) (place_number (settings_of self.old) place)
             (view_of self.old) result (view_of self.new) }
         ensures moved { result ≢ number deadline 0 0 }

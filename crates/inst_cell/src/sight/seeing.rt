@@ -7,7 +7,7 @@ ghost use Rattle.inst_board.specs.declared.about.About.TheVariants.{Opened, Deci
 ghost use Rattle.inst_board.specs.Standing.{about};
 ghost use Rattle.inst_cell.specs.Held.{Stays, AtOneTable};
 ghost use Rattle.inst_cell.specs.Meeting.{KnowsBoth};
-ghost use Rattle.inst_cell.specs.Seen.{board_of, sees, Peeks};
+ghost use Rattle.inst_cell.specs.Seen.{board_of_sight, sight_knows, Peeks};
 
 use super::Sight;
 use crate::Ticket;
@@ -18,12 +18,12 @@ impl Sight {
     /// What the words show of the ticket's place now, which is at least what the sight knows.
     pub fn peek(&mut self, ticket: &Ticket) -> State
         ensures peek { Peeks self.old ticket.now result self.new }
-        ensures opened { sees self.old (about ticket.now Opened) → result ≢ Unused }
-        ensures outcome { (o : Outcome) → sees self.old (about ticket.now (Decided o)) →
+        ensures opened { sight_knows self.old (about ticket.now Opened) → result ≢ Unused }
+        ensures outcome { (o : Outcome) → sight_knows self.old (about ticket.now (Decided o)) →
             result ≡ IsDecided o }
         ensures shown { (o : Outcome) → result ≡ IsDecided o →
-            sees self.new (about ticket.now (Decided o)) }
-        ensures stays { Stays (board_of self.old) (board_of self.new) }
+            sight_knows self.new (about ticket.now (Decided o)) }
+        ensures stays { Stays (board_of_sight self.old) (board_of_sight self.new) }
     {
         match self.board.look(ticket.place()) {
             Look::Unused => State::Unused,
@@ -34,20 +34,20 @@ impl Sight {
 
     /// Each then knows what either knew.
     pub fn meet(&mut self, other: &mut Sight)
-        requires one { AtOneTable (board_of self.old) (board_of other.old) }
-        ensures mine { KnowsBoth (board_of self.old) (board_of other.old) (board_of self.new) }
-        ensures yours { KnowsBoth (board_of self.old) (board_of other.old) (board_of other.new) }
-        ensures stays { Stays (board_of self.old) (board_of self.new)
-            × Stays (board_of other.old) (board_of other.new) }
+        requires one { AtOneTable (board_of_sight self.old) (board_of_sight other.old) }
+        ensures mine { KnowsBoth (board_of_sight self.old) (board_of_sight other.old) (board_of_sight self.new) }
+        ensures yours { KnowsBoth (board_of_sight self.old) (board_of_sight other.old) (board_of_sight other.new) }
+        ensures stays { Stays (board_of_sight self.old) (board_of_sight self.new)
+            × Stays (board_of_sight other.old) (board_of_sight other.new) }
     {
         self.board.meet(&mut other.board);
     }
 
     /// One sight that knows what both knew.
     pub fn join(&mut self, other: Sight)
-        requires one { AtOneTable (board_of self.old) (board_of other) }
-        ensures both { KnowsBoth (board_of self.old) (board_of other) (board_of self.new) }
-        ensures stays { Stays (board_of self.old) (board_of self.new) }
+        requires one { AtOneTable (board_of_sight self.old) (board_of_sight other) }
+        ensures both { KnowsBoth (board_of_sight self.old) (board_of_sight other) (board_of_sight self.new) }
+        ensures stays { Stays (board_of_sight self.old) (board_of_sight self.new) }
     {
         self.board.join(other.board);
     }

@@ -5,7 +5,7 @@ ghost use Rattle.inst_board.specs.declared.about.Fact.{Fact};
 ghost use Rattle.inst_board.specs.Standing.{about};
 ghost use Rattle.inst_cell.specs.Held.{knows, Stays, AtOneTable};
 ghost use Rattle.inst_cell.specs.Meeting.{KnowsBoth, KnowsTruth, Vouches};
-ghost use Rattle.inst_cell.specs.Seen.{board_of};
+ghost use Rattle.inst_cell.specs.Seen.{board_of_sight};
 
 use super::Sight;
 use crate::{SharedBoard, Ticket};
@@ -15,11 +15,11 @@ impl SharedBoard {
     /// The sight then knows what the board knows of the place, which is known opened, and of all
     /// others. The ticket names the place. The board has and knows what it had and knew.
     pub fn tell(&mut self, sight: &mut Sight, place: Place) -> Ticket
-        requires one { AtOneTable self.old (board_of sight.old) }
+        requires one { AtOneTable self.old (board_of_sight sight.old) }
         requires opened { knows self.old (about place Opened) }
-        ensures told { KnowsBoth self.old (board_of sight.old) (board_of sight.new) }
+        ensures told { KnowsBoth self.old (board_of_sight sight.old) (board_of_sight sight.new) }
         ensures same { (f : Fact) → knows self.new f ↔ knows self.old f }
-        ensures stays { Stays self.old self.new × Stays (board_of sight.old) (board_of sight.new) }
+        ensures stays { Stays self.old self.new × Stays (board_of_sight sight.old) (board_of_sight sight.new) }
         ensures ticket { result ≡ place }
     {
         self.inform(&mut sight.board);
@@ -29,10 +29,10 @@ impl SharedBoard {
     /// The board then knows what the sight knew too. Of its own participants' places that is
     /// nothing new.
     pub fn join_sight(&mut self, sight: Sight)
-        requires one { AtOneTable self.old (board_of sight) }
-        ensures both { KnowsBoth self.old (board_of sight) self.new }
+        requires one { AtOneTable self.old (board_of_sight sight) }
+        ensures both { KnowsBoth self.old (board_of_sight sight) self.new }
         ensures truly { KnowsTruth self.new }
-        ensures vouches { Vouches self.old (board_of sight) }
+        ensures vouches { Vouches self.old (board_of_sight sight) }
         ensures stays { Stays self.old self.new }
     {
         self.join(sight.board);

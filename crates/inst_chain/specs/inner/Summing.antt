@@ -8,7 +8,7 @@ use Rattle.inst_log.specs.declared.error.LogError.{LogError}
 use Rattle.inst_log.specs.declared.error.LogError.TheVariants.{Disk, Memory, Full, Write, Told}
 use Rattle.inst_log.specs.declared.error.LogError.TheVariants.{OtherSettings, NoLog}
 use Rattle.inst_chain.specs.Chain.{is_mark, mark_with, said}
-use Rattle.inst_chain.specs.Checking.{Stands}
+use Rattle.inst_chain.specs.Checking.{HasGoneThrough}
 use Rattle.inst_chain.specs.Verifying.{IsDamagedAfter}
 use Rattle.inst_chain.specs.Summing.{HasFirst}
 use Rattle.inst_chain.specs.declared.digest.Digest.{Digest}
@@ -18,20 +18,20 @@ use Rattle.inst_chain.specs.declared.summary.Tally.{Tally}
 use Rattle.inst_chain.specs.declared.summary.Reading.{Reading}
 
 -- the first of these lines, if there is one
-abbrev pub IsFirst : Option (Vec ℕ Global) → List (List ℕ) → Type 0
-IsFirst first lines = MatchOption first (lines ≡ []) (λ line. HasFirst lines line.items)
+abbrev pub IsFirstOf : Option (Vec ℕ Global) → List (List ℕ) → Type 0
+IsFirstOf first lines = MatchOption first (lines ≡ []) (λ line. HasFirst lines line.items)
 
 -- these lines have come
 pub record Sees (seen : Seen) (lines : List (List ℕ)) : Type 0 where
-  pub first : IsFirst seen.first lines
+  pub first : IsFirstOf seen.first lines
   pub count : length (blocks lines) < 2 ^ 64 → seen.lines ≡ length (said lines)
   pub digest : (before : List (List ℕ)) (mark : List ℕ) → lines ≡ before ++ mark ∷ [] →
       is_mark mark ≡ true → length mark ≡ 67
       → mark ≡ mark_with seen.digest.text
 
 -- whatever lines follow these, a file of them is damaged so
-abbrev pub AreWrong : List (List ℕ) → Prefix → Type 0
-AreWrong lines right =
+abbrev pub AreDamaged : List (List ℕ) → Prefix → Type 0
+AreDamaged lines right =
     (file : List ℕ) (later : List (List ℕ)) → recovered_lines file ≡ lines ++ later →
     length file < 2 ^ 64
     → IsDamagedAfter file right
@@ -39,7 +39,7 @@ AreWrong lines right =
 -- the same, and their marks were checked
 pub record Tallies (tally : Tally) (lines : List (List ℕ)) : Type 0 where
   pub sees : Sees tally.seen lines
-  pub checked : MatchOption tally.wrong (Stands tally.checker lines) (AreWrong lines)
+  pub checked : MatchOption tally.wrong (HasGoneThrough tally.checker lines) (AreDamaged lines)
 
 -- so far the file was read, and this is left
 pub record HasRead (reading : Reading) (file : List ℕ) (left : Option (List ℕ)) : Type 0 where

@@ -3,7 +3,7 @@ use Rattle.std.specs.Prelude.{◌≡◌, ℕ, List, slice_get, Some}
 use Rattle.inst_command.specs.declared.place.Place.{Place}
 use Rattle.inst_command.specs.declared.outcome.State.{State}
 use Rattle.inst_hub.specs.declared.teller.Teller.{Teller}
-use Rattle.inst_crew.specs.Seen.{IsSeen}
+use Rattle.inst_crew.specs.Seen.{IsOutcomeSeen}
 
 abbrev pub AreSeen : Teller → List (Place × State) → Type 0
-AreSeen t states = (i : ℕ) (pair : Place × State) → slice_get states i ≡ Some pair → IsSeen t pair
+AreSeen t states = (i : ℕ) (pair : Place × State) → slice_get states i ≡ Some pair → IsOutcomeSeen t pair

@@ -8,7 +8,7 @@ use Rattle.inst_desk.specs.declared.desk.Desk.{Desk}
 use Rattle.inst_desk.specs.declared.hand.Hand.{Hand}
 use Rattle.inst_command.specs.declared.ask.Ask.{Ask}
 use Rattle.inst_desk.specs.declared.job.Job.{Job}
-use Rattle.inst_desk.specs.Desk.{IsHandOf, taken_of, WasEmpty}
+use Rattle.inst_desk.specs.Desk.{IsHandOf, jobs_taken, WasEmpty}
 use Rattle.inst_hub.specs.declared.hub.Hub.{Hub}
 use Rattle.inst_hub.specs.declared.teller.Teller.{Teller}
 use Rattle.inst_hub.specs.Calls.{IsTellerOf}
@@ -17,14 +17,14 @@ use Rattle.inst_crew.specs.declared.shift.Shift.{Shift}
 use Rattle.inst_crew.specs.declared.worker.Worker.{Worker}
 use Rattle.inst_crew.specs.Crew.{fitting}
 use Rattle.inst_crew.specs.Later.{IsLaterHand, IsLaterTeller}
-use Rattle.inst_crew.specs.Served.{IsServed, Serves}
+use Rattle.inst_crew.specs.Served.{IsServed, ServesJob}
 use Rattle.inst_crew.specs.inner.Seen.{AreSeen}
 
 abbrev pub hands_of : List Worker → List Hand
 hands_of workers = map (λ w. w.hand) workers
 
-abbrev pub tellers_of : List Worker → List Teller
-tellers_of workers = map (λ w. w.teller) workers
+abbrev pub workers_tellers : List Worker → List Teller
+workers_tellers workers = map (λ w. w.teller) workers
 
 -- the worker has a hand of the desk and a teller of the hub
 pub record HasHandAndTeller (hub : Hub) (d : Desk) (w : Worker) : Type 0 where
@@ -44,8 +44,8 @@ ServesOne hub ask s r =
 -- the jobs that the worker's hand took more were served
 abbrev pub ServesAll : Hub → Worker → Shift → Type 0
 ServesAll hub w s =
-    (jobs : List Job) × (taken_of s.hand ≡ taken_of w.hand ++ jobs)
-    × Serves hub jobs w.teller s.teller s.states.items
+    (jobs : List Job) × (jobs_taken s.hand ≡ jobs_taken w.hand ++ jobs)
+    × ServesJob hub jobs w.teller s.teller s.states.items
 
 -- from this worker on, this was done: the jobs that its hand took more and that fit are answered,
 -- and what it saw is known
@@ -53,13 +53,13 @@ pub record Works (hub : Hub) (d : Desk) (w : Worker) (s : Shift) : Type 0 where
   pub hand : IsLaterHand d w.hand s.hand
   pub teller : IsLaterTeller hub w.teller s.teller
   pub answered : s.answered
-      ≡ min (fitting hub.settings (taken_of s.hand)
-      - fitting hub.settings (taken_of w.hand)) (2 ^ 64 - 1)
+      ≡ min (fitting hub.settings (jobs_taken s.hand)
+      - fitting hub.settings (jobs_taken w.hand)) (2 ^ 64 - 1)
   pub states : AreSeen s.teller s.states.items
   pub served : ServesAll hub w s
 
 -- the same, and then the desk was empty
-pub record HasEnded (hub : Hub) (d : Desk) (w : Worker) (s : Shift) : Type 0 where
+pub record HasEndedShift (hub : Hub) (d : Desk) (w : Worker) (s : Shift) : Type 0 where
   pub works : Works hub d w s
   pub emptied : WasEmpty s.hand
 
@@ -68,7 +68,7 @@ pub record AllWork (hub : Hub) (d : Desk) (workers : List Worker)
     (results : List (Result Shift AllocError)) : Type 0 where
   pub enough : length results ≡ length workers
   pub each : (i : ℕ) (w : Worker) (r : Result Shift AllocError) → slice_get workers i ≡ Some w →
-      slice_get results i ≡ Some r → IfOk r (HasEnded hub d w)
+      slice_get results i ≡ Some r → IfOk r (HasEndedShift hub d w)
 
 -- the states of all of these
 abbrev pub states_of : List Shift → List (Place × State)

@@ -2,7 +2,7 @@
 ghost use Rattle.std.specs.Prelude.{◌≡◌, ◌⊎◌, ◌↔◌, ◌<◌, ◌≤◌, [], Err, IfOk, IfErr, All, length};
 ghost use Rattle.crossbeam_queue.specs.Passes.{view, IsPassOf};
 ghost use Rattle.inst_desk.specs.Account.{first_account};
-ghost use Rattle.inst_desk.specs.Desk.{capacity_of, AreAllHandsOf, IsNewHand, MayOpen};
+ghost use Rattle.inst_desk.specs.Desk.{capacity_of, AreAllHandsOf, IsNewHand, MayOpenDesk};
 
 use super::Desk;
 use crate::hand::Hand;
@@ -55,7 +55,7 @@ impl Desk {
         ensures enough { IfOk result (λ r. length r.1.items ≡ hands) }
         ensures all { IfOk result (λ r. AreAllHandsOf r.0 r.1.items) }
         ensures new { IfOk result (λ r. All IsNewHand r.1.items) }
-        ensures bad { (result ≡ Err Fault.BadSettings) ↔ ¬ MayOpen capacity hands }
+        ensures bad { (result ≡ Err Fault.BadSettings) ↔ ¬ MayOpenDesk capacity hands }
         ensures only { IfErr result (λ e. (e ≡ Fault.Memory) ⊎ (e ≡ Fault.BadSettings)) }
     {
         if capacity == 0 || capacity > MOST_ROOM || hands == 0 || hands > MOST_HANDS {

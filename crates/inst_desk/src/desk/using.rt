@@ -1,7 +1,7 @@
 //! What hands do at a desk.
 ghost use Rattle.std.specs.Prelude.{◌≡◌, [], ◌∷◌, ◌++◌, None, IfErr, IfSome, OnOk, OnErr};
 ghost use Rattle.inst_desk.specs.Account.{LiesFirst};
-ghost use Rattle.inst_desk.specs.Desk.{account_of, put_of, taken_of, IsHandOf, IsSameHand, WasFull};
+ghost use Rattle.inst_desk.specs.Desk.{account_of, put_of, jobs_taken, IsHandOf, IsSameHand, WasFull};
 ghost use Rattle.inst_desk.specs.Desk.{WasEmpty};
 
 use super::Desk;
@@ -18,7 +18,7 @@ impl Desk {
         ensures of { IsHandOf self.now hand.new }
         ensures same { IsSameHand hand.old hand.new }
         ensures put { OnOk result (put_of hand.new ≡ put_of hand.old ++ job ∷ []) }
-        ensures taken { taken_of hand.new ≡ taken_of hand.old }
+        ensures taken { jobs_taken hand.new ≡ jobs_taken hand.old }
         ensures back { IfErr result (λ x. x ≡ job) }
         ensures unchanged { OnErr result (put_of hand.new ≡ put_of hand.old) }
         ensures full { OnErr result (WasFull self.now hand.old) }
@@ -34,9 +34,9 @@ impl Desk {
         ensures of { IsHandOf self.now hand.new }
         ensures same { IsSameHand hand.old hand.new }
         ensures put { put_of hand.new ≡ put_of hand.old }
-        ensures taken { IfSome result (λ job. taken_of hand.new ≡ taken_of hand.old ++ job ∷ []) }
+        ensures taken { IfSome result (λ job. taken_of hand.new ≡ jobs_taken hand.old ++ job ∷ []) }
         ensures lay { IfSome result (λ job. LiesFirst (account_of hand.old) job) }
-        ensures unchanged { result ≡ None → taken_of hand.new ≡ taken_of hand.old }
+        ensures unchanged { result ≡ None → jobs_taken hand.new ≡ jobs_taken hand.old }
         ensures none { result ≡ None → WasEmpty hand.old }
     {
         let job = self.queue.pop_as::<Taking, R>(rt, &mut hand.seat)?;

@@ -1,7 +1,7 @@
 -- Who works in an opening of a drill. This hub's own choice.
 use Rattle.std.specs.Prelude.{◌≡◌, ◌+◌, List, [], ◌∷◌, ◌++◌, length, sum_by}
 use Rattle.inst_desk.specs.declared.desk.Desk.{Desk}
-use Rattle.inst_desk.specs.Desk.{IsHandOf, AreHandsOf, parts_of as parts_of_hand}
+use Rattle.inst_desk.specs.Desk.{IsHandOf, AreHandsOf, hand_parts as parts_of_hand}
 use Rattle.inst_hub.specs.declared.hub.Hub.{Hub}
 use Rattle.inst_hub.specs.declared.teller.Teller.{Teller}
 use Rattle.inst_hub.specs.Calls.{IsTellerOf, AreOf}

@@ -9,9 +9,9 @@ abbrev pub IsRising : List (ℕ × ℕ) → Type 0
 IsRising pairs = AllPairs (λ one other. comes_before one other ≡ true) pairs
 
 -- where the pair stands in the row, or else where it would: behind those that come before it
-abbrev pub IsPlace : List (ℕ × ℕ) → ℕ × ℕ → Result ℕ ℕ → Type 0
-IsPlace pairs pair (Ok n) = slice_get pairs n ≡ Some pair
-IsPlace pairs pair (Err n) =
+abbrev pub IsRankOf : List (ℕ × ℕ) → ℕ × ℕ → Result ℕ ℕ → Type 0
+IsRankOf pairs pair (Ok n) = slice_get pairs n ≡ Some pair
+IsRankOf pairs pair (Err n) =
     (n ≤ length pairs)
     × IsPartitionPoint (λ other. comes_before other pair ≡ true) (λ other.
     comes_before pair other ≡ true) pairs n

@@ -1,7 +1,7 @@
 //! Calls of a hub, under the locks of participants.
 ghost use Rattle.std.specs.Prelude.{◌≡◌, ◌<◌, true, IfOk, IfSome, OnErr};
 ghost use Rattle.inst_command.specs.Ask.{ask_fits};
-ghost use Rattle.inst_hub.specs.Calls.{IsTellerOf, KnowsMore, HasCalled, IsLeftUnanswered};
+ghost use Rattle.inst_hub.specs.Calls.{IsTellerOf, TellerKnowsMore, HasCalled, IsLeftUnanswered};
 ghost use Rattle.inst_hub.specs.inner.Calls.{Follows, Asks};
 ghost use Rattle.inst_row.specs.Row.{size};
 
@@ -62,7 +62,7 @@ impl Hub {
         requires of { IsTellerOf self.now teller.old }
         requires fits { ask_fits self.now.settings ask.now ≡ true }
         ensures of { IsTellerOf self.now teller.new }
-        ensures knows { KnowsMore teller.old teller.new }
+        ensures knows { TellerKnowsMore teller.old teller.new }
         ensures call { IfOk result (λ r. Asks self.now teller.old ask.now r teller.new) }
         ensures lock { IfOk result (λ r. IfSome r.1 (λ f. f.who < size self.now.row)) }
         ensures left { OnErr result (IsLeftUnanswered self.now teller.old ask.now teller.new) }
@@ -81,7 +81,7 @@ impl Hub {
         requires of { IsTellerOf self.now teller.old }
         requires lock { IfSome follow_up (λ f. f.who < size self.now.row) }
         ensures of { IsTellerOf self.now teller.new }
-        ensures knows { KnowsMore teller.old teller.new }
+        ensures knows { TellerKnowsMore teller.old teller.new }
         ensures follows { Follows self.now follow_up teller.old teller.new }
     {
         let Some(FollowUp { who, kind, place }) = follow_up else {

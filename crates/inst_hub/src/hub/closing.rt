@@ -13,7 +13,7 @@ ghost use Rattle.inst_hub.specs.declared.teller.Teller.{Teller};
 ghost use Rattle.inst_hub.specs.Calls.{AreOf, knows_of};
 ghost use Rattle.inst_hub.specs.Opening.{HaveAllParts};
 ghost use Rattle.inst_settings.specs.Settings.{participants};
-ghost use Rattle.inst_hub.specs.Founding.{HasOpened};
+ghost use Rattle.inst_hub.specs.Founding.{HasOpenedHub};
 ghost use Rattle.inst_hub.specs.Closing.{OneHasSeen, HandsBack};
 ghost use Rattle.inst_hub.specs.inner.Closing.{AreSeated, AreTakenOut};
 
@@ -108,7 +108,7 @@ impl Hub {
         requires parts { HaveAllParts tellers.items }
         ensures settings { IfOk result (λ parts. hub_of parts ≡ self.settings) }
         ensures parts { IfOk result (λ parts. (O : Opening) → IsOpening self.settings O →
-            HasOpened O self → IsPartsOf O parts) }
+            HasOpenedHub O self → IsPartsOf O parts) }
         ensures goes_on { IfOk result (λ parts. (i : ℕ) (t : Teller) (p : ℕ) (h : List Event) →
             slice_get tellers.items i ≡ Some t → p < participants self.settings →
             HasSeen p h t.seat → IsPrefix h (histories_of parts p)) }

@@ -7,7 +7,7 @@ ghost use Rattle.inst_board.specs.declared.about.About.TheVariants.{Opened, Deci
 ghost use Rattle.inst_board.specs.Standing.{about};
 ghost use Rattle.inst_cell.specs.Seen.{Peeks};
 ghost use Rattle.inst_hub.specs.declared.hub.Hub.{Hub};
-ghost use Rattle.inst_hub.specs.Calls.{IsTellerOf, KnowsMore, KnowBoth, knows_of};
+ghost use Rattle.inst_hub.specs.Calls.{IsTellerOf, TellerKnowsMore, KnowBoth, knows_of};
 
 use super::Hub;
 use crate::teller::Teller;
@@ -25,7 +25,7 @@ impl Teller {
         ensures shown { (o : Outcome) → result ≡ IsDecided o →
             knows_of self.new (about ticket.now (Decided o)) }
         ensures of { (hub : Hub) → IsTellerOf hub self.old → IsTellerOf hub self.new }
-        ensures knows { KnowsMore self.old self.new }
+        ensures knows { TellerKnowsMore self.old self.new }
     {
         self.sight.peek(ticket)
     }

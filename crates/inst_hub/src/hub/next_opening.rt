@@ -10,11 +10,11 @@ ghost use Rattle.inst_world.specs.NextOpening.{CanOpenFrom, books_of};
 ghost use Rattle.inst_world.specs.inner.NextOpening.{IsOpenedBelow};
 ghost use Rattle.inst_row.specs.Row.{row_id, key_of};
 ghost use Rattle.inst_hub.specs.Calls.{AreOf};
-ghost use Rattle.inst_hub.specs.Founding.{HasOpened};
+ghost use Rattle.inst_hub.specs.Founding.{HasOpenedHub};
 ghost use Rattle.inst_hub.specs.Opening.{AreNew, first_fronts, HaveAllParts};
 ghost use Rattle.inst_hub.specs.inner.Opening.{unboxed, AreBehind};
 ghost use Rattle.inst_hub.specs.NextOpening.{histories_from};
-ghost use Rattle.inst_hub.specs.inner.NextOpening.{AreCarried, pairs, seated};
+ghost use Rattle.inst_hub.specs.inner.NextOpening.{AreCarriedSlots, pairs, seated};
 
 use super::Hub;
 use super::opening::admit;
@@ -36,9 +36,9 @@ use std::snapshot::Snapshot;
 fn open_places(slots: &[Slot], whole: &mut SharedBoard)
     requires whole { IsWhole (settings_of whole.old) whole.old }
     requires carried { (books : ℕ → List Event)
-        × AreCarried (settings_of whole.old) books slots.now }
+        × AreCarriedSlots (settings_of whole.old) books slots.now }
     ensures stays { Stays whole.old whole.new }
-    ensures known { (books : ℕ → List Event) → AreCarried (settings_of whole.old) books slots.now →
+    ensures known { (books : ℕ → List Event) → AreCarriedSlots (settings_of whole.old) books slots.now →
         (f : Fact) → knows whole.new f ↔
         IsOpenedBelow (settings_of whole.old) books (participants (settings_of whole.old)) f }
 {

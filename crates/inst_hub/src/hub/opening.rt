@@ -7,7 +7,7 @@ ghost use Rattle.inst_row.specs.Row.{row_id, key_of, size};
 ghost use Rattle.inst_row.specs.Seated.{IsOn, HasAll, view_of};
 ghost use Rattle.inst_model.specs.Opening.{First};
 ghost use Rattle.inst_participant.specs.LockLaw.{IsBehind};
-ghost use Rattle.inst_hub.specs.Founding.{HasOpened};
+ghost use Rattle.inst_hub.specs.Founding.{HasOpenedHub};
 ghost use Rattle.inst_hub.specs.Calls.{AreOf};
 ghost use Rattle.inst_hub.specs.Opening.{AreNew, first_fronts, HaveAllParts};
 ghost use Rattle.inst_hub.specs.inner.Opening.{AreBoards, unboxed, AreParticipants, AreBlank};

@@ -1,7 +1,7 @@
 //! Sweeps of a hub: what a participant does by itself about all its transfers.
 ghost use Rattle.std.specs.Prelude.{◌≡◌, true};
 ghost use Rattle.inst_settings.specs.Settings.{is_participant};
-ghost use Rattle.inst_hub.specs.Calls.{IsTellerOf, KnowsMore};
+ghost use Rattle.inst_hub.specs.Calls.{IsTellerOf, TellerKnowsMore};
 ghost use Rattle.inst_hub.specs.Sweeping.{IsSweep};
 
 use super::Hub;
@@ -28,7 +28,7 @@ impl Hub {
         requires of { IsTellerOf self.now teller.old }
         requires participant { is_participant self.now.settings who ≡ true }
         ensures of { IsTellerOf self.now teller.new }
-        ensures knows { KnowsMore teller.old teller.new }
+        ensures knows { TellerKnowsMore teller.old teller.new }
         ensures sweep { IsSweep self.now teller.old who at result teller.new }
     {
         let lock = usize::from(who);

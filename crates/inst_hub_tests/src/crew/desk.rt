@@ -1,6 +1,6 @@
 //! What no contract says: in which order jobs are taken, and that a call fails only where it must.
 ghost use Rattle.std.specs.Prelude.{◌≡◌, IfOk};
-ghost use Rattle.inst_desk.specs.Desk.{IsHandOf, parts_of};
+ghost use Rattle.inst_desk.specs.Desk.{IsHandOf, hand_parts};
 ghost use Rattle.inst_desk.specs.declared.desk.opening.TheConstants.{MOST_HANDS};
 
 use inst_base::{Fault, Moment};
@@ -27,7 +27,7 @@ fn number_of(job: Option<Job>) -> Option<u32> {
 
 /// A desk of two with one hand.
 fn open(alloc: Global) -> Result<(Desk, Hand), Fault>
-    ensures { IfOk result (λ r. IsHandOf r.0 r.1 × (parts_of r.1 ≡ MOST_HANDS)) }
+    ensures { IfOk result (λ r. IsHandOf r.0 r.1 × (hand_parts r.1 ≡ MOST_HANDS)) }
 {
     let (desk, mut hands) = Desk::open(alloc, 2, 1)?;
     let Some(hand) = hands.pop() else {
@@ -40,7 +40,7 @@ fn open(alloc: Global) -> Result<(Desk, Hand), Fault>
 fn put_three<R: Wait>(rt: &R, desk: &Desk, hand: &mut Hand) -> Result<[Option<u32>; 3], Fault>
     requires { IsHandOf desk.now hand.old }
     ensures of { IfOk result (λ r. IsHandOf desk.now hand.new) }
-    ensures parts { IfOk result (λ r. parts_of hand.new ≡ parts_of hand.old) }
+    ensures parts { IfOk result (λ r. parts_of hand.new ≡ hand_parts hand.old) }
 {
     let first = desk.put(rt, hand, job(1)?).err();
     let second = desk.put(rt, hand, job(2)?).err();
@@ -52,7 +52,7 @@ fn put_three<R: Wait>(rt: &R, desk: &Desk, hand: &mut Hand) -> Result<[Option<u3
 fn take_three<R: Wait>(rt: &R, desk: &Desk, hand: &mut Hand) -> [Option<u32>; 3]
     requires { IsHandOf desk.now hand.old }
     ensures of { IsHandOf desk.now hand.new }
-    ensures parts { parts_of hand.new ≡ parts_of hand.old }
+    ensures parts { hand_parts hand.new ≡ hand_parts hand.old }
 {
     [
         number_of(desk.take(rt, hand)),
@@ -74,7 +74,7 @@ fn numbers(tally: &Tally) -> Ending {
 
 /// Ends a desk with its only hand.
 fn end<R: Wait>(rt: &R, alloc: Global, desk: Desk, hand: Hand) -> Result<Ending, Fault>
-    requires { IsHandOf desk hand × (parts_of hand ≡ MOST_HANDS) }
+    requires { IsHandOf desk hand × (hand_parts hand ≡ MOST_HANDS) }
 {
     let mut hands = Vec::new(alloc);
     hands.push(hand)?;

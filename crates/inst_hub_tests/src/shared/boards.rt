@@ -7,7 +7,7 @@ ghost use Rattle.inst_board.specs.Laws.{CanOpen};
 ghost use Rattle.inst_board.specs.Standing.{about};
 ghost use Rattle.inst_settings.specs.Settings.{participants};
 ghost use Rattle.inst_cell.specs.Held.{settings_of, knows, has_role, Stays, AtOneTable};
-ghost use Rattle.inst_cell.specs.Seen.{board_of};
+ghost use Rattle.inst_cell.specs.Seen.{board_of_sight};
 
 use crate::comparing::{same, same_at};
 use inst_base::{Cents, Code, Fault, Ident, Moment, Reason};
@@ -64,7 +64,7 @@ fn open_two(alloc: Global, settings: &Settings) -> Result<(SharedBoard, SharedBo
     ensures settings { IfOk result (λ r. settings_of r.0 ≡ settings.now) }
     ensures roles { IfOk result (λ r. has_role r.0 0 × has_role r.1 1) }
     ensures nothing { IfOk result (λ r. (f : Fact) → ¬ knows r.0 f) }
-    ensures one { IfOk result (λ r. AtOneTable r.0 (board_of r.2)) }
+    ensures one { IfOk result (λ r. AtOneTable r.0 (board_of_sight r.2)) }
 {
     let (boards, mut sights) = SharedBoard::open(alloc, settings, 1)?;
     let Some(sight) = sights.pop() else {
@@ -138,7 +138,7 @@ fn seen_over(
         × ((settings_of first.old).places ≡ 2) }
     requires roles { has_role first.old 0 × has_role second.old 1 }
     requires nothing { (f : Fact) → ¬ knows first.old f }
-    requires one { AtOneTable first.old (board_of sight.old) }
+    requires one { AtOneTable first.old (board_of_sight sight.old) }
 {
     let place = Place { owner: 0, index: 1 };
     let terms = terms()?;

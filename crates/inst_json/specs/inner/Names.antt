@@ -12,5 +12,5 @@ names =
     ∷ codes "place" ∷ []
 
 -- the place of a name, or 15
-abbrev pub place_of : List ℕ → ℕ
-place_of name = position_or_len (bytes_eq name) names
+abbrev pub name_index : List ℕ → ℕ
+name_index name = position_or_len (bytes_eq name) names

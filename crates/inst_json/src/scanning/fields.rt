@@ -1,6 +1,6 @@
 //! What a line has under the names that lines know.
 ghost use Rattle.std.specs.Prelude.{◌≡◌, set};
-ghost use Rattle.inst_json.specs.inner.Names.{place_of};
+ghost use Rattle.inst_json.specs.inner.Names.{name_index};
 ghost use Rattle.inst_json.specs.LineFields.{fields_in_order, no_fields};
 
 /// What a line has under one name.
@@ -64,7 +64,7 @@ impl<'a> Fields<'a> {
     #[inline(always)]
     pub(crate) fn put(&mut self, name: &str, field: Field<'a>)
         ensures { fields_in_order self.new
-            ≡ set (fields_in_order self.old) (place_of name.now) field.entry }
+            ≡ set (fields_in_order self.old) (name_index name.now) field.entry }
     {
         match name {
             "cmd" => self.cmd = field,

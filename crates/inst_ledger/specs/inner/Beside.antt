@@ -14,7 +14,7 @@ use Rattle.inst_command.specs.declared.line.LineKind.TheVariants.{Funded as Fund
 use Rattle.inst_command.specs.declared.line.LineKind.TheVariants.{Defunded as DefundedKind}
 use Rattle.inst_command.specs.declared.outcome.Outcome.TheVariants.{Accepted, Rejected, TimedOut}
 use Rattle.inst_statement.specs.declared.movement.Movement.{Movement}
-use Rattle.inst_statement.specs.KeptStatement.{Stated, MayAdd, Adds}
+use Rattle.inst_statement.specs.KeptStatement.{Stated, MayAdd, AddsLine}
 
 -- the event of a fund or defund command, what it moves, and the totals with it
 abbrev pub funding_event : Bool → Funding → Event
@@ -60,4 +60,4 @@ MayAddIf stated (Some movement) = MayAdd stated movement
 
 abbrev pub AddsIf : Stated → ℕ → Option Movement → Stated → Type 0
 AddsIf before event None after = (after.lines ≡ before.lines) × (after.begun ≡ before.begun)
-AddsIf before event (Some movement) after = Adds before event movement after
+AddsIf before event (Some movement) after = AddsLine before event movement after

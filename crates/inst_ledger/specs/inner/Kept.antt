@@ -14,9 +14,9 @@ is_sending x (Some sending) =
 is_sending x None = false
 
 -- the amount of what was sent, where there is any
-abbrev pub cents_of : Option Sending → ℕ
-cents_of (Some sending) = sending.cents
-cents_of None = 0
+abbrev pub cents_sent : Option Sending → ℕ
+cents_sent (Some sending) = sending.cents
+cents_sent None = 0
 
 -- the amount of what is forwarded, where there is any
 abbrev pub credit_of : Option Forwarding → ℕ

@@ -4,7 +4,7 @@ ghost use Rattle.inst_base.specs.Fault.{IsUnlessMemory};
 ghost use Rattle.inst_command.specs.Ask.{command_fits, is_count};
 ghost use Rattle.inst_journal.specs.Reply.{is_new_funding, fund, defund, submit, answer_forwarded};
 ghost use Rattle.inst_journal.specs.Reply.{confirm, reject, investigate, unread, hand_out};
-ghost use Rattle.inst_journal.specs.Reply.{answered, copies};
+ghost use Rattle.inst_journal.specs.Reply.{reply_without_event, copies};
 ghost use Rattle.inst_journal.specs.Statement.{statement_part};
 ghost use Rattle.inst_journal.specs.Sound.{Fits};
 ghost use Rattle.inst_ledger.specs.Book.{answer_to, submission_result, submission_event, MayKeep};
@@ -288,7 +288,7 @@ impl Ledger {
     /// Answers a question for statement lines, or `Memory`.
     fn answer_statement(&self, alloc: Global, skip: u64, count: u32) -> Result<Handled, Fault>
         ensures { IsUnlessMemory result
-            (answered (Reply.Statement (statement_part self.now.book.events skip count))) }
+            (reply_without_event (Reply.Statement (statement_part self.now.book.events skip count))) }
     {
         let lines = self.statement(alloc, skip, count)?;
         Ok(Handled {

@@ -3,7 +3,7 @@ ghost use Rattle.std.specs.Prelude.{◌≡◌, ◌<◌, false, OnOk, OnErr, IsOk
 ghost use Rattle.inst_journal.specs.Sound.{Fits};
 ghost use Rattle.inst_ledger.specs.inner.Beside.{funding_event, funding_movement, movement_booked};
 ghost use Rattle.inst_ledger.specs.inner.Beside.{MayAddIf, AddsIf};
-ghost use Rattle.inst_ledger.specs.Book.{with_event, brings_key};
+ghost use Rattle.inst_ledger.specs.Book.{ledger_with_event, brings_key};
 ghost use Rattle.inst_transfers.specs.Held.{IsFound};
 
 use super::Ledger;
@@ -22,7 +22,7 @@ impl Ledger {
         requires { Fits self.old.book.settings self.old.book.who self.old.book.events
             (funding_event is_defunding funding) }
         ensures ok { OnOk result (self.new.book ≡
-            with_event self.old.book (funding_event is_defunding funding)) }
+            ledger_with_event self.old.book (funding_event is_defunding funding)) }
         ensures err { OnErr result (self.new.book ≡ self.old.book) }
     {
         let Funding { reference, cents } = funding;
@@ -58,7 +58,7 @@ impl Ledger {
         requires fits { Fits self.old.book.settings self.old.book.who self.old.book.events
             (Event.Taken id sending.to sending.cents sending.stamp) }
         ensures { self.new.book ≡
-            with_event self.old.book (Event.Taken id sending.to sending.cents sending.stamp) }
+            ledger_with_event self.old.book (Event.Taken id sending.to sending.cents sending.stamp) }
     {
         let Sending { to, cents, stamp } = sending;
         let taken = Event::Taken {
@@ -79,7 +79,7 @@ impl Ledger {
         requires { Fits self.old.book.settings self.old.book.who self.old.book.events
             (Event.Forwarded entry.from entry.id entry.cents entry.deadline) }
         ensures ok { OnOk result (self.new.book ≡
-            with_event self.old.book
+            ledger_with_event self.old.book
             (Event.Forwarded entry.from entry.id entry.cents entry.deadline)) }
         ensures err { OnErr result (self.new.book ≡ self.old.book) }
     {
@@ -112,7 +112,7 @@ impl Ledger {
         requires { Fits self.old.book.settings self.old.book.who self.old.book.events
             (Event.Booked from id outcome.now) }
         ensures ok { OnOk result (self.new.book
-            ≡ with_event self.old.book (Event.Booked from id outcome.now)) }
+            ≡ ledger_with_event self.old.book (Event.Booked from id outcome.now)) }
         ensures err { OnErr result (self.new.book ≡ self.old.book) }
         ensures room { 0 < self.old.room → IsOk result }
     {
@@ -128,7 +128,7 @@ impl Ledger {
         requires fits { Fits self.old.book.settings self.old.book.who self.old.book.events
             (Event.Booked found.now.from found.now.id outcome.now) }
         ensures ok { OnOk result (self.new.book ≡
-            with_event self.old.book (Event.Booked found.now.from found.now.id outcome.now)) }
+            ledger_with_event self.old.book (Event.Booked found.now.from found.now.id outcome.now)) }
         ensures err { OnErr result (self.new.book ≡ self.old.book) }
         ensures room { 0 < self.old.room → IsOk result }
     {
@@ -161,7 +161,7 @@ impl Ledger {
     fn keep_fetched(&mut self, count: u32) -> Result<(), AllocError>
         requires { Fits self.old.book.settings self.old.book.who self.old.book.events
             (Event.Fetched count) }
-        ensures ok { OnOk result (self.new.book ≡ with_event self.old.book (Event.Fetched count)) }
+        ensures ok { OnOk result (self.new.book ≡ ledger_with_event self.old.book (Event.Fetched count)) }
         ensures err { OnErr result (self.new.book ≡ self.old.book) }
         ensures room { 0 < self.old.room → IsOk result }
     {
@@ -174,7 +174,7 @@ impl Ledger {
     /// Begins anew after an opening: what is booked lives no more, and the fundings are given back.
     fn keep_opened(&mut self) -> Result<(), AllocError>
         requires { Fits self.old.book.settings self.old.book.who self.old.book.events Event.Opened }
-        ensures ok { OnOk result (self.new.book ≡ with_event self.old.book Event.Opened) }
+        ensures ok { OnOk result (self.new.book ≡ ledger_with_event self.old.book Event.Opened) }
         ensures err { OnErr result (self.new.book ≡ self.old.book) }
         ensures room { 0 < self.old.room → IsOk result }
     {
@@ -190,7 +190,7 @@ impl Ledger {
     /// for all of it first.
     pub fn keep(&mut self, event: Event) -> Result<(), AllocError>
         requires { Fits self.old.book.settings self.old.book.who self.old.book.events event }
-        ensures ok { OnOk result (self.new.book ≡ with_event self.old.book event) }
+        ensures ok { OnOk result (self.new.book ≡ ledger_with_event self.old.book event) }
         ensures err { OnErr result (self.new.book ≡ self.old.book) }
         ensures room { 0 < self.old.room → brings_key event ≡ false → IsOk result }
     {

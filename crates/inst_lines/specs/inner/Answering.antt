@@ -8,7 +8,7 @@ use Rattle.inst_json.specs.Replies.{answer_can_be_written}
 use Rattle.inst_lines.specs.declared.mode.Mode.{Mode}
 use Rattle.inst_agenda.specs.declared.runner.Runner.{Runner}
 use Rattle.inst_lines.specs.Answers.{is_too_long, IsFront}
-use Rattle.inst_lines.specs.Answering.{HubPast, Keeps, line_answer, after_line}
+use Rattle.inst_lines.specs.Answering.{HubPast, IsRunnerAt, line_answer, after_line}
 use Rattle.inst_world.specs.HasRun.{world_settings}
 
 -- what a line of any length is answered
@@ -23,17 +23,17 @@ after_any_line mode past line = if is_too_long line then past else after_line mo
 -- a line is answered, of which this part is held and any front of it was let go
 pub record RepliesToLine (mode : Mode) (is_long : Bool) (part : List ℕ) (old new : Runner)
     (answer : Answer) : Type 0 where
-  pub told : (past : HubPast) → Keeps mode past old → (front : List ℕ) → IsFront is_long front →
+  pub told : (past : HubPast) → IsRunnerAt mode past old → (front : List ℕ) → IsFront is_long front →
       answer ≡ any_line_answer mode past (front ++ part)
-  pub after : (past : HubPast) → Keeps mode past old → (front : List ℕ) → IsFront is_long front →
-      Keeps mode (after_any_line mode past (front ++ part)) new
+  pub after : (past : HubPast) → IsRunnerAt mode past old → (front : List ℕ) → IsFront is_long front →
+      IsRunnerAt mode (after_any_line mode past (front ++ part)) new
   pub same_settings : world_settings new.world ≡ world_settings old.world
   pub can_be_written : answer_can_be_written (world_settings old.world) answer ≡ true
 
 -- a line that was read is answered so and leaves this, whatever the runner has gone through
 pub record RepliesToRead (mode : Mode) (old new : Runner) (answer : Answer) (answered : HubPast →
     Answer) (left : HubPast → HubPast) : Type 0 where
-  pub told : (past : HubPast) → Keeps mode past old → answer ≡ answered past
-  pub after : (past : HubPast) → Keeps mode past old → Keeps mode (left past) new
+  pub told : (past : HubPast) → IsRunnerAt mode past old → answer ≡ answered past
+  pub after : (past : HubPast) → IsRunnerAt mode past old → IsRunnerAt mode (left past) new
   pub same_settings : world_settings new.world ≡ world_settings old.world
   pub can_be_written : answer_can_be_written (world_settings old.world) answer ≡ true

@@ -1,7 +1,7 @@
 //! What the threads of a round start with.
 ghost use Rattle.std.specs.Prelude.{◌≡◌, ◌+◌, IfOk};
 ghost use Rattle.inst_hub.specs.Calls.{IsTellerOf, AreOf};
-ghost use Rattle.inst_hub.specs.Opening.{parts_of};
+ghost use Rattle.inst_hub.specs.Opening.{row_parts};
 ghost use Rattle.inst_loads.specs.Jobs.{AreJobsOf, parts_of_jobs, parts_of_one};
 
 use inst_base::Fault;
@@ -21,7 +21,7 @@ pub(crate) fn last(hub: &Hub, tellers: &mut Vec<Teller>) -> Result<Teller, Fault
     ensures last { IfOk result (λ teller. IsTellerOf hub.now teller) }
     ensures rest { AreOf hub.now tellers.new.items }
     ensures parts { IfOk result (λ teller.
-        parts_of tellers.new.items + parts_of_one teller ≡ parts_of tellers.old.items) }
+        row_parts tellers.new.items + parts_of_one teller ≡ row_parts tellers.old.items) }
 {
     match tellers.pop() {
         Some(teller) => Ok(teller),
@@ -33,7 +33,7 @@ pub(crate) fn last(hub: &Hub, tellers: &mut Vec<Teller>) -> Result<Teller, Fault
 pub(crate) fn jobs(alloc: Global, hub: &Hub, tellers: Vec<Teller>) -> Result<Vec<Job>, Fault>
     requires { AreOf hub.now tellers.items }
     ensures of { IfOk result (λ jobs. AreJobsOf hub.now jobs.items) }
-    ensures parts { IfOk result (λ jobs. parts_of_jobs jobs.items ≡ parts_of tellers.items) }
+    ensures parts { IfOk result (λ jobs. parts_of_jobs jobs.items ≡ row_parts tellers.items) }
 {
     let mut jobs = Vec::new(alloc);
     let mut thread = 0u8;

@@ -1,5 +1,5 @@
 //! What a hub of many threads is asked.
-ghost use Rattle.inst_hub.specs.Calls.{IsTellerOf, KnowsMore};
+ghost use Rattle.inst_hub.specs.Calls.{IsTellerOf, TellerKnowsMore};
 
 use crate::flaw::Flaw;
 use crate::told::{RaceReply, is_reply};
@@ -28,7 +28,7 @@ pub(crate) fn ask_and_compare<R: Wait>(
 ) -> Result<Option<Ticket>, Flaw>
     requires { IsTellerOf hub.now teller.old }
     ensures of { IsTellerOf hub.now teller.new }
-    ensures knows { KnowsMore teller.old teller.new }
+    ensures knows { TellerKnowsMore teller.old teller.new }
 {
     let Step::Ask(ask) = step else {
         return Err(Flaw::Refused(Fault::BadField));

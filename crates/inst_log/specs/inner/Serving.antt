@@ -5,7 +5,7 @@ use Rattle.std.specs.declared.alloc.Global.{Global}
 use Rattle.inst_log.specs.Serving.{Replies, Tells, SaysOn, batch_lines, AllBatches}
 
 -- a front of the replies to these lines was handed to the writer
-pub record TellsPart (says : Replies →
+pub record TellsFront (says : Replies →
     Type 0) (lines : List (List ℕ)) (before now : Option (List ℕ)) : Type 0 where
   pub told : List ℕ
   pub handed : Appends before now told

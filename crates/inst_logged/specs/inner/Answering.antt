@@ -4,7 +4,7 @@ use Rattle.std.specs.Prelude.{None, Some}
 use Rattle.std.specs.Io.KnownBytes.{Appends}
 use Rattle.inst_agenda.specs.declared.runner.Runner.{Runner}
 use Rattle.inst_lines.specs.declared.mode.Mode.{Mode}
-use Rattle.inst_lines.specs.Answering.{HubPast, Keeps}
+use Rattle.inst_lines.specs.Answering.{HubPast, IsRunnerAt}
 use Rattle.inst_log.specs.Layout.{recovered_lines}
 use Rattle.inst_chain.specs.Chain.{said}
 use Rattle.inst_logged.specs.Answering.{replies_at, past_after, told_count}
@@ -12,9 +12,9 @@ use Rattle.inst_logged.specs.Answering.{replies_at, past_after, told_count}
 -- the lines were answered, whatever the hub had gone through
 pub record AnswersLines (mode : Mode) (old new : Runner) (out_old out_new : List ℕ)
     (lines : List (List ℕ)) : Type 0 where
-  pub replies : (past : HubPast) → Keeps mode past old →
+  pub replies : (past : HubPast) → IsRunnerAt mode past old →
       out_new ≡ out_old ++ replies_at mode past lines
-  pub state : (past : HubPast) → Keeps mode past old → Keeps mode (past_after mode past lines) new
+  pub state : (past : HubPast) → IsRunnerAt mode past old → IsRunnerAt mode (past_after mode past lines) new
 
 -- the first lines of a batch were answered, and the others are left
 pub record AnswersFront (mode : Mode) (old new : Runner) (out_old out_new batch rest : List ℕ) :
@@ -49,7 +49,7 @@ pub record AnswersFirst (mode : Mode) (old new : Runner) (out_old out_new lines 
 -- lines were answered again, and the replies to those that haven't been told were handed out
 pub record AnswersAgain (mode : Mode) (told left : Option ℕ) (old new : Runner)
     (lines : List (List ℕ)) (before after : Option (List ℕ)) : Type 0 where
-  pub state : (past : HubPast) → Keeps mode past old → Keeps mode (past_after mode past lines) new
+  pub state : (past : HubPast) → IsRunnerAt mode past old → IsRunnerAt mode (past_after mode past lines) new
   pub left_is : left ≡ left_of told lines
-  pub handed : (past : HubPast) → Keeps mode past old →
+  pub handed : (past : HubPast) → IsRunnerAt mode past old →
       Appends before after (debt mode past told lines)

@@ -3,13 +3,13 @@
 use Rattle.std.specs.Prelude.{◌≡◌, ◌≢◌, Result, MatchResult, IsTrue}
 use Rattle.sqlite_disk.specs.Disk.{MoreFaults}
 use Rattle.sqlite_disk.specs.declared.Disk.{Ghosts}
-use Rattle.inst_logged.specs.Refused.{HasFailed}
+use Rattle.inst_logged.specs.Refused.{HasLogFailed}
 use Rattle.inst_logged.specs.declared.error.LoggedError.{LoggedError}
 use Rattle.inst_logged.specs.declared.error.LoggedError.TheVariants.{Changed}
 
 -- the log failed only where it may have, and nobody changed it
-abbrev pub Fails : Type 0 → Type 0 → Type 0 → LoggedError → Type 0
-Fails failed no_room at_rest error = (error ≢ Changed) × HasFailed failed no_room at_rest error
+abbrev pub FailsAtLog : Type 0 → Type 0 → Type 0 → LoggedError → Type 0
+FailsAtLog failed no_room at_rest error = (error ≢ Changed) × HasLogFailed failed no_room at_rest error
 
 -- the disk counts no fault where the call is done; where the disk has kept faith, each of its
 -- errors is counted
@@ -18,4 +18,4 @@ abbrev pub FailsBy : {D T : Type 0} → Ghosts D → D → D → Type 0 → Type
 FailsBy disks old new no_room at_rest result =
     MatchResult result (λ _. disks.faults new ≡ disks.faults old)
     (λ error. IsTrue (disks.is_clean new) →
-    Fails (MoreFaults (disks.faults old) (disks.faults new)) no_room at_rest error)
+    FailsAtLog (MoreFaults (disks.faults old) (disks.faults new)) no_room at_rest error)

@@ -21,7 +21,7 @@ IsVerified Two file found =
     MatchOption found (recovered_lines file ≡ []) (λ marker. SealedBy file marker)
 
 -- the file's lines go so far, its marks are right, and it has the mark that was asked for
-pub record Finds (version : Version) (wanted : Option Digest) (file : List ℕ) (found : Found) : Type
+pub record FindsInFile (version : Version) (wanted : Option Digest) (file : List ℕ) (found : Found) : Type
     0 where
   pub extent : IsExtent file found.extent
   pub verified : IsVerified version file found.marker
@@ -33,7 +33,7 @@ pub record Finds (version : Version) (wanted : Option Digest) (file : List ℕ) 
 pub record IsExamined {D : Type 0} (disks : Ghosts D) (version : Version) (wanted : Option Digest)
     (old new : D) (result : Result Found LoggedError) : Type 0 where
   pub found : IfOk result (λ found. HasKeptFaith disks new →
-      Finds version wanted (disks.seen old) found)
+      FindsInFile version wanted (disks.seen old) found)
   pub cause : IfErr result (λ error. HasKeptFaith disks new → (header : List ℕ) (told : Option ℕ) →
       IsCause version header told wanted (disks.seen old) error)
   pub failure : FailsBy disks old new ⊥ ⊥ result

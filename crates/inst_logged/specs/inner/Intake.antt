@@ -5,7 +5,7 @@ use Rattle.inst_log.specs.Layout.{recovered_lines}
 use Rattle.inst_logged.specs.Input.{shortened_line, logged_line}
 use Rattle.inst_logged.specs.inner.Input.{lines_from, rest_from, last_line}
 use Rattle.inst_logged.specs.declared.intake.Intake.{Intake}
-use Rattle.inst_logged.specs.Intake.{held}
+use Rattle.inst_logged.specs.Intake.{line_part}
 
 -- further bytes were read, the lines that end there went into a batch, and the part of a line
 -- behind them is held
@@ -14,15 +14,15 @@ pub record TakesIn (old new : Intake) (before after : List ℕ) (left left' : Op
   pub read : List ℕ
   pub some : 0 < length read
   pub consumes : Consumes left left' read
-  pub lines_are : (part : List ℕ) → held old ≡ shortened_line part →
+  pub lines_are : (part : List ℕ) → line_part old ≡ shortened_line part →
       recovered_lines after ≡ recovered_lines before ++ map logged_line (lines_from part read)
-  pub held_is : (part : List ℕ) → held old ≡ shortened_line part →
-      held new ≡ shortened_line (rest_from part read)
+  pub held_is : (part : List ℕ) → line_part old ≡ shortened_line part →
+      line_part new ≡ shortened_line (rest_from part read)
 
 -- the input is at its end, and what was held of a line went into the batch
 pub record TakesLast (old : Intake) (before after : List ℕ) (left left' : Option (List ℕ)) : Type 0
   where
     pub consumes : Consumes left left' []
     pub at_end : IsAtEnd left'
-    pub lines_are : (part : List ℕ) → held old ≡ shortened_line part →
+    pub lines_are : (part : List ℕ) → line_part old ≡ shortened_line part →
         recovered_lines after ≡ recovered_lines before ++ map logged_line (last_line part)

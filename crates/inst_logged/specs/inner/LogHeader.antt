@@ -14,17 +14,17 @@ abbrev pub number_in : List ℕ → Data → Option ℕ
 number_in name d = option_and_then as_u64 (option_and_then as_number (get name d))
 
 -- the text under a name
-abbrev pub text_in : List ℕ → Data → Option (List ℕ)
-text_in name d = option_and_then as_str (get name d)
+abbrev pub header_text : List ℕ → Data → Option (List ℕ)
+header_text name d = option_and_then as_str (get name d)
 
 -- the list under a name
 abbrev pub list_in : List ℕ → Data → Option Items
 list_in name d = option_and_then as_array (get name d)
 
 -- the version as a number
-abbrev pub number_of : Version → ℕ
-number_of One = 1
-number_of Two = 2
+abbrev pub version_number : Version → ℕ
+version_number One = 1
+version_number Two = 2
 
 -- the members of the settings have these values
 pub record SaysSettings (s : HubSettings) (d : Data) : Type 0 where
@@ -38,9 +38,9 @@ pub record SaysSettings (s : HubSettings) (d : Data) : Type 0 where
   pub base : number_in (codes "base") d ≡ Some s.base
 
 -- all members have these values
-pub record Says (version : Version) (mode : Mode) (s : HubSettings) (books : Option ℕ) (d : Data) :
+pub record HeaderSays (version : Version) (mode : Mode) (s : HubSettings) (books : Option ℕ) (d : Data) :
     Type 0 where
-  pub version_is : number_in (codes "version") d ≡ Some (number_of version)
-  pub mode_is : text_in (codes "log") d ≡ Some (mode_word mode)
+  pub version_is : number_in (codes "version") d ≡ Some (version_number version)
+  pub mode_is : header_text (codes "log") d ≡ Some (mode_word mode)
   pub books_are : number_in (codes "books") d ≡ books
   pub settings : SaysSettings s d

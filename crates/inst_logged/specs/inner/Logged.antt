@@ -10,7 +10,7 @@ use Rattle.inst_chain.specs.Chain.{said}
 use Rattle.inst_logged.specs.Answering.{SaysLines}
 use Rattle.inst_logged.specs.Input.{shortened_line, logged_line}
 use Rattle.inst_logged.specs.inner.Input.{lines_from, rest_from, last_line}
-use Rattle.inst_logged.specs.Intake.{held}
+use Rattle.inst_logged.specs.Intake.{line_part}
 use Rattle.inst_logged.specs.declared.line_answers.LineAnswers.{LineAnswers}
 use Rattle.inst_logged.specs.declared.intake.Intake.{Intake}
 use Rattle.inst_logged.specs.Logged.{AreLinesOf}
@@ -23,7 +23,7 @@ pub record Turned (part : List ℕ) (intake : Intake) (lines : List (List ℕ))
   pub some : 0 < length read
   pub consumes : Consumes left left' read
   pub lines_are : lines ≡ map logged_line (lines_from part read)
-  pub held_is : held intake ≡ shortened_line (rest_from part read)
+  pub held_is : line_part intake ≡ shortened_line (rest_from part read)
 
 -- the input is at its end, and the part of a line is the last line, if it isn't empty
 pub record Ended (part : List ℕ) (lines : List (List ℕ)) (left left' : Option (List ℕ)) : Type 0
@@ -75,7 +75,7 @@ pub record HasCome {D : Type 0} (seen : D → List ℕ) (may_leave : D → List 
     (left left' before after : Option (List ℕ)) : Type 0 where
   pub bytes : List ℕ
   pub consumes : Consumes left left' bytes
-  pub held_is : held intake ≡ shortened_line (rest_from [] bytes)
+  pub held_is : line_part intake ≡ shortened_line (rest_from [] bytes)
   pub served : ServedOn seen may_leave clean (λ lines.
       lines ≡ map logged_line (lines_from [] bytes)) old new before after
 

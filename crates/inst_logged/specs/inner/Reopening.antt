@@ -3,7 +3,7 @@ use Rattle.std.specs.Prelude.{◌≡◌, ◌++◌, ℕ, List, length, Option}
 use Rattle.sqlite_disk.specs.declared.Disk.{Ghosts}
 use Rattle.inst_log.specs.Layout.{recovered_lines}
 use Rattle.inst_log.specs.Log.{IsSettled}
-use Rattle.inst_log.specs.Opening.{kept}
+use Rattle.inst_log.specs.Opening.{lines_after_settings}
 use Rattle.inst_chain.specs.declared.digest.Digest.{Digest}
 use Rattle.inst_logged.specs.Marking.{IsIntactBy}
 use Rattle.inst_logged.specs.Running.{disk_of, file_of, Takes}
@@ -19,10 +19,10 @@ pub record Reopens {D : Type 0} (disks : Ghosts D) (told : Option ℕ) (wanted :
   pub taken : Takes disks old told wanted
   pub settled : IsSettled disks.seen disks.may_leave new.recorder.log
   pub lines : recovered_lines (file_of disks new)
-      ≡ recovered_lines old.header.items ++ kept old.header.items (file_of disks old)
+      ≡ recovered_lines old.header.items ++ lines_after_settings old.header.items (file_of disks old)
   pub intact : IsIntactBy old.version (file_of disks new) new.marker
   pub replayed : IsReplayed old.recorder.answers.mode told old.recorder.answers.runner
       new.recorder.answers.runner
-      (kept old.header.items (file_of disks old)) held held'
+      (lines_after_settings old.header.items (file_of disks old)) held held'
   pub calm : disks.faults (disk_of new) ≡ disks.faults (disk_of old)
   pub size : new.size ≡ length (file_of disks new)

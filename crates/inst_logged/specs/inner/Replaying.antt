@@ -4,10 +4,10 @@ use Rattle.std.specs.Prelude.{OnErr, OnOk}
 use Rattle.sqlite_disk.specs.declared.Disk.{Ghosts}
 use Rattle.inst_agenda.specs.declared.runner.Runner.{Runner}
 use Rattle.inst_lines.specs.declared.mode.Mode.{Mode}
-use Rattle.inst_lines.specs.Answering.{HubPast, Keeps}
-use Rattle.inst_log.specs.Opening.{kept}
+use Rattle.inst_lines.specs.Answering.{HubPast, IsRunnerAt}
+use Rattle.inst_log.specs.Opening.{lines_after_settings}
 use Rattle.inst_log.specs.Serving.{Tells, SaysOn}
-use Rattle.inst_log.specs.inner.Serving.{TellsPart}
+use Rattle.inst_log.specs.inner.Serving.{TellsFront}
 use Rattle.inst_log.specs.declared.error.LogError.TheVariants.{Told}
 use Rattle.inst_log.specs.declared.recorder.Recorder.{Recorder}
 use Rattle.inst_chain.specs.Chain.{kept_said, said}
@@ -24,12 +24,12 @@ use Rattle.inst_logged.specs.declared.line_answers.LineAnswers.{LineAnswers}
 pub record IsReplayed (mode : Mode) (told : Option ℕ) (old new : Runner) (lines : List (List ℕ))
     (before after : Option (List ℕ)) : Type 0 where
   pub enough : told_count told (said lines) ≤ length (said lines)
-  pub state : (past : HubPast) → Keeps mode past old → Keeps mode (past_after mode past lines) new
-  pub tells : (past : HubPast) → Keeps mode past old →
+  pub state : (past : HubPast) → IsRunnerAt mode past old → IsRunnerAt mode (past_after mode past lines) new
+  pub tells : (past : HubPast) → IsRunnerAt mode past old →
       Tells (AreReplies (unsent_replies_at mode past (said lines) (told_count told (said lines))))
       [] before after
   -- what is answered next is what is owed behind these
-  pub on : (past : HubPast) → Keeps mode past old →
+  pub on : (past : HubPast) → IsRunnerAt mode past old →
       SaysOn (AreReplies (unsent_replies_at mode past (said lines) (told_count told (said lines))))
       [] (SaysLines mode new)
 
@@ -49,10 +49,10 @@ pub record Replays {D A : Type 0} (disks : Ghosts D) (header : List ℕ) (told :
     (result : Result A LoggedError) : Type 0 where
   pub replayed : OnOk result (HasKeptFaith disks new.log.disk
       → IsReplayed old.answers.mode told old.answers.runner new.answers.runner
-      (kept header (disks.seen old.log.disk)) held held')
+      (lines_after_settings header (disks.seen old.log.disk)) held held')
   pub part : HasKeptFaith disks new.log.disk → (past : HubPast) →
-      Keeps old.answers.mode past old.answers.runner
-      → TellsPart
+      IsRunnerAt old.answers.mode past old.answers.runner
+      → TellsFront
       (AreReplies
       (unsent_replies_at old.answers.mode past (kept_said header (disks.seen old.log.disk))
       (told_count told (kept_said header (disks.seen old.log.disk))))) [] held held'

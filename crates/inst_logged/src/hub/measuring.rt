@@ -5,7 +5,7 @@ ghost use Rattle.sqlite_disk.specs.Disk.{Only};
 ghost use Rattle.inst_log.specs.Layout.{recovered_lines, blocks, IsBatch, AreWholeLines, IsShut};
 ghost use Rattle.inst_log.specs.Layout.{EndsWell};
 ghost use Rattle.inst_log.specs.Log.{IsSettled, IsBeforeOrAfter};
-ghost use Rattle.inst_log.specs.Opening.{kept, OpensAlike, IsSameOrBegun};
+ghost use Rattle.inst_log.specs.Opening.{lines_after_settings, OpensAlike, IsSameOrBegun};
 ghost use Rattle.inst_log.specs.Pieces.{IsExtent, Starts};
 ghost use Rattle.inst_log.specs.Serving.{Tells, TellsKept, SaysOn};
 ghost use Rattle.inst_logged.specs.Answering.{SaysLines};
@@ -39,7 +39,7 @@ pub(crate) fn open_measured<D: Disk>(
     ensures settled { OnOk result (IsTrue (D.Disk.is_clean log.new.disk) →
         IsSettled D.Disk.seen D.Disk.may_leave log.new
         × (recovered_lines (D.Disk.seen log.new.disk)
-        ≡ recovered_lines header.now ++ kept header.now (D.Disk.seen log.old.disk))) }
+        ≡ recovered_lines header.now ++ lines_after_settings header.now (D.Disk.seen log.old.disk))) }
     ensures any_moment { IsTrue (D.Disk.is_clean log.new.disk) → (c : List ℕ) →
         D.Disk.may_leave log.new.disk c
         → OpensAlike header.now (D.Disk.seen log.old.disk) c }

@@ -1,7 +1,7 @@
 //! A hub before it has the disk of its log.
 ghost use Rattle.std.specs.Prelude.{◌≡◌, IfOk};
 ghost use Rattle.inst_settings.specs.Lawful.{IsSettings};
-ghost use Rattle.inst_lines.specs.Answering.{opened};
+ghost use Rattle.inst_lines.specs.Answering.{new_past};
 ghost use Rattle.inst_world.specs.NextOpening.{CanOpenFrom};
 ghost use Rattle.inst_logged.specs.Header.{header, header_from, CanBeginFrom};
 ghost use Rattle.inst_logged.specs.Answering.{opened_from};
@@ -38,7 +38,7 @@ impl NewHub {
         settings: &Settings,
     ) -> Result<NewHub, AllocError>
         ensures { IfOk result
-            (IsNewHub version mode (opened settings.now) (header version mode settings.now)) }
+            (IsNewHub version mode (new_past settings.now) (header version mode settings.now)) }
     {
         let intake = Intake::new(alloc)?;
         let heading = first_batch(alloc, version, mode, settings)?;

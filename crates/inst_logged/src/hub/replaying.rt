@@ -6,13 +6,13 @@ ghost use Rattle.inst_log.specs.Layout.{recovered_lines, IsBatch};
 ghost use Rattle.inst_log.specs.Opening.{Begins};
 ghost use Rattle.inst_log.specs.Pieces.{Starts};
 ghost use Rattle.inst_chain.specs.Chain.{said};
-ghost use Rattle.inst_lines.specs.Answering.{HubPast, Keeps};
+ghost use Rattle.inst_lines.specs.Answering.{HubPast, IsRunnerAt};
 ghost use Rattle.inst_logged.specs.Answering.{told_count};
 ghost use Rattle.inst_logged.specs.Refused.{IsRefused};
 ghost use Rattle.inst_logged.specs.declared.error.LoggedError.TheVariants.{Log};
 ghost use Rattle.inst_log.specs.declared.error.LogError.TheVariants.{Told};
 ghost use Rattle.inst_logged.specs.inner.Answering.{AnswersAgain, debt};
-ghost use Rattle.inst_logged.specs.inner.Failing.{Fails};
+ghost use Rattle.inst_logged.specs.inner.Failing.{FailsAtLog};
 ghost use Rattle.inst_logged.specs.inner.Replaying.{IsOnlyAnswering, Replays};
 
 use crate::{LineAnswers, LoggedError};
@@ -112,14 +112,14 @@ fn answer_again<W: Write>(
         AnswersAgain answers.old.mode told left answers.old.runner answers.new.runner
         (recovered_lines lines.now) (W.contents writer.old) (W.contents writer.new)) }
     ensures untouched { IfOk result (λ left. (left ≡ Some 0 → ⊥) → writer.new ≡ writer.old) }
-    ensures part { (past : HubPast) → Keeps answers.old.mode past answers.old.runner
+    ensures part { (past : HubPast) → IsRunnerAt answers.old.mode past answers.old.runner
         → WritesPart (W.contents writer.old) (W.contents writer.new)
         (debt answers.old.mode past told (recovered_lines lines.now)) }
     ensures begun { OnErr result ((writer.new ≡ writer.old)
         ⊎ (told_count told (said (recovered_lines lines.now))
         ≤ length (said (recovered_lines lines.now)))) }
     ensures unrefused { IfErr result (λ error. ¬ IsRefused error) }
-    ensures failure { IfErr result (Fails ⊥ ⊥ ⊤) }
+    ensures failure { IfErr result (FailsAtLog ⊥ ⊥ ⊤) }
     ensures mode { answers.new.mode ≡ answers.old.mode }
 {
     out.clear();

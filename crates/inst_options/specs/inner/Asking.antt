@@ -5,7 +5,7 @@ use Rattle.clap.specs.declared.error.kind.ErrorKind.{ErrorKind}
 use Rattle.clap.specs.declared.error.kind.ErrorKind.TheVariants.{OutOfMemory}
 use Rattle.inst_base.specs.declared.fault.Fault.{Fault}
 use Rattle.inst_base.specs.declared.fault.Fault.TheVariants.{BadSettings, Memory}
-use Rattle.inst_options.specs.Asking.{IsRefusal}
+use Rattle.inst_options.specs.Asking.{IsBeginRefusal}
 use Rattle.inst_options.specs.BadOptions.{IsBadOption}
 use Rattle.inst_options.specs.Options.{AreOfNoLog}
 use Rattle.inst_options.specs.inner.Options.{AskForNone, IsWish}
@@ -35,4 +35,4 @@ abbrev pub IsUnasked : Option (Text × List Row) → WordsError → Type 0
 IsUnasked None e = e ≡ error.Fault BadSettings
 IsUnasked (Some (name, rows)) e =
     (fault : Fault) × IsRefusedBy rows fault e
-    × IsRefusal (AskForNone name rows ⊎ AreOfNoLog rows) fault
+    × IsBeginRefusal (AskForNone name rows ⊎ AreOfNoLog rows) fault

@@ -21,8 +21,8 @@ IsBookedAt knows b x k y =
 
 -- where a transfer for the participant was opened at the place, as b knows, it has come, or has
 -- ended
-abbrev pub HasCome : {B : Type 0} → (B → Fact → Type 0) → B → Place → Book → Type 0
-HasCome knows b k y =
+abbrev pub HasArrived : {B : Type 0} → (B → Fact → Type 0) → B → Place → Book → Type 0
+HasArrived knows b k y =
     (t : Terms) → t.to ≡ y.who → knows b (about k Opened) → knows b (about k (HasTerms t)) →
     (is_forwarded k.owner t.id y.events ≡ true) ⊎ ((o : Outcome) × knows b (about k (Decided o)))
 
@@ -41,4 +41,4 @@ ArrivedAreBooked knows b y =
 
 -- the originator's transfers for the participant have come
 abbrev pub HaveCome : {B : Type 0} → (B → Fact → Type 0) → B → ℕ → Book → Type 0
-HaveCome knows b owner y = (index : ℕ) → HasCome knows b (place_at owner index) y
+HaveCome knows b owner y = (index : ℕ) → HasArrived knows b (place_at owner index) y

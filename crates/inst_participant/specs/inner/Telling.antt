@@ -4,7 +4,7 @@ use Rattle.inst_board.specs.declared.about.Fact.{Fact}
 use Rattle.inst_command.specs.declared.place.Place.{Place}
 use Rattle.inst_cell.specs.declared.sight.Sight.{Sight}
 use Rattle.inst_cell.specs.Held.{knows}
-use Rattle.inst_cell.specs.Seen.{sees}
+use Rattle.inst_cell.specs.Seen.{sight_knows}
 use Rattle.inst_command.specs.declared.reply.Reply.{Reply}
 use Rattle.inst_command.specs.declared.reply.Reply.TheVariants.{Taken, State}
 use Rattle.inst_slot.specs.Book.{place_of}
@@ -13,7 +13,7 @@ use Rattle.inst_participant.specs.declared.participant.Participant.{Participant}
 -- the teller was told of this transfer of the participant's, where it has a place
 abbrev pub IsToldOf : Participant → ℕ → List ℕ → Sight → Option Place → Type 0
 IsToldOf x from id u ticket = (ticket ≡ place_of x.slot from id)
-    × ((k : Place) → ticket ≡ Some k → (f : Fact) → knows x.board f → sees u f)
+    × ((k : Place) → ticket ≡ Some k → (f : Fact) → knows x.board f → sight_knows u f)
 
 -- the teller was told of the transfer that the reply to the participant `who` tells of, if any
 abbrev pub IsToldBy : Participant → ℕ → Reply → Sight → Option Place → Type 0

@@ -7,7 +7,7 @@ use Rattle.inst_cell.specs.Held.{settings_of, knows, has_role, Stays, AtOneTable
 use Rattle.inst_model.specs.Opening.{Opening}
 use Rattle.inst_slot.specs.Book.{Book}
 use Rattle.inst_slot.specs.LawfulBoard.{IsLawfulBoard}
-use Rattle.inst_participant.specs.Together.{IsMember}
+use Rattle.inst_participant.specs.Together.{IsMemberBook}
 
 -- the board has the roles of the participants whose boards these were, and is lawful for their
 -- books
@@ -16,7 +16,7 @@ pub record AreJoined (words : SharedBoard) (O : Opening) (s : HubSettings) (slot
   pub one : AtOneTable words whole
   pub role : (p : ℕ) → p < length done → has_role whole p
   pub member : (p : ℕ) (x : Book) → p < length done → slice_get slots p ≡ Some x →
-      IsMember settings_of knows has_role whole s O p x
+      IsMemberBook settings_of knows has_role whole s O p x
 
 -- the same board later, which knows more, and is lawful for what it was lawful for
 pub record IsToldMore (a b : SharedBoard) : Type 0 where

@@ -4,7 +4,7 @@ ghost use Rattle.inst_command.specs.Ask.{ask_fits};
 ghost use Rattle.inst_journal.specs.Sound.{IsSound};
 ghost use Rattle.inst_board.specs.Learning.{KnowTheSame};
 ghost use Rattle.inst_cell.specs.Held.{AtOneTable, knows};
-ghost use Rattle.inst_cell.specs.Seen.{board_of, sees};
+ghost use Rattle.inst_cell.specs.Seen.{board_of_sight, sight_knows};
 ghost use Rattle.inst_participant.specs.LockLaw.{IsReady, IsLater, HistoryGrows};
 ghost use Rattle.inst_participant.specs.Telling.{SeesMore};
 ghost use Rattle.inst_participant.specs.inner.Telling.{IsToldOf, IsToldBy};
@@ -28,7 +28,7 @@ impl Participant {
         requires ready { IsReady self.old }
         requires own { ask.now.who ≡ self.old.slot.who }
         requires fits { ask_fits self.old.slot.settings ask.now ≡ true }
-        requires one { AtOneTable self.old.board (board_of teller.old) }
+        requires one { AtOneTable self.old.board (board_of_sight teller.old) }
         ensures ready { IsReady self.new }
         ensures later { IsLater self.old self.new }
         ensures grows { HistoryGrows self.old self.new }
@@ -39,7 +39,7 @@ impl Participant {
             Answered self.old.slot.settings self.old.slot.who self.old.slot.events ask.now answer.0
             self.new.slot.events) }
         ensures ticket { IfOk result (λ answer.
-            IsTicket (sees teller.new) self.old.slot.settings self.old.slot.who ask.now.command
+            IsTicket (sight_knows teller.new) self.old.slot.settings self.old.slot.who ask.now.command
             self.new.slot.events answer.0 answer.1) }
         ensures left { OnErr result (Serves self.old ask.now (Err alloc_error) self.new) }
         ensures err { OnErr result (self.new.slot ≡ self.old.slot) }
@@ -75,7 +75,7 @@ impl Participant {
     /// Tells the teller of the transfer that the reply tells of.
     fn ticket(&mut self, teller: &mut Sight, who: u8, reply: &Reply) -> Option<Ticket>
         requires ready { IsReady self.old }
-        requires one { AtOneTable self.old.board (board_of teller.old) }
+        requires one { AtOneTable self.old.board (board_of_sight teller.old) }
         ensures ready { IsReady self.new }
         ensures later { IsLater self.old self.new }
         ensures same { self.new.slot ≡ self.old.slot }
@@ -94,7 +94,7 @@ impl Participant {
     /// ticket names its place.
     fn tell(&mut self, teller: &mut Sight, from: u8, id: &Ident) -> Option<Ticket>
         requires ready { IsReady self.old }
-        requires one { AtOneTable self.old.board (board_of teller.old) }
+        requires one { AtOneTable self.old.board (board_of_sight teller.old) }
         ensures ready { IsReady self.new }
         ensures later { IsLater self.old self.new }
         ensures same { self.new.slot ≡ self.old.slot }

@@ -3,7 +3,7 @@ ghost use Rattle.std.specs.Prelude.{◌≡◌, true, IfSome};
 ghost use Rattle.inst_settings.specs.Settings.{is_participant};
 ghost use Rattle.inst_command.specs.Ask.{command_fits};
 ghost use Rattle.inst_participant.specs.LockLaw.{IsReady, IsLater};
-ghost use Rattle.inst_participant.specs.Following.{follow_up_after, Does, Shows};
+ghost use Rattle.inst_participant.specs.Following.{follow_up_after, Does, ShowsLook};
 ghost use Rattle.inst_participant.specs.Told.{IsToldMore};
 
 use super::Participant;
@@ -54,7 +54,7 @@ impl Participant {
         ensures ready { IsReady self.new }
         ensures later { IsLater self.old self.new }
         ensures same { self.new.slot ≡ self.old.slot }
-        ensures shows { Shows self.old.board place result self.new.board }
+        ensures shows { ShowsLook self.old.board place result self.new.board }
     {
         self.board.look(place)
     }

@@ -11,7 +11,7 @@ use Rattle.inst_log.specs.Opening.{Begins}
 use Rattle.inst_chain.specs.declared.digest.Digest.{Digest}
 use Rattle.inst_logged.specs.LogHeader.{beginning_with}
 use Rattle.inst_logged.specs.Header.{AreFirstLines, header_from}
-use Rattle.inst_logged.specs.Refused.{IsTaken}
+use Rattle.inst_logged.specs.Refused.{IsLogTaken}
 use Rattle.inst_logged.specs.Running.{HasKeptFaith}
 use Rattle.inst_logged.specs.declared.log_header.LogHeader.{LogHeader}
 use Rattle.inst_logged.specs.declared.version.Version.{Version}
@@ -25,14 +25,14 @@ use Rattle.inst_program.specs.declared.exit_reason.ExitReason.{ExitReason}
 
 -- the hub of the log of this file isn't closed: another program has it open, it is none that can be
 -- closed, or has no opening left
-abbrev pub IsUnclosed : Type 0 → Type 0 → Option Digest → List ℕ → Type 0
-IsUnclosed in_use faith wanted file =
+abbrev pub IsLogUnclosed : Type 0 → Type 0 → Option Digest → List ℕ → Type 0
+IsLogUnclosed in_use faith wanted file =
     in_use ⊎ ((faith → ¬ (IsGoodToClose wanted file)) ⊎ (faith → HasNoOpeningLeft file))
 
 -- the log of this file isn't begun with these lines: another program has it open, or it is another
 -- one
-abbrev pub IsUnbegun : Type 0 → Type 0 → List ℕ → List ℕ → Type 0
-IsUnbegun in_use faith first file = in_use ⊎ (faith → ¬ (IsTaken Two first None None file))
+abbrev pub IsLogUnbegun : Type 0 → Type 0 → List ℕ → List ℕ → Type 0
+IsLogUnbegun in_use faith first file = in_use ⊎ (faith → ¬ (IsLogTaken Two first None None file))
 
 -- what a log's first line says is read, and the log isn't refused for it
 abbrev pub ReadsBeginning : List ℕ → Result (Option LogHeader) ExitReason → Type 0
@@ -44,7 +44,7 @@ ReadsBeginning file result =
 
 -- the file has a line, and if it begins as a log of a hub does, that is one of this kind and these
 -- settings
-pub record IsRead (mode : Mode) (s : HubSettings) (file : List ℕ) : Type 0 where
+pub record IsReadAsLog (mode : Mode) (s : HubSettings) (file : List ℕ) : Type 0 where
   pub there : 0 < length (recovered_lines file)
   pub settings : (version : Version) (m : Mode) (t : HubSettings) (first : List ℕ) →
       AreFirstLines version m t first → Begins first file → (m ≡ mode) × (t ≡ s)
@@ -65,4 +65,4 @@ pub record IsHubClosed {D : Type 0} (disks : Ghosts D) (wanted : Option Digest) 
   pub err : OnErr result (IsSafe ((d : D) →
       IsTrue (disks.is_mixing d)) (HasKeptFaith disks new) (change_on disks old new))
   pub refused : IfErr result (λ ending. status_of_ending ending ≡ 2 →
-      IsUnclosed ⊥ (HasKeptFaith disks new) wanted (disks.seen old))
+      IsLogUnclosed ⊥ (HasKeptFaith disks new) wanted (disks.seen old))

@@ -6,7 +6,7 @@ use Rattle.clap.specs.declared.error.kind.ErrorKind.{ErrorKind}
 use Rattle.clap.specs.declared.error.kind.ErrorKind.TheVariants.{DisplayHelp, DisplayVersion}
 use Rattle.inst_base.specs.declared.fault.Fault.TheVariants.{BadSettings, Memory, WriteFault}
 use Rattle.inst_settings.specs.Settings.{HubSettings}
-use Rattle.inst_lines.specs.Answering.{hub_answerer, opened}
+use Rattle.inst_lines.specs.Answering.{hub_answerer, new_past}
 use Rattle.inst_lines.specs.Check.{TellsPart}
 use Rattle.inst_lines.specs.Session.{FailsAfter}
 use Rattle.inst_lines.specs.declared.mode.Mode.{Mode}
@@ -80,9 +80,9 @@ pub record IsUnkept (run : KeptRun) (t : Streams) (mixes in_use faith : Type 0) 
   pub front : KeepsAFront run t mixes faith c
 
 -- the lines of the reader are answered at a hub of these settings, with this log
-abbrev pub IsAnswered : Mode → HubSettings → Option LogOptions → Streams → Files → Files → Type 0
-IsAnswered mode s None t old new = AnswersInput mode s t × Stay old new
-IsAnswered mode s (Some log) t old new =
+abbrev pub AreLinesAnswered : Mode → HubSettings → Option LogOptions → Streams → Files → Files → Type 0
+AreLinesAnswered mode s None t old new = AnswersInput mode s t × Stay old new
+AreLinesAnswered mode s (Some log) t old new =
     KeepsLines (kept_run mode s log) t (IsTrue new.is_clean) (change_of old new log.path.now)
     × OthersStay old new log.path.now
 
@@ -90,7 +90,7 @@ IsAnswered mode s (Some log) t old new =
 abbrev pub IsUnanswered : Mode → HubSettings → Option LogOptions → Streams → Files → Files →
     ExitReason → Type 0
 IsUnanswered mode s None t old new (ending.Fault fault) =
-    FailsAfter (hub_answerer mode) (opened s) t.held t.held' t.left t.left' fault × Stay old new
+    FailsAfter (hub_answerer mode) (new_past s) t.held t.held' t.left t.left' fault × Stay old new
 IsUnanswered mode s None t old new (ending.Log fault) = ⊥
 IsUnanswered mode s None t old new ending.Unexplained = ⊥
 IsUnanswered mode s None t old new ending.NoInterleaving = ⊥

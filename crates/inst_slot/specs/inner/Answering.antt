@@ -11,7 +11,7 @@ use Rattle.inst_board.specs.declared.wish.Wish.{Wish}
 use Rattle.inst_board.specs.declared.wish.Wish.TheVariants.{Accept, Reject as WishReject, Expire}
 use Rattle.inst_journal.specs.declared.handle.Handled.{Handled}
 use Rattle.inst_journal.specs.Reply.{still_pending}
-use Rattle.inst_ledger.specs.Book.{Book as Kept, BookAndRoom}
+use Rattle.inst_ledger.specs.Book.{LedgerBook as Kept, BookAndRoom}
 use Rattle.inst_transfers.specs.Held.{IsFound}
 use Rattle.inst_slot.specs.declared.arrival.Arrival.{Arrival}
 use Rattle.inst_slot.specs.declared.arrivals.Spot.{Spot}
@@ -64,6 +64,6 @@ pub record IsAsking (l : BookAndRoom) (asked : Option (Place
   pub id_is : r.found.id ≡ id
   pub expiring : is_expiry r.wish ≡ true → IsOwnAt l.book id r.place
 
-abbrev pub Gives : BookAndRoom → Option (Place × Wish) → List ℕ → Option Request → Type 0
-Gives l asked id None = asked ≡ None
-Gives l asked id (Some r) = IsAsking l asked id r
+abbrev pub GivesRequest : BookAndRoom → Option (Place × Wish) → List ℕ → Option Request → Type 0
+GivesRequest l asked id None = asked ≡ None
+GivesRequest l asked id (Some r) = IsAsking l asked id r

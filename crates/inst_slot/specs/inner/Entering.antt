@@ -5,7 +5,7 @@ use Rattle.inst_base.specs.declared.fault.Fault.{Fault}
 use Rattle.inst_base.specs.declared.fault.Fault.TheVariants.{Memory}
 use Rattle.inst_command.specs.declared.ask.Ask.{Ask}
 use Rattle.inst_command.specs.declared.reply.Reply.{Reply}
-use Rattle.inst_journal.specs.Reply.{told, kept_events}
+use Rattle.inst_journal.specs.Reply.{reply_result, kept_events}
 use Rattle.inst_slot.specs.Asking.{handle_ask, book_after, takes_memory}
 use Rattle.inst_slot.specs.Book.{Book}
 use Rattle.inst_slot.specs.inner.Waiting.{is_apart}
@@ -14,6 +14,6 @@ use Rattle.inst_slot.specs.inner.Waiting.{is_apart}
 -- or memory was refused, and nothing changed
 abbrev pub EntersAlone : Book → Ask → Result Reply Fault → Book → Type 0
 EntersAlone book ask result new =
-    ((result ≡ told (handle_ask book ask None)) × (new ≡ book_after book ask None)
+    ((result ≡ reply_result (handle_ask book ask None)) × (new ≡ book_after book ask None)
     × (list_all is_apart (kept_events (handle_ask book ask None)) ≡ true))
     ⊎ ((result ≡ Err Memory) × (new ≡ book) × (takes_memory book ask ≡ true))

@@ -11,7 +11,7 @@ use Rattle.inst_board.specs.declared.about.Fact.{Fact}
 use Rattle.inst_board.specs.Learning.{Looks}
 use Rattle.inst_journal.specs.declared.event.Event.{Event}
 use Rattle.inst_journal.specs.declared.event.Event.TheVariants.{Booked}
-use Rattle.inst_ledger.specs.Book.{Book as Kept, BookAndRoom}
+use Rattle.inst_ledger.specs.Book.{LedgerBook as Kept, BookAndRoom}
 use Rattle.inst_transfers.specs.Held.{IsFound}
 use Rattle.inst_slot.specs.declared.resolution.Resolution.{Resolution}
 use Rattle.inst_slot.specs.inner.Answering.{IsOwnAt}

@@ -6,7 +6,7 @@ ghost use Rattle.inst_slot.specs.inner.Expiries.{IsUnbooked, FindsUnbooked};
 ghost use Rattle.inst_ledger.specs.Right.{own_ids};
 ghost use Rattle.inst_slot.specs.Spots.{rows_of, AreSpots};
 ghost use Rattle.inst_slot.specs.Telling.{ExpiresFor, Expires};
-ghost use Rattle.inst_slot.specs.Waiting.{GivesNextDue, IsRight};
+ghost use Rattle.inst_slot.specs.Waiting.{GivesNextDue, IsRightSlot};
 
 use super::Slot;
 use crate::arrivals::Spot;
@@ -91,13 +91,13 @@ fn let_expire<B: Board>(
         (book_with_spots ledger.old.book arrivals.now) }
     requires unbooked { IsUnbooked ledger.old index found.now }
     requires spots { AreSpots (rows_of ledger.old.book.who ledger.old.book.events) arrivals.now }
-    requires right { IsRight ledger.old.book.settings ledger.old.book.who ledger.old.book.events
+    requires right { IsRightSlot ledger.old.book.settings ledger.old.book.who ledger.old.book.events
         (own_ids ledger.old.book.who ledger.old.book.events) waiting.old }
     ensures expires { ExpiresFor (B.settings board.old).margin B.knows B.has_role B.stood B.stays
         board.old
         (book_with_spots ledger.old.book arrivals.now) index at (Some found.now.id) result board.new
         (book_with_spots ledger.new.book arrivals.now) }
-    ensures right { IsRight ledger.new.book.settings ledger.new.book.who ledger.new.book.events
+    ensures right { IsRightSlot ledger.new.book.settings ledger.new.book.who ledger.new.book.events
         (own_ids ledger.new.book.who ledger.new.book.events) waiting.new }
     ensures spots { AreSpots (rows_of ledger.new.book.who ledger.new.book.events) arrivals.now }
     ensures stays { B.stays board.old board.new }

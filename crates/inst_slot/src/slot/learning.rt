@@ -9,7 +9,7 @@ ghost use Rattle.inst_slot.specs.LawfulBoard.{IsLawfulBoard, KeepsOthers, AllAre
 ghost use Rattle.inst_slot.specs.inner.Resolutions.{LearnsOutcome};
 ghost use Rattle.inst_slot.specs.Spots.{rows_of, AreSpots};
 ghost use Rattle.inst_slot.specs.Telling.{resolution, with_event, Keeps};
-ghost use Rattle.inst_slot.specs.Waiting.{IsRight};
+ghost use Rattle.inst_slot.specs.Waiting.{IsRightSlot};
 
 use super::Slot;
 use super::expiring::unbooked_at;
@@ -110,13 +110,13 @@ fn learn_own<B: Board>(
     requires owner { place.owner ≡ ledger.old.book.who }
     requires unbooked { IsUnbooked ledger.old place.index found.now }
     requires spots { AreSpots (rows_of ledger.old.book.who ledger.old.book.events) arrivals.now }
-    requires right { IsRight ledger.old.book.settings ledger.old.book.who ledger.old.book.events
+    requires right { IsRightSlot ledger.old.book.settings ledger.old.book.who ledger.old.book.events
         (own_ids ledger.old.book.who ledger.old.book.events) waiting.old }
     ensures learns { LearnsOutcome (B.settings board.old).margin B.knows B.has_role B.stood
         board.old
         (book_with_spots ledger.old.book arrivals.now) place result board.new
         (book_with_spots ledger.new.book arrivals.now) }
-    ensures right { IsRight ledger.new.book.settings ledger.new.book.who ledger.new.book.events
+    ensures right { IsRightSlot ledger.new.book.settings ledger.new.book.who ledger.new.book.events
         (own_ids ledger.new.book.who ledger.new.book.events) waiting.new }
     ensures spots { AreSpots (rows_of ledger.new.book.who ledger.new.book.events) arrivals.now }
     ensures stays { B.stays board.old board.new }

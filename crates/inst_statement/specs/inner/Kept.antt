@@ -10,15 +10,15 @@ use Rattle.inst_statement.specs.inner.Movement.{came, sent}
 use Rattle.inst_settings.specs.Settings.{same_text}
 
 -- whether two keys are of the same transfer
-abbrev pub same_key : ℕ × List ℕ → ℕ × List ℕ → Bool
-same_key x y = (x.0 == y.0) && same_text x.1 y.1
+abbrev pub is_same_transfer : ℕ × List ℕ → ℕ × List ℕ → Bool
+is_same_transfer x y = (x.0 == y.0) && same_text x.1 y.1
 
 -- the tables hold what these events have taken and forwarded
 pub record AreKept {S : Type 0} (front : List Event) (taken : IndexMap (List ℕ) (ℕ × ℕ) S)
     (forwarded : IndexMap (ℕ × List ℕ) ℕ S) : Type 0 where
   pub sent_terms : (id : List ℕ) → get same_text taken id ≡ first_some (sent id) front
   pub came_amount : (key : ℕ × List ℕ) →
-      get same_key forwarded key ≡ first_some (came key.0 key.1) front
+      get is_same_transfer forwarded key ≡ first_some (came key.0 key.1) front
 
 -- the event brings no transfer that is there
 abbrev pub IsNewTransfer : List Event → Event → Type 0

@@ -25,17 +25,17 @@ sent id _ = None
 
 -- the movement of an accepted transfer that came with this amount, or else was sent with these
 -- terms
-abbrev pub accepted : ℕ → Option ℕ → Option (ℕ × ℕ) → Option Movement
-accepted from (Some cents) terms =
+abbrev pub movement_of_accepted : ℕ → Option ℕ → Option (ℕ × ℕ) → Option Movement
+movement_of_accepted from (Some cents) terms =
     Some (record { kind = Received; other = Some from; cents = cents })
-accepted from None (Some terms) =
+movement_of_accepted from None (Some terms) =
     Some (record { kind = Paid; other = Some terms.0; cents = terms.1 })
-accepted from None None = None
+movement_of_accepted from None None = None
 
 -- the movement of an accepted transfer after these events
 abbrev pub accepted_movement : List Event → ℕ → List ℕ → Option Movement
 accepted_movement front from id =
-    accepted from (first_some (came from id) front) (first_some (sent id) front)
+    movement_of_accepted from (first_some (came from id) front) (first_some (sent id) front)
 
 -- the movement of an event after these events, if it has one
 abbrev pub movement_of : List Event → Event → Option Movement

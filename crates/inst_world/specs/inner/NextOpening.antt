@@ -15,7 +15,7 @@ use Rattle.inst_journal.specs.Opened.{live_taken}
 use Rattle.inst_slot.specs.declared.arrival.Arrival.{Arrival}
 use Rattle.inst_slot.specs.Book.{Book, place_at, terms_to}
 use Rattle.inst_slot.specs.LawfulBoard.{IsLawfulBoard}
-use Rattle.inst_slot.specs.Opening.{opened_again, MayOpenAgain, IsOfOpening}
+use Rattle.inst_slot.specs.Opening.{opened_again, MayOpenAgain, IsOfTakenSubmission}
 use Rattle.inst_world.specs.HasRun.{World, world_settings, journal_of}
 
 -- the books of the first n participants, opened again
@@ -27,7 +27,7 @@ books_again s J (suc n) = books_again s J n ++ opened_again s n (J n) ∷ []
 pub record IsOpenedBelow (s : HubSettings) (J : ℕ → List Event) (n : ℕ) (f : Fact) : Type 0 where
   pub owner : ℕ
   pub below : owner < n
-  pub opening : IsOfOpening s owner (live_taken owner (J owner ++ Opened ∷ [])) f
+  pub opening : IsOfTakenSubmission s owner (live_taken owner (J owner ++ Opened ∷ [])) f
 
 -- The books of the first n participants are opened again, over a board that was empty
 -- known: the board has their live transfers, pending, and nothing else

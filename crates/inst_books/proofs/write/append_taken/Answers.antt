@@ -5,7 +5,7 @@ use Rattle.serde_json.specs.Data.{string}
 use Rattle.serde_json.specs.Written.{compact_text}
 use Rattle.inst_json.specs.Replies.{whole}
 use Rattle.inst_json.proofs.TextsWithoutEscapes.{escape-code, escape-identifier}
-use Rattle.inst_books.specs.Events.{event_member, taken_data}
+use Rattle.inst_books.specs.Events.{event_member, taken_event_data}
 use Rattle.inst_books.proofs.ObjectTextByMembers.{begun, text_next, whole_next, ended}
 use Rattle.inst_books.proofs.write.append_taken.Goals as goal
 
@@ -24,5 +24,5 @@ returns-clause-text c =
     let id_put = text_next old book ((codes "cents", whole amount) ∷ event_member (codes "taken") ∷ []) (codes "id") id refl (escape-identifier id c.text-id.ensures.form) event c.in_ok-push_text_member-2.ensures in
     let stamp = whole_next old book ((codes "cents", whole amount) ∷ event_member (codes "taken") ∷ (codes "id", string id) ∷ []) (codes "stamp") ms refl id_put c.in_ok-push_whole_member-2.ensures in
     let all = text_next old book ((codes "cents", whole amount) ∷ event_member (codes "taken") ∷ (codes "id", string id) ∷ (codes "stamp", whole ms) ∷ []) (codes "to") to refl (escape-code to c.requires.to) stamp c.in_ok-push_text_member-3.ensures in
-    let same = ap₂ (λ i n. old ++ compact_text (taken_data book i to n ms)) c.text-id.ensures.value c.get.ensures.value in
+    let same = ap₂ (λ i n. old ++ compact_text (taken_event_data book i to n ms)) c.text-id.ensures.value c.get.ensures.value in
     on_ok_weaker c.push_end.result (λ h. ended old book ((codes "cents", whole amount) ∷ event_member (codes "taken") ∷ (codes "id", string id) ∷ (codes "stamp", whole ms) ∷ (codes "to", string to) ∷ []) all h ∙ same) c.push_end.ensures

@@ -1,14 +1,14 @@
 use Rattle.std.proofs.Common.{◌≡◌, ◌<◌, ◌-◌, ◌^◌, List, ℕ, IsTrue}
 use Rattle.inst_log.specs.Pieces.{IsReading}
 use Rattle.inst_chain.specs.Chain.{has_wanted}
-use Rattle.inst_chain.specs.Checking.{Stands}
+use Rattle.inst_chain.specs.Checking.{HasGoneThrough}
 use Rattle.inst_chain.proofs.verifying.verify.Given as goal
 
 abbrev pub invariant-loop-wanted : goal.invariant-loop-wanted
 invariant-loop-wanted g l =
     record {
       reading : IsTrue (g.D.Disk.is_clean l.disk) → (done : List (List ℕ)) × IsReading (g.D.Disk.seen l.fn.disk) l.lines done
-          × Stands l.checker done × (l.has_wanted ≡ has_wanted l.fn.wanted done);
+          × HasGoneThrough l.checker done × (l.has_wanted ≡ has_wanted l.fn.wanted done);
       fits : l.lines.len < 2 ^ 64;
       seen : g.D.Disk.seen l.disk ≡ g.D.Disk.seen l.fn.disk;
       crash : (c : List ℕ) → g.D.Disk.may_leave l.disk c → g.D.Disk.may_leave l.fn.disk c;

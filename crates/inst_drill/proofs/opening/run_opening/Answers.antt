@@ -3,7 +3,7 @@ use Rattle.inst_command.specs.declared.place.Place.{Place}
 use Rattle.inst_command.specs.declared.outcome.Outcome.TheVariants.{Accepted, TimedOut}
 use Rattle.inst_command.specs.declared.outcome.State.{State}
 use Rattle.inst_settings.specs.Settings.{HubSettings}
-use Rattle.inst_order.specs.Order.{Explains}
+use Rattle.inst_order.specs.Order.{ExplainsBooks}
 use Rattle.inst_participant.specs.Together.{histories}
 use Rattle.inst_drill.specs.Report.{ended}
 use Rattle.inst_drill.specs.inner.Chain.{opening_of}
@@ -20,7 +20,7 @@ returns-clause-drilled g c =
       settings = c.in-Ok.ensures.settings;
       opened = c.in-Ok.ensures.opened (opening_of c.args.before.now) c.requires.opened;
       explained =
-          subst (λ (s : HubSettings). Explains s (opening_of c.args.before.now) c.in-Some.steps.items (histories c.in-Ok.books.books)) c.in-Ok.ensures.settings
+          subst (λ (s : HubSettings). ExplainsBooks s (opening_of c.args.before.now) c.in-Some.steps.items (histories c.in-Ok.books.books)) c.in-Ok.ensures.settings
           (rw c.in-Some.is at c.in_ok-steps.ensures);
       report = record {
         disagree = (let added = c.saturating_add.ensures in omega (arith, added, first, then));

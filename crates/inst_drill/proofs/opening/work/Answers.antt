@@ -1,7 +1,7 @@
 use Rattle.std.proofs.Common.{sym, subst, ap, ◌∙◌, List}
 use Rattle.inst_hub.specs.declared.teller.Teller.{Teller}
 use Rattle.inst_hub.specs.Calls.{AreOf}
-use Rattle.inst_hub.specs.Opening.{parts_of}
+use Rattle.inst_hub.specs.Opening.{row_parts}
 use Rattle.inst_crew.specs.Seen.{AreSeenByOne}
 use Rattle.inst_drill.proofs.SeenStatesAreInBooks.{seen_later}
 use Rattle.inst_drill.proofs.StaffOfOpening.{all_tellers}
@@ -24,7 +24,7 @@ returns-clause-of g c =
 pub returns-clause-parts : goal.returns-clause-parts
 returns-clause-parts g c =
     let staff = c.sweep.ensures.staff c.in_ok-desk.desk c.in_ok-confirmed.ensures.staff in
-    ap parts_of c.in_ok-hands.ensures.tellers ∙ staff.parts
+    ap row_parts c.in_ok-hands.ensures.tellers ∙ staff.parts
 
 pub returns-clause-submitted : goal.returns-clause-submitted
 returns-clause-submitted g c =

@@ -1,6 +1,6 @@
 use Rattle.std.proofs.Common.{◌≡◌, length, rules}
 use Rattle.sqlite_disk.specs.Fuse.{inner_of}
-use Rattle.inst_log.specs.Opening.{kept}
+use Rattle.inst_log.specs.Opening.{lines_after_settings}
 use Rattle.inst_log.specs.Serving.{batch_lines}
 use Rattle.inst_log.proofs.SecondRunAfterCrash.{says_once, stands_behind}
 use Rattle.inst_log.proofs.restart.run_twice.Goals as goal
@@ -18,6 +18,6 @@ returns g c clean =
     let settings = c.args.settings.now in
     let last = g.D.Disk.seen (inner_of c.run-2.new.self.log.disk) in
     let stands = stands_behind settings seen last (batch_lines c.args.more.now) (rw same at (c.in_ok-run.ensures.acknowledged clean).1) in
-    says_once (g.A.Responder.says c.args.first) (g.A.Responder.says c.args.again) (kept settings (g.D.Disk.seen c.args.disk)) (batch_lines c.args.batches.now) (batch_lines c.args.more.now) (g.D.Disk.may_leave (inner_of c.run.new.self.log.disk)) c.new-told.result.items c.run.new.writer.items
-    c.run-2.new.writer.items settings seen (kept settings last)
+    says_once (g.A.Responder.says c.args.first) (g.A.Responder.says c.args.again) (lines_after_settings settings (g.D.Disk.seen c.args.disk)) (batch_lines c.args.batches.now) (batch_lines c.args.more.now) (g.D.Disk.may_leave (inner_of c.run.new.self.log.disk)) c.new-told.result.items c.run.new.writer.items
+    c.run-2.new.writer.items settings seen (lines_after_settings settings last)
     c.requires.same c.requires.begins c.new-told.ensures.items (rw inner at c.run.ensures.any_moment at_run) c.crash.ensures.left stands wrote

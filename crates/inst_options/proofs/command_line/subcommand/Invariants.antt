@@ -1,7 +1,7 @@
 use Rattle.std.proofs.Common.{◌≡◌, List, drop, map}
 use Rattle.clap.specs.Words.{App, app_of}
 use Rattle.inst_options.specs.CommandLine.{with_rules}
-use Rattle.inst_options.specs.inner.CommandLine.{IsLocal}
+use Rattle.inst_options.specs.inner.CommandLine.{HasOwnOptions}
 use Rattle.inst_options.specs.inner.Table.{rule_of_choice, with_groups}
 use Rattle.inst_options.specs.declared.table.OptionRow.{OptionRow}
 use Rattle.inst_options.proofs.command_line.subcommand.Given as goal
@@ -15,11 +15,11 @@ abbrev pub invariant-loop-choice : goal.invariant-loop-choice
 invariant-loop-choice l =
     (with_choices (app_of l.command) (drop l.choice-index l.choice-items)
     ≡ with_choices (app_of l.initial.command) l.choice-items)
-    × IsLocal l.command
+    × HasOwnOptions l.command
 
 -- and so do the groups
 abbrev pub invariant-loop-group : goal.invariant-loop-group
 invariant-loop-group l =
     (with_groups (app_of l.command) (drop l.group-index l.group-items)
     ≡ with_groups (app_of l.initial.command) l.group-items)
-    × IsLocal l.command
+    × HasOwnOptions l.command

@@ -1,6 +1,6 @@
 use Rattle.std.proofs.Common.{◌≡◌, ◌∙◌, inr, ℕ, List, None, Vec, ap, sym, subst}
 use Rattle.inst_logged.specs.Header.{header_from}
-use Rattle.inst_logged.specs.Refused.{IsTaken}
+use Rattle.inst_logged.specs.Refused.{IsLogTaken}
 use Rattle.inst_logged.specs.declared.version.Version.{Version}
 use Rattle.inst_logged.specs.declared.version.Version.TheVariants.{Two}
 use Rattle.inst_logged.proofs.CausesOfRefusal.{not_taken}
@@ -60,6 +60,6 @@ returns-clause-refused g c =
     (λ e f stops refusal two. inr (λ clean taken.
     let file = disks.seen hub.recorder.log.disk in
     let first : hub.header.items ≡ header_from Two c.args.mode c.args.settings.now c.args.journals.now = ap (λ (v : Vec ℕ Global). v.items) made.header ∙ new.first_is in
-    let taken' = subst (IsTaken Two (header_from Two c.args.mode c.args.settings.now c.args.journals.now) None None) (sym left.same) taken in
+    let taken' = subst (IsLogTaken Two (header_from Two c.args.mode c.args.settings.now c.args.journals.now) None None) (sym left.same) taken in
     not_taken hub.version hub.header.items None None file e (refusal two) (stops.cause (subst (λ (d : g.row.D.Denot). HasKeptFaith disks d) c.into_parts-disk.ensures.disk clean))
-    (subst (λ (v : Version). IsTaken v hub.header.items None None file) (sym (made.version ∙ new.version_is)) (subst (λ (h : List ℕ). IsTaken Two h None None file) (sym first) taken')))) c.open.ensures.err
+    (subst (λ (v : Version). IsLogTaken v hub.header.items None None file) (sym (made.version ∙ new.version_is)) (subst (λ (h : List ℕ). IsLogTaken Two h None None file) (sym first) taken')))) c.open.ensures.err

@@ -1,5 +1,5 @@
 use Rattle.std.proofs.Common.{◌∙◌, inl, inr, Ok, ap, sym, subst}
-use Rattle.inst_program.specs.inner.Carrying.{IsRead}
+use Rattle.inst_program.specs.inner.Carrying.{IsReadAsLog}
 use Rattle.std.proofs.lemmas.Result.{IfErr-weaker, IfOk-weaker, on_err_weaker}
 use Rattle.inst_program.proofs.LogOnReturnedDisk.{left_as_it_was}
 use Rattle.inst_program.proofs.CausesOfUnclosedHub.{is_read, refused_to_close, unclosed_before, unread_to_close}
@@ -8,7 +8,7 @@ use Rattle.inst_program.proofs.carrying.close_on.Goals as goal
 
 pub close_hub-requires-clause-read : goal.close_hub-requires-clause-read
 close_hub-requires-clause-read g c clean =
-    subst (IsRead c.in-Ok-Some.field-0-0.mode c.in-Ok-Some.field-0-0.settings) (sym c.beginning_of.ensures.read.left.same)
+    subst (IsReadAsLog c.in-Ok-Some.field-0-0.mode c.in-Ok-Some.field-0-0.settings) (sym c.beginning_of.ensures.read.left.same)
     (is_read (g.D.Disk.seen c.args.disk) c.beginning_of.result c.in-Ok-Some.field-0-0 (c.in-Ok-Some.ensures.there clean) (c.beginning_of.ensures.found clean)
     (c.in-Ok-Some.is ∙ ap Ok c.in-Ok-Some.field-0-is))
 

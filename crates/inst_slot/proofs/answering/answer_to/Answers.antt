@@ -5,7 +5,7 @@ use Rattle.inst_journal.specs.Booked.{booked}
 use Rattle.inst_transfers.specs.Held.{found_at}
 use Rattle.inst_transfers.specs.State.{outcome_in}
 use Rattle.inst_slot.specs.declared.answering.Request.{Request}
-use Rattle.inst_slot.specs.inner.Answering.{Gives}
+use Rattle.inst_slot.specs.inner.Answering.{GivesRequest}
 use Rattle.inst_slot.specs.Asking.{wish_for}
 use Rattle.inst_slot.specs.Book.{arrived_at}
 use Rattle.inst_slot.specs.Spots.{rows_of, arrivals_of}
@@ -20,7 +20,7 @@ returns-in_err-found c =
     let rows = rows_of l.book.who l.book.events in
     let known = booked c.args.from id l.book.events in
     let at = arrived_at c.args.from id (arrivals_of rows c.args.arrivals.now) in
-    subst (λ (r : Option Request). Gives l (wish_for c.args.wish c.args.from known at) id r) (sym c.from_residual.ensures)
+    subst (λ (r : Option Request). GivesRequest l (wish_for c.args.wish c.args.from known at) id r) (sym c.from_residual.ensures)
     (wish_none c.args.wish c.args.from known at (unknown_here l.table.entries rows c.args.arrivals.now c.in_err-found.ensures.right.rows c.requires.spots c.args.from id c.in_err-found.ensures.found))
 
 pub returns-in_err-index : goal.returns-in_err-index
@@ -31,7 +31,7 @@ returns-in_err-index c =
     let f = c.in_ok-found.found in
     let found = c.in_ok-found.ensures.found in
     let at : arrived_at c.args.from id A ≡ None = ap (λ (n : ℕ). arrived_at n id A) (sym found.0) ∙ ap (λ (i : List ℕ). arrived_at f.from i A) (sym found.1) ∙ sym c.arrived_at.ensures ∙ c.in_err-index.was in
-    subst (λ (r : Option Request). Gives l (wish_for c.args.wish c.args.from (booked c.args.from id l.book.events) (arrived_at c.args.from id A)) id r) (sym c.from_residual-in_err-index.ensures)
+    subst (λ (r : Option Request). GivesRequest l (wish_for c.args.wish c.args.from (booked c.args.from id l.book.events) (arrived_at c.args.from id A)) id r) (sym c.from_residual-in_err-index.ensures)
     (wish_none c.args.wish c.args.from (booked c.args.from id l.book.events) (arrived_at c.args.from id A) at)
 
 pub returns : goal.returns

@@ -6,7 +6,7 @@ use Rattle.inst_ledger.specs.Right.{own_ids}
 use Rattle.inst_transfers.specs.Held.{state_in, found_at}
 use Rattle.inst_board.specs.declared.wish.Wish.TheVariants.{Expire}
 use Rattle.inst_slot.specs.declared.answering.Request.{Request}
-use Rattle.inst_slot.specs.inner.Answering.{Gives}
+use Rattle.inst_slot.specs.inner.Answering.{GivesRequest}
 use Rattle.inst_slot.specs.Asking.{wish_for}
 use Rattle.inst_slot.specs.Book.{place_at}
 use Rattle.inst_slot.proofs.Requests.{unknown_question, known_question, own_position_is, wish_none}
@@ -17,7 +17,7 @@ returns-in_err-found c =
     let kept = c.args.ledger.now.book in
     let id = c.args.id.now in
     let none = ap (λ (n : ℕ). found_at c.args.ledger.now.table.entries (n, id)) (sym c.who-owner.ensures) ∙ c.in_err-found.ensures.found in
-    subst (λ (r : Option Request). Gives c.args.ledger.now (wish_for Expire kept.who (booked kept.who id kept.events) (position (takes id) (live_taken kept.who kept.events))) id r) (sym c.from_residual.ensures)
+    subst (λ (r : Option Request). GivesRequest c.args.ledger.now (wish_for Expire kept.who (booked kept.who id kept.events) (position (takes id) (live_taken kept.who kept.events))) id r) (sym c.from_residual.ensures)
     (unknown_question kept.who kept.events (state_in c.args.ledger.now.table) id c.in_err-found.ensures.right none)
 
 pub returns-in_err-index : goal.returns-in_err-index
@@ -28,7 +28,7 @@ returns-in_err-index c =
     let at = own_position_is kept.who kept.events id None
     (λ k there. let was : c.found_index.result ≡ None = c.in_err-index.was in let at : c.found_index.result ≡ Some k = c.found_index.ensures.at k (there ∙ ap (λ (x : List ℕ). Some x) (sym found.1)) in sym was ∙ at)
     (λ k e. let no : ⊥ = cc in absurd no) in
-    subst (λ (r : Option Request). Gives c.args.ledger.now (wish_for Expire kept.who (booked kept.who id kept.events) (position (takes id) (live_taken kept.who kept.events))) id r) (sym c.from_residual-in_err-index.ensures)
+    subst (λ (r : Option Request). GivesRequest c.args.ledger.now (wish_for Expire kept.who (booked kept.who id kept.events) (position (takes id) (live_taken kept.who kept.events))) id r) (sym c.from_residual-in_err-index.ensures)
     (wish_none Expire kept.who (booked kept.who id kept.events) (position (takes id) (live_taken kept.who kept.events)) at)
 
 pub returns : goal.returns

@@ -3,7 +3,7 @@ use Rattle.inst_command.specs.declared.outcome.Outcome.{Outcome}
 use Rattle.inst_journal.specs.declared.event.Event.{Event}
 use Rattle.inst_journal.specs.declared.event.Event.TheVariants.{Booked}
 use Rattle.inst_journal.specs.Sound.{Fits}
-use Rattle.inst_ledger.specs.Book.{Book as Kept, with_event}
+use Rattle.inst_ledger.specs.Book.{LedgerBook as Kept, ledger_with_event}
 use Rattle.inst_slot.specs.declared.arrival.Arrival.{Arrival}
 use Rattle.inst_slot.specs.inner.Answering.{book_with_spots, book_with_arrivals, IsOwnAt}
 use Rattle.inst_slot.specs.Book.{place_at}
@@ -47,7 +47,7 @@ returns-clause-settles g c =
     let l = c.args.ledger.now in
     let A : List Arrival = arrivals_of (rows_of l.book.who l.book.events) c.args.arrivals.now in
     let o = c.in-Some.outcome in
-    let is = c.in_ok-book.ensures.ok ∙ ap (λ (x : Kept). with_event x (Booked r.found.from r.found.id o)) c.find.ensures.book in
+    let is = c.in_ok-book.ensures.ok ∙ ap (λ (x : Kept). ledger_with_event x (Booked r.found.from r.found.id o)) c.find.ensures.book in
     settled_so b.settings b.knows b.has_role c.args.board.now l A c.args.ask.now r c.requires.lawful c.requires.asking
     (b.settings c.args.board.now).margin b.stood b.stays c.find.new.board (Some o) _ c.book.new.ledger.book
     refl
@@ -68,7 +68,7 @@ returns-clause-spots g c =
     let r = c.args.asked.now in
     let l = c.args.ledger.now in
     let e : Event = Booked r.found.from r.found.id c.in-Some.outcome in
-    spots_over l.book c.book.new.ledger.book e c.args.arrivals.now (c.in_ok-book.ensures.ok ∙ ap (λ (x : Kept). with_event x e) c.find.ensures.book) c.requires.spots
+    spots_over l.book c.book.new.ledger.book e c.args.arrivals.now (c.in_ok-book.ensures.ok ∙ ap (λ (x : Kept). ledger_with_event x e) c.find.ensures.book) c.requires.spots
 
 pub returns-in_err-decided-clause-settles : goal.returns-in_err-decided-clause-settles
 returns-in_err-decided-clause-settles g c = inr (search rules, ap (λ (x : Kept). book_with_spots x c.args.arrivals.now) c.find.ensures.book, search rules)

@@ -1,5 +1,5 @@
 use Rattle.std.proofs.Common.{sym, ap, ◌∙◌}
-use Rattle.inst_ledger.specs.Book.{Book as Kept}
+use Rattle.inst_ledger.specs.Book.{LedgerBook as Kept}
 use Rattle.inst_slot.proofs.Bookings.{own_booked, another_booked}
 use Rattle.inst_slot.proofs.booking.book.Goals as goal
 

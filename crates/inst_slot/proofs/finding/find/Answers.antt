@@ -9,7 +9,7 @@ use Rattle.inst_board.specs.declared.look.Look.{Look}
 use Rattle.inst_board.specs.declared.about.Fact.{Fact}
 use Rattle.inst_board.specs.Standing.{Standing, unused, pending, decided, look_of, about}
 use Rattle.inst_board.specs.Wish.{wanted}
-use Rattle.inst_board.specs.Learning.{Looks, Answers, Decides}
+use Rattle.inst_board.specs.Learning.{Looks, AnswersWish, Decides}
 use Rattle.inst_slot.specs.Asking.{stays_pending, Finds, OnlyLooks}
 use Rattle.inst_slot.proofs.RefusalsChangeNothing.{on_err}
 use Rattle.inst_slot.proofs.finding.find.Goals as goal
@@ -18,7 +18,7 @@ no_outcome : (o : Option Outcome) → is_none o ≡ true → o ≡ None
 no_outcome None e = refl
 no_outcome (Some x) e = absurd (true≢false (sym e))
 
-unanswered : (margin : ℕ) (stood : Outcome → Type 0) (wish : Wish) (at : ℕ) (p : Standing) → stays_pending margin wish at (look_of p) ≡ true → Answers margin stood wish at p None
+unanswered : (margin : ℕ) (stood : Outcome → Type 0) (wish : Wish) (at : ℕ) (p : Standing) → stays_pending margin wish at (look_of p) ≡ true → AnswersWish margin stood wish at p None
 unanswered margin stood wish at unused e = absurd (true≢false (sym e))
 unanswered margin stood wish at (pending t d) e = (refl, no_outcome (wanted margin wish d at) e)
 unanswered margin stood wish at (decided t d o m) e = absurd (true≢false (sym e))

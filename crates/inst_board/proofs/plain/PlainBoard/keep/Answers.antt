@@ -2,7 +2,7 @@ use Rattle.std.proofs.Common.{◌≡◌, ℕ, ◌*◌, ◌+◌, Some, set, ap, s
 use Rattle.inst_terms.specs.declared.terms.Terms.{Terms}
 use Rattle.inst_board.specs.declared.plain.Kept.{Kept}
 use Rattle.inst_board.specs.Standing.{IsLawful}
-use Rattle.inst_board.specs.Plain.{Contents, kept_at, terms_of, rank_of, Becomes, standing_of}
+use Rattle.inst_board.specs.Plain.{Contents, kept_at, kept_terms, rank_of, Becomes, standing_of}
 use Rattle.inst_board.proofs.Places.{with_kept, written, contents_written, written_is_place, kept_puts, terms_stay}
 use Rattle.inst_board.proofs.plain.PlainBoard.keep.Goals as goal
 
@@ -12,7 +12,7 @@ invariant_of-self c =
     let k = c.args.place in
     let w : Kept = c.args.kept.now in
     let t : Terms = c.requires.written.0 in
-    let had : terms_of (kept_at b k) ≡ Some t = subst (λ (x : Contents). terms_of (kept_at x k) ≡ Some t) (sym c.self.view_is) c.requires.written.1 in
+    let had : kept_terms (kept_at b k) ≡ Some t = subst (λ (x : Contents). kept_terms (kept_at x k) ≡ Some t) (sym c.self.view_is) c.requires.written.1 in
     let rank : c.rank_of.result ≡ rank_of b.settings k = c.rank_of.ensures ∙ ap (λ (x : ℕ). k.index * x + k.owner) c.self.invariant.1 in
     let lawful : IsLawful b.settings.margin (standing_of w) = subst (λ (x : Contents). IsLawful x.settings.margin (standing_of w)) (sym c.self.view_is) c.requires.lawful in
     let puts = kept_puts b k t c.rank_of.result w c.new.result had rank c.new.ensures in
@@ -32,7 +32,7 @@ returns c =
     let k = c.args.place in
     let w : Kept = c.args.kept.now in
     let t : Terms = c.requires.written.0 in
-    let had : terms_of (kept_at b k) ≡ Some t = subst (λ (x : Contents). terms_of (kept_at x k) ≡ Some t) (sym c.self.view_is) c.requires.written.1 in
+    let had : kept_terms (kept_at b k) ≡ Some t = subst (λ (x : Contents). kept_terms (kept_at x k) ≡ Some t) (sym c.self.view_is) c.requires.written.1 in
     let rank : c.rank_of.result ≡ rank_of b.settings k = c.rank_of.ensures ∙ ap (λ (x : ℕ). k.index * x + k.owner) c.self.invariant.1 in
     let new = set b.kept c.rank_of.result c.new.result in
     subst (λ (x : Contents). Becomes x k w (with_kept b new)) c.self.view_is

@@ -1,7 +1,7 @@
 use Rattle.std.proofs.Common.{◌≡◌, ℕ, arith, rules, length, refl, sym, ap, ◌∙◌}
 use Rattle.std.proofs.lemmas.Grind.{common_steps}
 use Rattle.inst_journal.specs.declared.event.Event.TheVariants.{Forwarded, Booked, Opened}
-use Rattle.inst_ledger.specs.Book.{Book}
+use Rattle.inst_ledger.specs.LedgerBook.{LedgerBook}
 use Rattle.inst_books.proofs.CountsAfterOneMoreEvent.{IsQuiet, quiet_one, own_booked, one_came, some_wait, one_booked, begun, after_keeping, fits_within, sound_before}
 use Rattle.inst_books.proofs.replay.Replay.keep.Goals as goal
 
@@ -9,7 +9,7 @@ pub settle-requires : goal.settle-requires
 settle-requires c =
     let b = c.self.inside.ledger.book in
     let e = Booked c.in-Booked.from c.in-Booked.id c.in-Booked.outcome in
-    let is_who : b.who ≡ c.who.result = sym (c.who.ensures ∙ ap (λ (b : Book). b.who) c.in_ok-keep.ensures.ok) in
+    let is_who : b.who ≡ c.who.result = sym (c.who.ensures ∙ ap (λ (b : LedgerBook). b.who) c.in_ok-keep.ensures.ok) in
     some_wait b.settings b.who b.events c.self.inside.tally c.self.inside.tally (sound_before b c.keep.new.self.book c.args.event c.in_ok-keep.ensures.ok c.journal.ensures.sound) c.self.invariant
     c.in-Booked.from c.in-Booked.id c.in-Booked.outcome (omega arith) (λ same. c.if-from-who.true (same ∙ is_who))
     (fits_within b c.args.self.now c.args.event e c.self.view_is c.in-Booked.is c.requires)
@@ -34,7 +34,7 @@ invariant_of-self-then-from-who c =
     let t = c.self.inside.tally in
     let e = Booked i.from i.id i.outcome in
     let wide : length t.waiting ≡ 256 = omega arith in
-    let is_who : b.who ≡ c.who.result = sym (c.who.ensures ∙ ap (λ (b : Book). b.who) c.in_ok-keep.ensures.ok) in
+    let is_who : b.who ≡ c.who.result = sym (c.who.ensures ∙ ap (λ (b : LedgerBook). b.who) c.in_ok-keep.ensures.ok) in
     after_keeping b c.keep.new.self.book c.args.event e c.settle.new.self c.in_ok-keep.ensures.ok i.is
     (one_booked b.settings b.who b.events t c.settle.new.self (sound_before b c.keep.new.self.book c.args.event c.in_ok-keep.ensures.ok c.journal.ensures.sound) c.self.invariant
     i.from i.id i.outcome wide (λ same. c.if-from-who.true (same ∙ is_who)) (fits_within b c.args.self.now c.args.event e c.self.view_is i.is c.requires)
@@ -44,7 +44,7 @@ pub invariant_of-self-else-from-who : goal.invariant_of-self-else-from-who
 invariant_of-self-else-from-who c =
     let b = c.self.inside.ledger.book in
     let i = c.in-Booked in
-    let is_who : i.from ≡ b.who = c.if-from-who.false ∙ c.who.ensures ∙ ap (λ (b : Book). b.who) c.in_ok-keep.ensures.ok in
+    let is_who : i.from ≡ b.who = c.if-from-who.false ∙ c.who.ensures ∙ ap (λ (b : LedgerBook). b.who) c.in_ok-keep.ensures.ok in
     after_keeping b c.keep.new.self.book c.args.event (Booked b.who i.id i.outcome) c.self.inside.tally c.in_ok-keep.ensures.ok (i.is ∙ ap (λ (f : ℕ). Booked f i.id i.outcome) is_who)
     (own_booked b.who b.events i.id i.outcome c.self.inside.tally c.self.invariant)
 

@@ -2,14 +2,14 @@ use Rattle.std.proofs.Common.{◌≡◌, ℕ, arith, sym, ap, ◌∙◌}
 use Rattle.std.proofs.lemmas.Bool.{false≢true}
 use Rattle.inst_settings.specs.Settings.{HubSettings, is_within_ceiling}
 use Rattle.inst_journal.specs.Opened.{live_submissions}
-use Rattle.inst_ledger.specs.Book.{Book}
+use Rattle.inst_ledger.specs.LedgerBook.{LedgerBook}
 use Rattle.inst_books.proofs.replay.Replay.may_reserve.Goals as goal
 use Rattle.inst_books.proofs.replay.Replay.may_reserve.Goals.{then-live_submissions-from, else-live_submissions-from}
 
 pub returns-else-allows : goal.returns-else-allows
 returns-else-allows c =
-    let same : c.settings-settings.result.now ≡ c.args.self.now.settings = c.settings-settings.ensures.value ∙ ap (λ (b : Book). b.settings) c.self.view_is in
-    let live : c.live_submissions.result ≡ live_submissions c.args.self.now.who c.args.self.now.events = c.live_submissions.ensures ∙ ap (λ (b : Book). live_submissions b.who b.events) c.self.view_is in (
+    let same : c.settings-settings.result.now ≡ c.args.self.now.settings = c.settings-settings.ensures.value ∙ ap (λ (b : LedgerBook). b.settings) c.self.view_is in
+    let live : c.live_submissions.result ≡ live_submissions c.args.self.now.who c.args.self.now.events = c.live_submissions.ensures ∙ ap (λ (b : LedgerBook). live_submissions b.who b.events) c.self.view_is in (
       λ yes. absurd (false≢true (sym c.if-allows.false ∙ yes)),
       λ may.
           elim c.if-live_submissions-from.branch [

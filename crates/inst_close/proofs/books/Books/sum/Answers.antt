@@ -1,7 +1,7 @@
 use Rattle.std.proofs.Common.{◌≡◌, ◌<◌, ◌+◌, ℕ, arith, length, get_or, sym, ap, ◌∙◌, subst, pos, List}
 use Rattle.inst_journal.specs.Money.{position}
 use Rattle.inst_slot.specs.Book.{Book}
-use Rattle.inst_model.specs.Untold.{sum_below, total}
+use Rattle.inst_model.specs.Untold.{sum_below, sum_over_participants}
 use Rattle.inst_participant.specs.Together.{histories}
 use Rattle.inst_settings.specs.Settings.{participants}
 use Rattle.inst_close.specs.ClosedHub.{ClosedHub, IsClosed}
@@ -21,7 +21,7 @@ one_more c =
       one_summed c.args.self.now.settings books i c.slot-item.result c.loop-slot.total c.position-total.result below here c.position-total.ensures.value c.loop-slot.invariant,
     )
 
-all : (c : After-loop-slot) → c.loop-slot.total ≡ total c.args.self.now.settings (λ p. position (histories c.args.self.now.books p))
+all : (c : After-loop-slot) → c.loop-slot.total ≡ sum_over_participants c.args.self.now.settings (λ p. position (histories c.args.self.now.books p))
 all c =
     let closed : IsClosed c.args.self.now.settings c.args.self.now.books = subst (λ (h : ClosedHub). IsClosed h.settings h.books) c.self.view_is c.self.invariant in
     let books : List Book = c.args.self.now.books in

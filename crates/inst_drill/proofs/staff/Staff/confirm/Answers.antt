@@ -1,6 +1,6 @@
 use Rattle.std.proofs.Common.{sym, subst, ap, ◌∙◌, arith, length, ◌≡◌, List, [], ◌∷◌, ◌++◌}
 use Rattle.inst_hub.specs.declared.teller.Teller.{Teller}
-use Rattle.inst_hub.specs.Opening.{parts_of}
+use Rattle.inst_hub.specs.Opening.{row_parts}
 use Rattle.inst_crew.specs.Seen.{AreSeenByOne}
 use Rattle.inst_drill.proofs.StaffOfOpening.{tellers_apart}
 use Rattle.inst_drill.proofs.staff.Staff.confirm.Goals as goal
@@ -19,7 +19,7 @@ returns-clause-staff g c =
       sweeper = tellers.0;
       tellers = tellers.1.0;
       each = tellers.1.1;
-      parts = ap parts_of (sym c.in-Some.ensures.items) ∙ (crew.parts.1 ∙ (ap (λ (t : Teller). parts_of (c.args.self.tellers.items ++ t ∷ [])) c.sweep.ensures.by ∙ before.parts));
+      parts = ap row_parts (sym c.in-Some.ensures.items) ∙ (crew.parts.1 ∙ (ap (λ (t : Teller). row_parts (c.args.self.tellers.items ++ t ∷ [])) c.sweep.ensures.by ∙ before.parts));
     }
 
 pub returns-clause-states : goal.returns-clause-states

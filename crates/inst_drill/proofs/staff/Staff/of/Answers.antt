@@ -1,5 +1,5 @@
 use Rattle.std.proofs.Common.{sym, ap, ◌∙◌}
-use Rattle.inst_hub.specs.Opening.{parts_of}
+use Rattle.inst_hub.specs.Opening.{row_parts}
 use Rattle.inst_drill.proofs.StaffOfOpening.{hands_apart, tellers_apart}
 use Rattle.inst_drill.proofs.staff.Staff.of.Goals as goal
 
@@ -15,5 +15,5 @@ returns c =
       sweeper = tellers.0;
       tellers = tellers.1.0;
       each = tellers.1.1;
-      parts = ap parts_of (sym c.in-Some-pop.ensures.items) ∙ c.requires.parts;
+      parts = ap row_parts (sym c.in-Some-pop.ensures.items) ∙ c.requires.parts;
     }

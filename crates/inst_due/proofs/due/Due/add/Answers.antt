@@ -1,6 +1,6 @@
 use Rattle.std.proofs.Common.{ℕ, Err, sym, ◌∙◌, rules}
 use Rattle.std.proofs.lemmas.Bool.{true≢false}
-use Rattle.inst_due.specs.inner.Due.{IsPlace}
+use Rattle.inst_due.specs.inner.Due.{IsRankOf}
 use Rattle.inst_due.proofs.Pairs.{rises_on, adds, adds_none, not_there, there_at}
 use Rattle.inst_due.proofs.due.Due.add.Goals as goal
 
@@ -24,5 +24,5 @@ pub invariant_of-self : goal.invariant_of-self
 invariant_of-self c =
     let pair : ℕ × ℕ = (c.args.deadline, c.args.index) in
     let row = c.self.inside.pairs.items in
-    let place : IsPlace row pair (Err c.in-Err.place) = rw c.self.view_is c.in-Err.ensures in
+    let place : IsRankOf row pair (Err c.in-Err.place) = rw c.self.view_is c.in-Err.ensures in
     rw c.in_ok-put.ensures.ok (rises_on row c.in-Err.place pair c.self.invariant place)

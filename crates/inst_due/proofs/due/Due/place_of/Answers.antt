@@ -2,7 +2,7 @@ use Rattle.std.proofs.Common.{◌≡◌, ℕ, ◌-◌, ◌<◌, List, length, So
 use Rattle.std.specs.Prelude.{slice_get}
 use Rattle.std.specs.List.Sorted.{IsSearchInRange}
 use Rattle.std.proofs.lemmas.Option.{slice_get_read}
-use Rattle.inst_due.specs.inner.Due.{IsPlace}
+use Rattle.inst_due.specs.inner.Due.{IsRankOf}
 use Rattle.inst_due.proofs.Pairs.{at_end, found_place, before_if_less, same_if_equal}
 use Rattle.inst_due.proofs.due.Due.place_of.Goals as goal
 
@@ -15,7 +15,7 @@ returns-in-Less c =
     let row = c.self.inside.pairs in
     let last = c.in-Some.last.now in
     let back = c.in-Some.ensures in
-    subst (λ (pairs : List (ℕ × ℕ)). IsPlace pairs c.args.pair.now (Err c.len.result)) c.self.view_is
+    subst (λ (pairs : List (ℕ × ℕ)). IsRankOf pairs c.args.pair.now (Err c.len.result)) c.self.view_is
     (at_end row.items c.len.result last c.args.pair.now c.self.invariant (c.len.ensures ∙ row.ok.0)
     (last_at row.items c.len.result row.len last c.len.ensures row.ok.0 (back.variant.0 refl) back.lookup)
     (before_if_less last c.args.pair.now (sym c.cmp.ensures ∙ c.in-Less.is)))
@@ -33,6 +33,6 @@ returns-in-Equal c =
 pub returns-in-Greater-2 : goal.returns-in-Greater-2
 returns-in-Greater-2 c =
     let row = c.self.inside.pairs in
-    subst (λ (pairs : List (ℕ × ℕ)). IsPlace pairs c.args.pair.now c.binary_search.result) c.self.view_is
+    subst (λ (pairs : List (ℕ × ℕ)). IsRankOf pairs c.args.pair.now c.binary_search.result) c.self.view_is
     (found_place row.items c.args.pair.now c.binary_search.result c.self.invariant
     (subst (IsSearchInRange c.binary_search.result) row.ok.0 c.binary_search.ensures.bound) c.binary_search.ensures.position)

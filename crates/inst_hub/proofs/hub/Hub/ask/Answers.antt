@@ -5,7 +5,7 @@ use Rattle.std.specs.declared.alloc.AllocError.{AllocError}
 use Rattle.inst_settings.specs.Settings.{is_participant}
 use Rattle.inst_command.specs.declared.reply.Reply.{Reply}
 use Rattle.inst_command.specs.declared.place.Place.{Place}
-use Rattle.inst_cell.specs.Seen.{sees}
+use Rattle.inst_cell.specs.Seen.{sight_knows}
 use Rattle.inst_participant.specs.Answers.{Answered, IsTicket}
 use Rattle.inst_participant.specs.Following.{follow_up_after}
 use Rattle.inst_hub.specs.Calls.{IsLeftUnanswered}
@@ -64,7 +64,7 @@ returns-clause-call g c =
     let ask = c.args.ask.now in
     let serves = subst (λ (r : Result (Reply × Option Place) AllocError). IfOk r (λ answer. Serves x ask (Ok answer.0) y)) c.in_ok-answer.was c.serve-answer.ensures.serves in
     let answered = subst (λ (r : Result (Reply × Option Place) AllocError). IfOk r (λ answer. Answered x.slot.settings x.slot.who x.slot.events ask answer.0 y.slot.events)) c.in_ok-answer.was c.serve-answer.ensures.answered in
-    let ticket = subst (λ (r : Result (Reply × Option Place) AllocError). IfOk r (λ answer. IsTicket (sees c.serve-answer.new.teller) x.slot.settings x.slot.who ask.command y.slot.events answer.0 answer.1)) c.in_ok-answer.was c.serve-answer.ensures.ticket in
+    let ticket = subst (λ (r : Result (Reply × Option Place) AllocError). IfOk r (λ answer. IsTicket (sight_knows c.serve-answer.new.teller) x.slot.settings x.slot.who ask.command y.slot.events answer.0 answer.1)) c.in_ok-answer.was c.serve-answer.ensures.ticket in
     let after = subst (λ (z : Participant). c.follow_up-follow_up.result ≡ follow_up_after z.slot.events ask.command c.serve-answer.result) c.deref.ensures c.follow_up-follow_up.ensures.follows in
     let follows = subst (λ (r : Result (Reply × Option Place) AllocError). c.follow_up-follow_up.result ≡ follow_up_after y.slot.events ask.command r) c.in_ok-answer.was after in
     asks_at c.args.self.now c.args.teller.now record { sight = c.serve-answer.new.teller; seat = c.give.new.seat } ask c.in_ok-answer.field-0 c.follow_up-follow_up.result x y c.from-lock.result c.from-lock.ensures

@@ -11,7 +11,7 @@ use Rattle.inst_world.specs.inner.NextOpening.{IsOpenedBelow}
 use Rattle.inst_participant.specs.declared.participant.Participant.{Participant}
 use Rattle.inst_hub.specs.inner.Opening.{AreBehind}
 use Rattle.inst_hub.specs.NextOpening.{histories_from}
-use Rattle.inst_hub.specs.inner.NextOpening.{AreCarried, pairs, seated}
+use Rattle.inst_hub.specs.inner.NextOpening.{AreCarriedSlots, pairs, seated}
 use Rattle.inst_hub.proofs.BoardOfReopenedHub.{slots_carried, behind_again, if_ok_then}
 use Rattle.inst_hub.proofs.hub.next_opening.carry_over.Goals as goal
 
@@ -24,8 +24,8 @@ open_places-requires-clause-carried c =
     let world = c.in_ok-open_from.field-0 in
     let ok = c.in_ok-open_from.ensures.ok in (
       books,
-      subst (λ (t : HubSettings). AreCarried t books c.deref.result.now) (sym c.requires.whole.settings)
-          (subst (λ (xs : List Book). AreCarried c.args.settings.now books xs) (sym (c.deref.ensures.value ∙ c.into_slots-slots.ensures.slots))
+      subst (λ (t : HubSettings). AreCarriedSlots t books c.deref.result.now) (sym c.requires.whole.settings)
+          (subst (λ (xs : List Book). AreCarriedSlots c.args.settings.now books xs) (sym (c.deref.ensures.value ∙ c.into_slots-slots.ensures.slots))
           (slots_carried c.args.settings.now books world ok.0 c.into_slots-slots.ensures.hub ok.1)),
     )
 
@@ -50,8 +50,8 @@ returns c =
     let begun = c.requires.whole.settings in
     let whole = c.open_places.new.whole in
     let stays = c.open_places.ensures.stays in
-    let carried = subst (λ (t : HubSettings). AreCarried t books c.deref.result.now) (sym begun)
-    (subst (λ (xs : List Book). AreCarried s books xs) (sym (c.deref.ensures.value ∙ c.into_slots-slots.ensures.slots)) (slots_carried s books world ok.0 hub ok.1)) in
+    let carried = subst (λ (t : HubSettings). AreCarriedSlots t books c.deref.result.now) (sym begun)
+    (subst (λ (xs : List Book). AreCarriedSlots s books xs) (sym (c.deref.ensures.value ∙ c.into_slots-slots.ensures.slots)) (slots_carried s books world ok.0 hub ok.1)) in
     let known : (f : Fact) → knows whole f ↔ IsOpenedBelow s books (participants s) f =
     λ f. subst (λ (t : HubSettings). knows whole f ↔ IsOpenedBelow t books (participants t) f) begun (c.open_places.ensures.known books carried f) in
     let behind = behind_again s books c.requires.journals.books world ok.0 hub ok.1 first whole stays begun known c.in_ok-boards.boards.items c.in_ok-boards.ensures.boards in

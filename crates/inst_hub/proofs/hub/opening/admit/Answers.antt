@@ -4,7 +4,7 @@ use Rattle.std.specs.Vec.Iter.{into_iter_items}
 use Rattle.inst_row.specs.Row.{row_id, key_of}
 use Rattle.inst_row.specs.Seated.{view_of}
 use Rattle.inst_hub.specs.declared.teller.Teller.{Teller}
-use Rattle.inst_hub.specs.Opening.{IsNew, AreNew, parts_of}
+use Rattle.inst_hub.specs.Opening.{IsNew, AreNew, row_parts}
 use Rattle.inst_hub.proofs.BoardsAndTellersOfNewHub.{nothing_left, next_sight, blank_next, blank_last, few_before, one_teller, parts_more}
 use Rattle.inst_hub.proofs.hub.opening.admit.Goals as goal
 
@@ -27,7 +27,7 @@ loop-sight-preserved c =
     let longer = length-append c.loop-sight.yielded (sight ∷ []) in
     let more = length-append c.loop-sight.all.items (teller ∷ []) in
     let all_length : length c.push.new.self.items ≡ length (c.loop-sight.all.items ++ teller ∷ []) = ap length pushed in
-    let all_parts : parts_of c.push.new.self.items ≡ parts_of (c.loop-sight.all.items ++ teller ∷ []) = ap parts_of pushed in
+    let all_parts : row_parts c.push.new.self.items ≡ row_parts (c.loop-sight.all.items ++ teller ∷ []) = ap row_parts pushed in
     let parts = parts_more c.loop-sight.all.items teller in
     let old_length = i.6 in
     let left = i.8 in

@@ -2,7 +2,7 @@ use Rattle.std.proofs.Common.{◌≡◌, ◌+◌, ◌++◌, ◌∷◌, [], lengt
 use Rattle.std.specs.Vec.Iter.{into_iter_items}
 use Rattle.inst_row.specs.Row.{row_id, key_of}
 use Rattle.inst_row.specs.Seated.{IsOn, IsIdle, view_of}
-use Rattle.inst_hub.specs.Opening.{AreNew, parts_of}
+use Rattle.inst_hub.specs.Opening.{AreNew, row_parts}
 use Rattle.inst_hub.proofs.hub.opening.admit.Given as goal
 
 abbrev pub invariant-loop-sight : goal.invariant-loop-sight
@@ -16,4 +16,4 @@ invariant-loop-sight l =
     (length l.all.items ≡ length l.yielded) ×
     AreNew (row_id l.row) (key_of l.row) (view_of l.fn.seat).fronts l.all.items ×
     ((view_of l.seat).parts + length l.yielded ≡ 16) ×
-    (parts_of l.all.items ≡ length l.yielded)
+    (row_parts l.all.items ≡ length l.yielded)

@@ -2,7 +2,7 @@ use Rattle.std.proofs.Common.{◌≡◌, ◌+◌, ◌∙◌, ℕ, List, length, 
 use Rattle.std.proofs.lemmas.Result.{err_from_is_err_and}
 use Rattle.sqlite_disk.specs.Disk.{MoreFaults}
 use Rattle.inst_log.specs.Layout.{EndsWell}
-use Rattle.inst_log.specs.Opening.{Opens, Unopened}
+use Rattle.inst_log.specs.Opening.{OpensLog, Unopened}
 use Rattle.inst_log.specs.Pieces.{IsExtent, IsFrontFor, Starts}
 use Rattle.inst_log.proofs.CausesOfErrors.{err_passed, unopened_as}
 use Rattle.inst_log.proofs.Pieces.{take_min, starts_opens, text_length}
@@ -55,7 +55,7 @@ returns-clause-opens g c clean =
     let extent = subst (λ (b : List ℕ). IsExtent b c.of-extent.result) c.deref.ensures.value c.of-extent.ensures in
     let front : IsFrontFor settings (take c.min-front.result c.deref-2.result.now) text =
     ap (take c.min-front.result) c.deref-2.ensures.value ∙ take_min c.min-front.result (length settings + 1) text (search rules) in
-    subst (Opens settings) (c.in_ok-text.ensures.bytes (c.open_at.ensures.clean clean)) (starts_opens settings text c.in_ok-start.start (c.in_ok-start.ensures.start text extent front))
+    subst (OpensLog settings) (c.in_ok-text.ensures.bytes (c.open_at.ensures.clean clean)) (starts_opens settings text c.in_ok-start.start (c.in_ok-start.ensures.start text extent front))
 
 pub returns-clause-shut_now : goal.returns-clause-shut_now
 returns-clause-shut_now g c clean well = c.in_ok-open_at.ensures.shut_now clean (subst EndsWell (sym c.in_ok-text.ensures.seen) well)

@@ -2,7 +2,7 @@ use Rattle.std.proofs.Common.{◌≡◌, ◌<◌, ◌≤◌, ap, length, drop, a
 use Rattle.std.proofs.lemmas.Result.{on_ok_weaker}
 use Rattle.std.proofs.lemmas.List.{take_rest}
 use Rattle.std.specs.Io.KnownBytes.{Appends}
-use Rattle.inst_log.specs.Opening.{kept}
+use Rattle.inst_log.specs.Opening.{lines_after_settings}
 use Rattle.inst_base.specs.Handing.{WritesPart}
 use Rattle.inst_log.specs.Serving.{Owing}
 use Rattle.inst_log.proofs.ToldRepliesAreKept.{text_behind, all_told, part_told, owed_now}
@@ -17,7 +17,7 @@ returns-then-told-len-clause-cause g c clean replies said =
     let file = g.D.Disk.seen c.args.self.now.log.disk in
     let lines = text_behind settings c.in_ok-text.text.items file c.requires.settings (c.in_ok-text.ensures.text clean) in
     let value : c.deref.result.now ≡ c.in_ok-text.text.items = c.deref.ensures.value in
-    let out : c.answer.new.out.items ≡ replies (kept settings file) = rw (take_rest, value, lines, c.clear.ensures.items) at (c.in_ok-answer.ensures.replies replies said) in
+    let out : c.answer.new.out.items ≡ replies (lines_after_settings settings file) = rw (take_rest, value, lines, c.clear.ensures.items) at (c.in_ok-answer.ensures.replies replies said) in
     let few : length c.answer.new.out.items < c.args.told = search rules in
     rw (← out) few
 
@@ -26,7 +26,7 @@ returns-clause-replied g c =
     on_ok_weaker c.deliver.result (λ wrote clean.
     let says = g.A.Responder.says c.args.self.now.answers in
     let settings = c.args.settings.now in
-    let first = kept settings (g.D.Disk.seen c.args.self.now.log.disk) in
+    let first = lines_after_settings settings (g.D.Disk.seen c.args.self.now.log.disk) in
     let lines = text_behind settings c.in_ok-text.text.items (g.D.Disk.seen c.args.self.now.log.disk) c.requires.settings (c.in_ok-text.ensures.text clean) in
     let value : c.deref.result.now ≡ c.in_ok-text.text.items = c.deref.ensures.value in
     let value-2 : c.deref-2.result.now ≡ c.answer.new.out.items = c.deref-2.ensures.value in
@@ -42,7 +42,7 @@ returns-clause-told g c =
     let file = g.D.Disk.seen c.args.self.now.log.disk in
     let lines = text_behind settings c.in_ok-text.text.items file c.requires.settings (c.in_ok-text.ensures.text clean) in
     let value : c.deref.result.now ≡ c.in_ok-text.text.items = c.deref.ensures.value in
-    let out : c.answer.new.out.items ≡ replies (kept settings file) = rw (take_rest, value, lines, c.clear.ensures.items) at (c.in_ok-answer.ensures.replies replies said) in
+    let out : c.answer.new.out.items ≡ replies (lines_after_settings settings file) = rw (take_rest, value, lines, c.clear.ensures.items) at (c.in_ok-answer.ensures.replies replies said) in
     let few : c.args.told ≤ length c.answer.new.out.items = search rules in
     rw (← out) few) c.deliver.ensures.ok
 
@@ -50,7 +50,7 @@ pub returns-clause-part : goal.returns-clause-part
 returns-clause-part g c clean =
     let says = g.A.Responder.says c.args.self.now.answers in
     let settings = c.args.settings.now in
-    let first = kept settings (g.D.Disk.seen c.args.self.now.log.disk) in
+    let first = lines_after_settings settings (g.D.Disk.seen c.args.self.now.log.disk) in
     let lines = text_behind settings c.in_ok-text.text.items (g.D.Disk.seen c.args.self.now.log.disk) c.requires.settings (c.in_ok-text.ensures.text clean) in
     let value : c.deref.result.now ≡ c.in_ok-text.text.items = c.deref.ensures.value in
     let value-2 : c.deref-2.result.now ≡ c.answer.new.out.items = c.deref-2.ensures.value in

@@ -1,5 +1,5 @@
 use Rattle.std.proofs.Common.{◌∙◌}
-use Rattle.inst_log.specs.Opening.{kept}
+use Rattle.inst_log.specs.Opening.{lines_after_settings}
 use Rattle.inst_logged.specs.Answering.{past_after}
 use Rattle.inst_logged.proofs.HubOpenedFromJournals.{some_weaker, are_carried, has_run, none_left}
 use Rattle.inst_logged.proofs.hub.LoggedHub.close.Goals as goal
@@ -8,7 +8,7 @@ pub returns-clause-ok : goal.returns-clause-ok
 returns-clause-ok g c clean =
     let self = c.args.self.now in
     let mode = self.recorder.answers.mode in
-    let lines = kept self.header.items (g.D.Disk.seen self.recorder.log.disk) in
+    let lines = lines_after_settings self.header.items (g.D.Disk.seen self.recorder.log.disk) in
     let runner = c.open.new.self.recorder.answers.runner in
     let opens = c.in_ok-open.ensures.ok clean in
     record {

@@ -1,6 +1,6 @@
 use Rattle.std.proofs.Common.{[], inl, inr, refl, sym, subst}
 use Rattle.std.proofs.lemmas.Result.{err_from_is_err_and, on_ok_weaker, IfErr-weaker}
-use Rattle.inst_log.specs.Opening.{kept}
+use Rattle.inst_log.specs.Opening.{lines_after_settings}
 use Rattle.inst_log.proofs.ToldRepliesAreKept.{run_opens}
 use Rattle.inst_log.specs.Serving.{SaysOn}
 use Rattle.inst_chain.specs.Chain.{kept_said}
@@ -77,8 +77,8 @@ returns-clause-any_moment g c clean =
           survives_more mode past header c.args.told file _ _ _ _ _ _ _ _
           (subst (λ (m : Mode). SaysOn (AreReplies (unsent_replies_at mode past (kept_said header file) (told_count c.args.told (kept_said header file)))) [] (SaysLines m runner)) (sym c.reopen.ensures.same.2) (r.replayed.on past keeps))
           (r.replayed.tells past keeps) r.lines k;
-      begins = λ begins left may. begins_behind _ header (kept header file) _ _ _ left r.lines (k.kept.kept left may);
-      opens = λ opens left may. run_opens (AreReplies (λ lines. [])) (kept header file) header _ _ _ _ _ k.lines r.lines k.kept left may;
+      begins = λ begins left may. begins_behind _ header (lines_after_settings header file) _ _ _ left r.lines (k.kept.kept left may);
+      opens = λ opens left may. run_opens (AreReplies (λ lines. [])) (lines_after_settings header file) header _ _ _ _ _ k.lines r.lines k.kept left may;
       intact = λ mixes before left may. subst (λ (v : Version). IsIntact v left) c.reopen.ensures.same.1 (c.serve_all.ensures.intact mixes clean left may);
     }
 

@@ -1,6 +1,6 @@
 use Rattle.std.proofs.Common.{◌≡◌, ◌≤◌, length, IsTrue}
 use Rattle.inst_base.specs.Newline.{NoNewline}
-use Rattle.inst_logged.specs.Intake.{held}
+use Rattle.inst_logged.specs.Intake.{line_part}
 use Rattle.sqlite_disk.specs.Disk.{Only}
 use Rattle.inst_logged.specs.Marking.{IsIntactBy}
 use Rattle.inst_logged.specs.inner.Logged.{HasCome}
@@ -15,7 +15,7 @@ invariant-loop g l = record {
   usable : IsTrue (g.D.Disk.is_usable l.self.recorder.log.disk);
   clean : IsTrue (g.D.Disk.is_clean l.self.recorder.log.disk) → IsTrue (g.D.Disk.is_clean l.fn.self.recorder.log.disk);
   size : IsTrue (g.D.Disk.is_clean l.self.recorder.log.disk) → l.self.size ≡ length (g.D.Disk.seen l.self.recorder.log.disk);
-  part : NoNewline (held l.self.intake);
+  part : NoNewline (line_part l.self.intake);
   version : l.self.version ≡ l.fn.self.version;
   intact : IsTrue (g.D.Disk.is_clean l.self.recorder.log.disk) → IsIntactBy l.fn.self.version (g.D.Disk.seen l.self.recorder.log.disk) l.self.marker;
   durable : IsTrue (g.D.Disk.is_clean l.self.recorder.log.disk) → Only (g.D.Disk.seen l.self.recorder.log.disk) (g.D.Disk.may_leave l.self.recorder.log.disk);

@@ -1,5 +1,5 @@
 use Rattle.std.proofs.Common.{◌≡◌, ◌∙◌, ◌≤◌, ◌+◌, Some, None, ℕ, Option, List, ◌++◌, length, refl, ap, sym, arith}
-use Rattle.inst_log.specs.Opening.{kept}
+use Rattle.inst_log.specs.Opening.{lines_after_settings}
 use Rattle.inst_logged.specs.Header.{header_line, header_from, lines_of_books}
 use Rattle.inst_logged.proofs.BooksBehindFirstLine.{has_books, lines_from_books}
 use Rattle.inst_logged.proofs.hub.finding.books_on.Goals as goal
@@ -25,8 +25,8 @@ returns-clause-found g c = λ clean. record {
       let file = g.D.Disk.seen c.args.disk.now in
       let header = header_from c.args.version c.args.mode s journals in
       let long : n + 2 ≤ c.saturating_add.result = omega (arith, counted, can.few, c.saturating_add.ensures) in
-      let lines = begins ∙ ap (λ (ls : List (List ℕ)). ls ++ kept header file) (lines_from_books c.args.version c.args.mode s journals can.books.codes) in
-      let has = has_books c.args.version s journals (header_line c.args.version c.args.mode s (Some n)) (kept header file) file c.deref.result.now c.saturating_add.result long lines
+      let lines = begins ∙ ap (λ (ls : List (List ℕ)). ls ++ lines_after_settings header file) (lines_from_books c.args.version c.args.mode s journals can.books.codes) in
+      let has = has_books c.args.version s journals (header_line c.args.version c.args.mode s (Some n)) (lines_after_settings header file) file c.deref.result.now c.saturating_add.result long lines
       (c.deref.ensures.value ∙ c.in_ok-text.ensures.lines clean) in
       c.journals_in.ensures.found journals can has counted;
 }

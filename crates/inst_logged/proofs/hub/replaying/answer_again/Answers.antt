@@ -7,7 +7,7 @@ use Rattle.inst_log.specs.Layout.{recovered_lines}
 use Rattle.std.specs.Prelude.{⊤}
 use Rattle.inst_log.specs.declared.error.LogError.{LogError}
 use Rattle.inst_logged.specs.declared.error.LoggedError.TheVariants.{Log}
-use Rattle.inst_logged.specs.inner.Failing.{Fails}
+use Rattle.inst_logged.specs.inner.Failing.{FailsAtLog}
 use Rattle.inst_logged.specs.inner.Answering.{AnswersLines, AnswersAgain, debt}
 use Rattle.inst_logged.proofs.Debt.{again_few, again_rest, rest_out}
 use Rattle.inst_logged.proofs.EnoughLinesForToldReplies.{AreEnough, enough_first, on_err_all}
@@ -70,4 +70,4 @@ returns-in_err-answer_all-2-clause-failure g c = passed _ c.from_residual-in_err
 pub returns-in_err-deliver-clause-failure : goal.returns-in_err-deliver-clause-failure
 returns-in_err-deliver-clause-failure g c =
     passed _ c.from_residual-in_err-deliver.result _ (err_from_is_err_and c.from_residual-in_err-deliver.result c.from_residual-in_err-deliver.ensures.1)
-    (subst (λ (e : LogError). Fails ⊥ ⊥ ⊤ (Log e)) (sym c.in_err-deliver.ensures.only) ((λ is. cc is), tt))
+    (subst (λ (e : LogError). FailsAtLog ⊥ ⊥ ⊤ (Log e)) (sym c.in_err-deliver.ensures.only) ((λ is. cc is), tt))

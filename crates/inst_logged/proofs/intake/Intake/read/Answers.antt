@@ -7,8 +7,8 @@ use Rattle.inst_lines.proofs.BufferAfterRead.{length-put_mid}
 use Rattle.inst_log.specs.Layout.{recovered_lines}
 use Rattle.inst_logged.specs.Input.{shortened_line, logged_line}
 use Rattle.inst_logged.specs.inner.Input.{lines_from, rest_from}
-use Rattle.inst_logged.specs.Intake.{held}
-use Rattle.inst_logged.specs.inner.Failing.{Fails}
+use Rattle.inst_logged.specs.Intake.{line_part}
+use Rattle.inst_logged.specs.inner.Failing.{FailsAtLog}
 use Rattle.inst_logged.proofs.LinesFromPieces.{quiet_held}
 use Rattle.inst_logged.proofs.CausesOfRefusalByCall.{passed}
 use Rattle.inst_logged.proofs.BatchAfterRead.{read_behind, lines_taken, rest_taken}
@@ -35,10 +35,10 @@ returns-clause-lines g c =
       consumes = c.in_ok-count.ensures.bytes.0;
       lines_are = λ part same.
           c.in_ok-take_lines.ensures.lines ∙ ap (λ (l : List ℕ). before ++ map logged_line (lines_from [] l)) bytes_are
-          ∙ ap (λ (ls : List (List ℕ)). before ++ ls) (lines_taken part (held old) (take n new) same c.requires.part);
+          ∙ ap (λ (ls : List (List ℕ)). before ++ ls) (lines_taken part (line_part old) (take n new) same c.requires.part);
       held_is = λ part same.
           c.in_ok-take_lines.ensures.held ∙ ap (λ (l : List ℕ). shortened_line (rest_from [] l)) bytes_are
-          ∙ rest_taken part (held old) (take n new) same c.requires.part;
+          ∙ rest_taken part (line_part old) (take n new) same c.requires.part;
     }
 
 pub returns-clause-part : goal.returns-clause-part
@@ -54,7 +54,7 @@ returns-clause-part g c =
     let few : n ≤ length new = omega (arith, c.in_ok-count.ensures.bound) in
     let bytes_are = ap (take (old.len + n)) (with_items_is old.bytes (put_mid old.len k xs new) (length-put_mid xs new old.len k (omega arith) room ∙ c.deref_mut.ensures.len))
     ∙ read_behind xs new old.len k n within few ∙ ap (λ (l : List ℕ). take old.len l ++ take n new) c.deref_mut.ensures.value in
-    quiet_held (held old ++ take n new) _ (c.in_ok-take_lines.ensures.held ∙ ap (λ (l : List ℕ). shortened_line (rest_from [] l)) bytes_are)
+    quiet_held (line_part old ++ take n new) _ (c.in_ok-take_lines.ensures.held ∙ ap (λ (l : List ℕ). shortened_line (rest_from [] l)) bytes_are)
 
 pub take_last-requires-clause-part : goal.take_last-requires-clause-part
 take_last-requires-clause-part g c = grind (arith, common_steps)
@@ -72,7 +72,7 @@ returns-clause-plain g c = λ plain. plain_more _ _ _ c.in_ok-take_lines.ensures
 pub returns-in_err-count-clause-failure : goal.returns-in_err-count-clause-failure
 returns-in_err-count-clause-failure g c =
     passed _ c.from_residual.result _ (err_from_is_err_and c.from_residual.result c.from_residual.ensures.1)
-    (subst (Fails ⊥ ⊥ ⊥) (sym c.in_err-count.ensures.fault) ((λ is. cc is), tt))
+    (subst (FailsAtLog ⊥ ⊥ ⊥) (sym c.in_err-count.ensures.fault) ((λ is. cc is), tt))
 
 pub returns-in_err-take_last-clause-failure : goal.returns-in_err-take_last-clause-failure
 returns-in_err-take_last-clause-failure g c = passed _ c.from_residual-in_err-take_last.result _ (err_from_is_err_and c.from_residual-in_err-take_last.result c.from_residual-in_err-take_last.ensures.1) ((λ is. cc is), tt)

@@ -2,7 +2,7 @@ use Rattle.std.proofs.Common.{refl, inl, inr, is_some, sym, ap, ◌∙◌, subst
 use Rattle.inst_command.specs.declared.place.Place.{Place}
 use Rattle.inst_journal.specs.declared.event.Event.{Event}
 use Rattle.inst_journal.specs.declared.event.Event.TheVariants.{Booked}
-use Rattle.inst_ledger.specs.Book.{Book as Kept}
+use Rattle.inst_ledger.specs.Book.{LedgerBook as Kept}
 use Rattle.inst_slot.specs.declared.arrivals.Spot.{Spot}
 use Rattle.inst_slot.specs.inner.Answering.{book_with_spots, IsOwnAt}
 use Rattle.inst_slot.specs.Book.{Book, place_at}

@@ -9,7 +9,7 @@ use Rattle.inst_base.specs.TimeLimit.{deadline_of}
 use Rattle.inst_journal.specs.Opened.{live_taken, live_submissions}
 use Rattle.inst_journal.specs.declared.event.Event.{Event}
 use Rattle.inst_journal.specs.Sound.{Fits}
-use Rattle.inst_ledger.specs.Book.{Book as Kept, with_event, submission_event}
+use Rattle.inst_ledger.specs.Book.{LedgerBook as Kept, ledger_with_event, submission_event}
 use Rattle.inst_slot.specs.Book.{Book, place_at, terms_to}
 use Rattle.inst_slot.specs.inner.Answering.{book_with_spots}
 use Rattle.inst_slot.specs.Waiting.{deadline_in}
@@ -20,8 +20,8 @@ use Rattle.inst_slot.proofs.Spots.{spots_over, over_after}
 use Rattle.inst_slot.proofs.slot.Slot.take.Goals as goal
 
 -- the event is kept after room was made
-in_room : {old room new : Kept} (event : Event) → room ≡ old → new ≡ with_event room event → new ≡ with_event old event
-in_room event same is = is ∙ ap (λ (x : Kept). with_event x event) same
+in_room : {old room new : Kept} (event : Event) → room ≡ old → new ≡ ledger_with_event room event → new ≡ ledger_with_event old event
+in_room event same is = is ∙ ap (λ (x : Kept). ledger_with_event x event) same
 
 pub add-requires : goal.add-requires
 add-requires g c =

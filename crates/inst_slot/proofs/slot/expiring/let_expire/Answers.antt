@@ -3,7 +3,7 @@ use Rattle.inst_board.specs.declared.wish.Wish.TheVariants.{Expire}
 use Rattle.inst_board.specs.Learning.{MayDecide}
 use Rattle.inst_journal.specs.declared.event.Event.TheVariants.{Booked}
 use Rattle.inst_journal.specs.Sound.{Fits}
-use Rattle.inst_ledger.specs.Book.{Book as Kept, with_event as keeping}
+use Rattle.inst_ledger.specs.Book.{LedgerBook as Kept, ledger_with_event as keeping}
 use Rattle.inst_slot.specs.inner.Answering.{book_with_spots, IsOwnAt}
 use Rattle.inst_slot.specs.Book.{Book, place_at}
 use Rattle.inst_slot.specs.Spots.{rows_of, arrivals_of}

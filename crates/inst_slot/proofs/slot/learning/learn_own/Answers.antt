@@ -4,7 +4,7 @@ use Rattle.inst_board.specs.Standing.{about}
 use Rattle.inst_journal.specs.declared.event.Event.TheVariants.{Booked}
 use Rattle.inst_journal.specs.Booked.{booked}
 use Rattle.inst_journal.specs.Sound.{Fits}
-use Rattle.inst_ledger.specs.Book.{Book as Kept}
+use Rattle.inst_ledger.specs.Book.{LedgerBook as Kept}
 use Rattle.inst_slot.specs.inner.Answering.{book_with_spots, IsOwnAt}
 use Rattle.inst_slot.specs.Book.{Book, place_at, terms_to}
 use Rattle.inst_slot.specs.Spots.{rows_of, arrivals_of}

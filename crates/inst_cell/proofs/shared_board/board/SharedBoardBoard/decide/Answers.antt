@@ -4,7 +4,7 @@ use Rattle.inst_command.specs.declared.outcome.Outcome.{Outcome}
 use Rattle.inst_settings.specs.Settings.{HubSettings}
 use Rattle.inst_board.specs.declared.about.About.TheVariants.{Opened, HasTerms, Due, DecidedAt}
 use Rattle.inst_board.specs.Standing.{about}
-use Rattle.inst_board.specs.Learning.{Answers, Learns}
+use Rattle.inst_board.specs.Learning.{AnswersWish, Learns}
 use Rattle.inst_board.proofs.PlainSteps.{wanted_in_time}
 use Rattle.inst_cell.specs.View.{count}
 use Rattle.inst_cell.specs.Rule.{IsShowable}
@@ -24,7 +24,7 @@ returns-in_err-outcome-in-Pending-clause-decides c =
     record {
       standing = s.standing;
       learns = learns_as b c.load-word.new.self k s.standing s.mine c.requires.opened.0 l.stays.settings s.learns s.showable s.agrees;
-      answers = subst (λ (r : Option Outcome). Answers (settings_of b).margin (stood b k) c.args.wish c.args.at s.standing r) (sym c.from_residual.ensures)
+      answers = subst (λ (r : Option Outcome). AnswersWish (settings_of b).margin (stood b k) c.args.wish c.args.at s.standing r) (sym c.from_residual.ensures)
           (answers_pending (settings_of b).margin (stood b k) c.args.wish c.args.at s.standing c.read_word.result c.in-Pending.deadline word c.in-Pending.is (wants_at c.load-word.new.self.margin (settings_of b).margin c.args.wish c.in-Pending.deadline c.args.at None (c.load-word.new.self.margin_is ∙ ap (λ (z : HubSettings). z.margin) l.stays.settings) (sym c.outcome.ensures ∙ c.in_err-outcome-in-Pending.was)));
       decided = λ z is. absurd (no_none _ z is c.from_residual.ensures);
       reading = λ u h. inl (moment_still b c.load-word.new.self k s.standing s.mine c.requires.opened.0 l.stays.settings s.learns u (not_mine _ _ _ _ s) h);
