@@ -19,7 +19,7 @@ use Rattle.inst_journal.proofs.OneMoreElement.{first_some_push, sum_by-both, or_
 use Rattle.inst_journal.proofs.WalkOverFronts.{front_fits}
 use Rattle.inst_ledger.specs.Book.{LedgerBook, ledger_with_event}
 use Rattle.inst_ledger.proofs.ForwardedTransfers.{unforwarded_unbooked}
-use Rattle.inst_books.specs.declared.tally.Tally.{Tally}
+use Rattle.inst_books.specs.declared.tally.LiveCounts.{LiveCounts}
 use Rattle.inst_books.specs.Tally.{waiting_from, IsTally}
 
 abbrev one_if : Bool → ℕ
@@ -102,7 +102,7 @@ module _ (s : HubSettings) (who from : ℕ) (J : List Event) (id : List ℕ) (ou
       omega (arith, pushed, same, both, forwarded_once s who from id J sound, one_counted (forwards from id) J came)
 
 -- an event that neither brings nor books anything of another's, and opens nothing
-pub as_before : (who : ℕ) (J : List Event) (event : Event) (t : Tally) → is_opening event ≡ false → ((from : ℕ) → from ≢ who → (id : List ℕ) → books from id event ≡ None)
+pub as_before : (who : ℕ) (J : List Event) (event : Event) (t : LiveCounts) → is_opening event ≡ false → ((from : ℕ) → from ≢ who → (id : List ℕ) → books from id event ≡ None)
     → ((from : ℕ) (C : List Event) → forwards_live from C event ≡ false) → IsTally who J t → IsTally who (J ++ event ∷ []) t
 as_before who J event t other quiet brings_none is = record {
   live = λ from below another. omega (arith, is.live from below another, forwarded_step from J event other, ap {B = ℕ} (λ b. cond b 1 0) (brings_none from (carried J)));
@@ -111,13 +111,13 @@ as_before who J event t other quiet brings_none is = record {
 }
 
 -- the participant's own transfer is booked
-pub own_booked : (who : ℕ) (J : List Event) (id : List ℕ) (outcome : Outcome) (t : Tally) → IsTally who J t → IsTally who (J ++ Booked who id outcome ∷ []) t
+pub own_booked : (who : ℕ) (J : List Event) (id : List ℕ) (outcome : Outcome) (t : LiveCounts) → IsTally who J t → IsTally who (J ++ Booked who id outcome ∷ []) t
 own_booked who J id outcome t is =
     as_before who J (Booked who id outcome) t refl
     (λ from another other. ap (λ b. cond {A = Option Outcome} (b && same_text id other) (Some outcome) None) (ne_eqb who from (λ same. another (sym same))))
     (λ from C. refl) is
 
-module _ (s : HubSettings) (who : ℕ) (J : List Event) (t u : Tally) (sound : IsSound s who J) (is : IsTally who J t) where
+module _ (s : HubSettings) (who : ℕ) (J : List Event) (t u : LiveCounts) (sound : IsSound s who J) (is : IsTally who J t) where
   -- a transfer comes
   pub one_came : (from : ℕ) (id : List ℕ) (cents deadline : ℕ) → length t.live ≡ 256 → length t.waiting ≡ 256 → Fits s who J (Forwarded from id cents deadline)
       → u.live ≡ set t.live from (get_or t.live from 0 + 1) → u.waiting ≡ set t.waiting from (get_or t.waiting from 0 + 1) → u.openings ≡ t.openings → IsTally who (J ++ Forwarded from id cents deadline ∷ []) u
@@ -212,7 +212,7 @@ module _ (s : HubSettings) (who : ℕ) (J : List Event) (t u : Tally) (sound : I
       now_live q = ap (λ C. count_by (forwards_live q C) (J ++ Opened ∷ [])) (carried_opened J) ∙ still_waiting q
 
 -- the counts, after the ledger has kept an event
-pub after_keeping : (b c : LedgerBook) (event known : Event) (t : Tally) → c ≡ ledger_with_event b event → event ≡ known → IsTally b.who (b.events ++ known ∷ []) t → IsTally c.who c.events t
+pub after_keeping : (b c : LedgerBook) (event known : Event) (t : LiveCounts) → c ≡ ledger_with_event b event → event ≡ known → IsTally b.who (b.events ++ known ∷ []) t → IsTally c.who c.events t
 after_keeping b c event known t kept is tally =
     subst (λ (b : LedgerBook). IsTally b.who b.events t) (sym kept) (subst (λ (e : Event). IsTally b.who (b.events ++ e ∷ []) t) (sym is) tally)
 
@@ -236,7 +236,7 @@ IsQuiet (Booked from id outcome) = ⊥
 IsQuiet (Fetched count) = Unit {0}
 IsQuiet Opened = ⊥
 
-pub quiet_one : (who : ℕ) (J : List Event) (event : Event) (t : Tally) → IsQuiet event → IsTally who J t → IsTally who (J ++ event ∷ []) t
+pub quiet_one : (who : ℕ) (J : List Event) (event : Event) (t : LiveCounts) → IsQuiet event → IsTally who J t → IsTally who (J ++ event ∷ []) t
 quiet_one who J (Funded funding) t quiet is = as_before who J (Funded funding) t refl (λ from another id. refl) (λ from C. refl) is
 quiet_one who J (Defunded funding) t quiet is = as_before who J (Defunded funding) t refl (λ from another id. refl) (λ from C. refl) is
 quiet_one who J (Taken id to cents stamp) t quiet is = as_before who J (Taken id to cents stamp) t refl (λ from another other. refl) (λ from C. refl) is

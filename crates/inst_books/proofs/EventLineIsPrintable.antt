@@ -18,7 +18,8 @@ use Rattle.inst_journal.specs.declared.event.Event.TheVariants.{Funded, Defunded
 use Rattle.inst_json.specs.Replies.{members, whole}
 use Rattle.inst_json.proofs.TextsWithoutEscapes.{escape-code, escape-identifier, escape-reason}
 use Rattle.inst_books.specs.Events.{in_book, event_member, event_can_be_written, event_line}
-use Rattle.inst_books.specs.Laws.{is_printable, event_has_form, outcome_has_form}
+use Rattle.inst_json.specs.Members.{is_printable}
+use Rattle.inst_books.specs.Laws.{event_has_form, outcome_has_form}
 use Rattle.inst_books.proofs.ObjectTextByMembers.{more, mores, so_far, whole_object}
 use Rattle.inst_books.proofs.ParticipantCodes.{code_has_form}
 

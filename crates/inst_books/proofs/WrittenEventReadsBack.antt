@@ -25,7 +25,8 @@ use Rattle.inst_base.specs.Newline.{NoNewline}
 use Rattle.inst_books.specs.Events.{event_data, event_line, event_can_be_written}
 use Rattle.inst_books.specs.declared.fault.BookFault.{BookFault}
 use Rattle.inst_books.specs.Reading.{Entry, or_bad_line, event_of_line, entry_of_line, entry_in}
-use Rattle.inst_books.specs.Laws.{is_printable, event_has_form, IsEventOf, IsPlainLine, IsSameEntry}
+use Rattle.inst_json.specs.Members.{is_printable}
+use Rattle.inst_books.specs.Laws.{event_has_form, IsEventOf, IsPlainLine, IsSameEntry}
 use Rattle.inst_books.proofs.EventLineIsPrintable.{line_printable}
 use Rattle.inst_books.proofs.Entries.{entry_again}
 

@@ -1,5 +1,5 @@
 -- The laws of books as text: what is written is read as it was. They are this hub's own promises.
-use Rattle.std.specs.Prelude.{◌≡◌, ℕ, Bool, true, ◌&&◌, ◌==◌, nat_le, if◌then◌else◌, Result, Ok}
+use Rattle.std.specs.Prelude.{◌≡◌, ℕ, Bool, true, ◌==◌, if◌then◌else◌, Result, Ok}
 use Rattle.std.specs.Prelude.{Err, IsOkAnd}
 use Rattle.std.specs.Prelude.{List, [], ◌∷◌, length, get_or, take, flat_map}
 use Rattle.std.specs.List.{list_all}
@@ -15,6 +15,7 @@ use Rattle.inst_journal.specs.declared.event.Event.TheVariants.{Funded, Defunded
 use Rattle.inst_journal.specs.declared.event.Event.TheVariants.{Booked, Fetched, Opened}
 use Rattle.inst_journal.specs.Sound.{IsSound}
 use Rattle.inst_base.specs.Newline.{NoNewline}
+use Rattle.inst_json.specs.Members.{is_printable}
 use Rattle.inst_log.specs.Layout.{gate, recovered_lines, blocks, AreWholeLines}
 use Rattle.inst_books.specs.Events.{event_line, event_can_be_written}
 use Rattle.inst_books.specs.declared.fault.BookFault.{BookFault}
@@ -50,10 +51,6 @@ pub record IsEventOf (s : HubSettings) (who : ℕ) (event : Event) : Type 0 wher
 abbrev pub AnEventReadsBack : Type 0
 AnEventReadsBack = (s : HubSettings) (who : ℕ) (event : Event) → IsEventOf s who event →
     event_of_line s (event_line s who event) ≡ Ok (who, event)
-
--- whether a byte is a printable character of ASCII
-abbrev pub is_printable : ℕ → Bool
-is_printable b = nat_le 32 b && nat_le b 126
 
 -- a line begins as one of a log does, and has neither a newline nor a zero byte
 pub record IsPlainLine (line : List ℕ) : Type 0 where

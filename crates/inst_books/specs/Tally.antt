@@ -5,14 +5,14 @@ use Rattle.std.specs.Prelude.{◌≡◌, ◌≢◌, ℕ, ◌<◌, List, count_by
 use Rattle.inst_settings.specs.declared.ranges.TheConstants.{MOST_PARTICIPANTS}
 use Rattle.inst_journal.specs.declared.event.Event.{Event}
 use Rattle.inst_journal.specs.Opened.{openings, forwards_live, live_forwarded}
-use Rattle.inst_books.specs.declared.tally.Tally.{Tally}
+use Rattle.inst_books.specs.declared.tally.LiveCounts.{LiveCounts}
 
 -- how many of the transfers that were forwarded from this originator have nothing booked
 abbrev pub waiting_from : ℕ → List Event → ℕ
 waiting_from from J = count_by (forwards_live from J) J
 
 -- the counts are those of the history; a participant's own transfers don't come to it
-pub record IsTally (who : ℕ) (J : List Event) (t : Tally) : Type 0 where
+pub record IsTally (who : ℕ) (J : List Event) (t : LiveCounts) : Type 0 where
   pub live : (from : ℕ) → from < MOST_PARTICIPANTS → from ≢ who →
       slice_index t.live from ≡ live_forwarded from J
   pub waiting : (from : ℕ) → from < MOST_PARTICIPANTS → from ≢ who →

@@ -7,7 +7,7 @@ ghost use Rattle.inst_journal.specs.Sound.{Fits, FundedFits, TakenFits, Forwarde
 ghost use Rattle.inst_journal.specs.Sound.{FetchedFits, OpenedFits};
 ghost use Rattle.inst_ledger.specs.Book.{ledger_with_event};
 
-use crate::tally::Tally;
+use crate::tally::LiveCounts;
 use inst_base::{Cents, Ident, Moment};
 use inst_command::{Funding, is_count};
 use inst_journal::{Event, MOST_OPENINGS};
@@ -28,7 +28,7 @@ use std::marker::Model;
 #[derive(Drop)]
 pub struct Replay {
     ledger: Ledger,
-    tally: Tally,
+    tally: LiveCounts,
 }
 
 impl Model for Replay {
@@ -50,7 +50,7 @@ impl Replay {
     {
         Ok(Replay {
             ledger: Ledger::open(alloc, settings, who)?,
-            tally: Tally::new(),
+            tally: LiveCounts::new(),
         })
     }
 

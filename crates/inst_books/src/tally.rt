@@ -7,7 +7,7 @@ use inst_settings::MOST_PARTICIPANTS;
 /// How many transfers came from each originator, by its number, and how often the hub was opened:
 /// an entry for each number that a participant may have.
 #[derive(Clone, Copy, Drop)]
-pub(crate) struct Tally {
+pub(crate) struct LiveCounts {
     /// Those that are live.
     pub(crate) live: [usize; MOST_PARTICIPANTS],
     /// Those with nothing booked.
@@ -15,15 +15,15 @@ pub(crate) struct Tally {
     pub(crate) openings: usize,
 }
 
-impl Tally {
+impl LiveCounts {
     /// Of an empty history.
-    pub(crate) fn new() -> Tally
+    pub(crate) fn new() -> LiveCounts
         ensures live { (from : ℕ) → from < MOST_PARTICIPANTS → slice_index result.live from ≡ 0 }
         ensures waiting { (from : ℕ) → from < MOST_PARTICIPANTS →
             slice_index result.waiting from ≡ 0 }
         ensures openings { result.openings ≡ 0 }
     {
-        Tally {
+        LiveCounts {
             live: [0; MOST_PARTICIPANTS],
             waiting: [0; MOST_PARTICIPANTS],
             openings: 0,

@@ -57,7 +57,7 @@ pub fn summarize<R: Read>(alloc: Global, reader: &mut R) -> Result<Summary, LogE
 #[derive(Drop)]
 struct Reading {
     cutter: LineCutter,
-    tally: Tally,
+    tally: LineTally,
 }
 
 impl Reading {
@@ -67,7 +67,7 @@ impl Reading {
     {
         Reading {
             cutter: LineCutter::new(alloc, 0),
-            tally: Tally::new(),
+            tally: LineTally::new(),
         }
     }
 
@@ -124,19 +124,19 @@ fn read_bytes<R: Read>(reader: &mut R, buf: &mut [u8]) -> Result<usize, LogError
 
 /// The lines that have come, and whether their marks are right.
 #[derive(Drop)]
-struct Tally {
+struct LineTally {
     seen: Seen,
     checker: Checker,
     /// The lines up to the last mark that is right, if one is wrong.
     wrong: Option<Prefix>,
 }
 
-impl Tally {
+impl LineTally {
     /// No line has come.
-    fn new() -> Tally
+    fn new() -> LineTally
         ensures { Tallies result [] }
     {
-        Tally {
+        LineTally {
             seen: Seen::new(),
             checker: Checker::new(),
             wrong: None,

@@ -2,13 +2,13 @@ ghost use Rattle.std.specs.Prelude.{◌≡◌};
 ghost use Rattle.crossbeam_queue.specs.Passes.{view};
 ghost use Rattle.inst_desk.specs.Account.{counted};
 
-use crate::rule::Seat;
+use crate::rule::DeskPass;
 
 /// Who puts jobs on a desk and takes them, one in each thread. Contracts see of it the jobs that it
 /// put and those that it took.
 #[derive(Drop)]
 pub struct Hand {
-    pub(crate) seat: Seat,
+    pub(crate) seat: DeskPass,
     pub(crate) puts: u64,
     pub(crate) takes: u64,
     pub ghost counts_puts: { puts ≡ counted (view seat).put },

@@ -21,7 +21,7 @@ impl Protocol<Job, Account> for Tallied {
 pub(crate) type Queue = RuledArrayQueue<Job, Account, Tallied, Global>;
 
 /// What a hand has of it.
-pub(crate) type Seat = Pass<Job, Account>;
+pub(crate) type DeskPass = Pass<Job, Account>;
 
 /// A job is put.
 pub(crate) struct Putting;

@@ -5,17 +5,17 @@ use Rattle.std.specs.Option.{option_map_or}
 use Rattle.std.specs.List.{find, list_all}
 use Rattle.sqlite_disk.specs.Disk.{Only}
 use Rattle.sqlite_disk.specs.declared.Disk.{Ghosts}
-use Rattle.inst_main.specs.declared.host_logs.Closed.{Closed}
+use Rattle.inst_main.specs.declared.host_logs.ClosedLog.{ClosedLog}
 use Rattle.inst_program.specs.Files.{Files}
 
 -- the log of this name that was closed last
-abbrev pub last_closed : {D : Type 0} → List (Closed D) → List ℕ → Option D
+abbrev pub last_closed : {D : Type 0} → List (ClosedLog D) → List ℕ → Option D
 last_closed closed name =
     option_map (λ one. one.log) (find (λ one. bytes_eq (string_bytes one.name) name) closed)
 
 -- A file has what the disk of its log had when that was closed. One whose log wasn't closed has
 -- nothing, and a crash may leave anything of it.
-abbrev pub host_files : {D : Type 0} → Ghosts D → List (Closed D) → Option (List ℕ) → Bool → Files
+abbrev pub host_files : {D : Type 0} → Ghosts D → List (ClosedLog D) → Option (List ℕ) → Bool → Files
 host_files {D} disks closed out is_known =
     record {
       bytes = λ name. option_map_or disks.seen (last_closed closed name) [];

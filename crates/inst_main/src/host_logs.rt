@@ -12,13 +12,13 @@ use std::io::{Error, ErrorKind};
 
 /// A log that was closed.
 #[derive(Drop)]
-struct Closed<D: Disk> {
+struct ClosedLog<D: Disk> {
     name: String,
     log: D,
 }
 
 /// Returns `true` if a log of this name was closed.
-fn was_closed<D: Disk>(closed: &[Closed<D>], name: &str) -> bool
+fn was_closed<D: Disk>(closed: &[ClosedLog<D>], name: &str) -> bool
     ensures { result ≡ is_some (last_closed closed.now name.now) }
 {
     for one in closed {
@@ -37,7 +37,7 @@ pub(crate) struct HostLogs<'a> {
     /// The name of the log that is open.
     out: Option<String>,
     /// The logs that were closed, the last one first.
-    closed: Vec<Closed<FileFrom<Unknown>>>,
+    closed: Vec<ClosedLog<FileFrom<Unknown>>>,
     /// `false` once a file was read without its disk, the file of a closed log was missing, or a
     /// closed log wasn't kept.
     is_known: bool,
@@ -85,7 +85,7 @@ impl<'a> Logs for HostLogs<'a> {
             self.is_known = false;
             return;
         };
-        if self.closed.insert(0, Closed { name, log }).is_err() {
+        if self.closed.insert(0, ClosedLog { name, log }).is_err() {
             self.is_known = false;
         }
     }

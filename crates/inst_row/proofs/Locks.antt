@@ -13,7 +13,7 @@ use prog.Atomic.{either}
 use Rattle.atomic_table.specs.Table.{State, Me, step, keeps, takes, gives, stepped, Allows, Splits, Joins, opening, rest}
 use Rattle.atomic_table.proofs.Lists.{at_set, at_snoc, set_here, set_else, set_again}
 use Rattle.inst_row.specs.declared.view.Front.{Front}
-use Rattle.inst_row.specs.declared.view.View.{View}
+use Rattle.inst_row.specs.declared.view.RowView.{RowView}
 use Rattle.inst_row.specs.Place.{place}
 use Rattle.inst_row.specs.View.{front, fronts_at, seats_with_lock, fronts_of, first_row_view, took, fronts_below, gave, informed_row_view, left_of, parts, united_row_view, nobody}
 use Rattle.inst_row.specs.Rule.{Guarded, IsSeen, takers}
@@ -119,15 +119,15 @@ is_free (suc n) e = absurd (omega arith)
 
 module _ {T E K : Type 0} (law : K → ℕ → T → Type 0) (history : T → List E) (key : K) where
   abbrev St : Type 0
-  St = State (Option T) (View E K)
+  St = State (Option T) (RowView E K)
 
   abbrev Sat : Type 0
-  Sat = Me (Option T) (View E K)
+  Sat = Me (Option T) (RowView E K)
 
   abbrev G : St → Type 0
   G s = Guarded law history key s
 
-  each_set : (l : List (View E K)) (id : ℕ) (w : View E K) (P : View E K → Type 0) → P w → ((i : ℕ) (v : View E K) → get_elem? l i ≡ some v → P v) → (i : ℕ) (v : View E K) → get_elem? (set l id w) i ≡ some v → P v
+  each_set : (l : List (RowView E K)) (id : ℕ) (w : RowView E K) (P : RowView E K → Type 0) → P w → ((i : ℕ) (v : RowView E K) → get_elem? l i ≡ some v → P v) → (i : ℕ) (v : RowView E K) → get_elem? (set l id w) i ≡ some v → P v
   each_set l id w P here there i v e = ⊎_elim (λ t. subst P t.1 here) (λ t. there i v t.1) (at_set l id i w v e)
 
   module _ (slots id p : ℕ) (within : place p < slots) where
@@ -135,7 +135,7 @@ module _ {T E K : Type 0} (law : K → ℕ → T → Type 0) (history : T → Li
     takes_it : (m : ℕ) → 0 < m → (me : Sat) (s : St) (r : G s) → 0 < me.0.parts → length s.homes ≡ slots → get_elem? s.views id ≡ some me.0 → get_or s.words (place p) 0 ≡ 0 → (x : T) → history x ≡ r.latest p
         → G (stepped s (place p) m id me.1 (took me.0 p (history x)) (takes (place p) (Some x)))
     takes_it m set_to me s r part wide at free x is =
-        let w : View E K = took me.0 p (history x) in
+        let w : RowView E K = took me.0 p (history x) in
         let sized = r.sized in let long : place p < length s.words = omega arith in
         let adds : (q : ℕ) → seats_with_lock q (set s.views id w) + fronts_at q me.0.held ≡ seats_with_lock q s.views + (is_at p q + fronts_at q me.0.held) = λ q. held-set q s.views id me.0 w at in
         record {
@@ -167,12 +167,12 @@ module _ {T E K : Type 0} (law : K → ℕ → T → Type 0) (history : T → Li
         }
 
     -- the seat gives the lock back, with a value whose history goes on from what it found
-    gives_it : (v : View E K) (cs : List (ℕ × Option T)) (y : T) (h : List E) (hs : List (Front E)) (s : St) (r : G s) → length s.homes ≡ slots → get_elem? s.views id ≡ some v
+    gives_it : (v : RowView E K) (cs : List (ℕ × Option T)) (y : T) (h : List E) (hs : List (Front E)) (s : St) (r : G s) → length s.homes ≡ slots → get_elem? s.views id ≡ some v
         → v.held ≡ front p h ∷ hs → law key p y → IsPrefix h (history y)
         → G (stepped s (place p) 0 id ((place p, Some y) ∷ cs) (gave v p (history y)) gives)
     gives_it v cs y h hs s r wide at mine lawful grows =
-        let w : View E K = gave v p (history y) in
-        let views : List (View E K) = set s.views id w in
+        let w : RowView E K = gave v p (history y) in
+        let views : List (RowView E K) = set s.views id w in
         let sized = r.sized in let long : place p < length s.words = omega arith in
         let latest : ℕ → List E = λ q. cond (eqb q p) (history y) (r.latest q) in
         let latest_here : (q : ℕ) → q ≡ p → latest q ≡ history y = λ q e. ap (λ (b : Bool). cond b (history y) (r.latest q)) (eq-eqb q p e) in
@@ -184,7 +184,7 @@ module _ {T E K : Type 0} (law : K → ℕ → T → Type 0) (history : T → Li
         let mine_one : is_at p p ≡ 1 = at_one p p refl in
         let free : seats_with_lock p views ≡ 0 = (let a = adds p in let b = before p in let c = after p in let d : seats_with_lock p s.views ≡ takers (get_or s.words (place p) 0) = r.counted p in let f = most_takers (get_or s.words (place p) 0) in omega arith) in
         let part : 0 < v.parts = positive v.parts (λ z. let none : v.held ≡ [] = r.holder id v at z in let no : ⊥ = cc in no) in
-        let not_p : (i : ℕ) (u : View E K) → get_elem? views i ≡ some u → (m : Front E) → Contains u.held m → m.lock ≢ p =
+        let not_p : (i : ℕ) (u : RowView E K) → get_elem? views i ≡ some u → (m : Front E) → Contains u.held m → m.lock ≢ p =
         λ i u e m c is. (let one = held_one p views i u e in let more = counts_in p u.held m c is in absurd (omega arith)) in
         let seen : (m : Front E) → IsPrefix m.history (r.latest m.lock) → IsPrefix m.history (latest m.lock) = λ m pre. dite (ℕ_discrete m.lock p)
         (λ e. subst (λ l. IsPrefix m.history l) (sym (latest_here m.lock e)) (longer_prefix m.history h (history y) (subst (λ l. IsPrefix m.history l) (ap r.latest e ∙ sym found) pre) grows))
@@ -220,12 +220,12 @@ module _ {T E K : Type 0} (law : K → ℕ → T → Type 0) (history : T → Li
 
   module _ (slots id p : ℕ) (within : place p < slots) where
     -- the word says something else, of a lock that as many seats have
-    says_it : (m : ℕ) → (s : St) → takers m ≡ takers (get_or s.words (place p) 0) → G s → length s.homes ≡ slots → (v : View E K) → get_elem? s.views id ≡ some v
+    says_it : (m : ℕ) → (s : St) → takers m ≡ takers (get_or s.words (place p) 0) → G s → length s.homes ≡ slots → (v : RowView E K) → get_elem? s.views id ≡ some v
         → G record { words = set s.words (place p) m; homes = s.homes; views = set s.views id v }
     says_it m s alike r wide v at =
         let sized = r.sized in let long : place p < length s.words = omega arith in
         let here : (q : ℕ) → q ≡ p → takers (get_or s.words (place q) 0) ≡ takers m = λ q e. ap takers (ap (λ i. get_or s.words (place i) 0) e) ∙ sym alike in
-        subst (λ (l : List (View E K)). G record { words = set s.words (place p) m; homes = s.homes; views = l }) (sym (set_again s.views id v at)) record {
+        subst (λ (l : List (RowView E K)). G record { words = set s.words (place p) m; homes = s.homes; views = l }) (sym (set_again s.views id v at)) record {
           latest = r.latest;
           sized = r.sized ∙ sym (length-set s.words (place p) m);
           counted = λ q. word_by s.words p m long (λ n. seats_with_lock q s.views ≡ takers n) q (λ e. r.counted q ∙ here q e) (λ ne. r.counted q);
@@ -251,7 +251,7 @@ module _ {T E K : Type 0} (law : K → ℕ → T → Type 0) (history : T → Li
         (λ hit.
         let sized = r.sized in
         let h = r.home p (omega arith) hit in
-        let w : View E K = took me.0 p (history h.0) in (
+        let w : RowView E K = took me.0 p (history h.0) in (
           w,
           takes (place p) (Some h.0),
           h.1,
@@ -279,7 +279,7 @@ module _ {T E K : Type 0} (law : K → ℕ → T → Type 0) (history : T → Li
     pub gives_rule : (me : Sat) (y : T) (h : List E) (hs : List (Front E)) (k : K) → me.1 ≡ (place p, Some y) ∷ rest me.1 → me.0.held ≡ front p h ∷ hs → me.0.about ≡ Some k → law k p y → IsPrefix h (history y)
         → Allows (G) slots id me (place p) (λ _. 0) (λ _. gives_lock history (step slots (place p) 0 0 none) me 0)
     gives_rule me y h hs k carries mine about lawful grows s r wide at _ =
-        let w : View E K = gave me.0 p (history y) in (
+        let w : RowView E K = gave me.0 p (history y) in (
           w,
           gives,
           tt,
@@ -289,9 +289,9 @@ module _ {T E K : Type 0} (law : K → ℕ → T → Type 0) (history : T → Li
               (ap (λ (x : T). gave me.0 p (history x)) one.1 ∙ ap (λ i. gave me.0 i (history z)) (one_place p q one.0), refl)),
         )
 
-  pub tells : (id : ℕ) (v : View E K) → v.held ≡ [] → Splits (G) id v (left_of v) (informed_row_view v)
+  pub tells : (id : ℕ) (v : RowView E K) → v.held ≡ [] → Splits (G) id v (left_of v) (informed_row_view v)
   tells id v idle s r at =
-      let each : (P : View E K → Type 0) → P (left_of v) → P (informed_row_view v) → ((i : ℕ) (u : View E K) → get_elem? s.views i ≡ some u → P u) → (i : ℕ) (u : View E K) → get_elem? (set s.views id (left_of v) ++ informed_row_view v ∷ []) i ≡ some u → P u =
+      let each : (P : RowView E K → Type 0) → P (left_of v) → P (informed_row_view v) → ((i : ℕ) (u : RowView E K) → get_elem? s.views i ≡ some u → P u) → (i : ℕ) (u : RowView E K) → get_elem? (set s.views id (left_of v) ++ informed_row_view v ∷ []) i ≡ some u → P u =
       λ P mine new old i u e. ⊎_elim (λ f. each_set s.views id (left_of v) P mine (λ i u e. old i u e) i u f) (λ is. subst P is new) (at_snoc (set s.views id (left_of v)) (informed_row_view v) u i e) in
       record {
         latest = r.latest;
@@ -306,11 +306,11 @@ module _ {T E K : Type 0} (law : K → ℕ → T → Type 0) (history : T → Li
         named = each (λ u. (k : K) → u.about ≡ Some k → k ≡ key) (r.named id v at) (r.named id v at) r.named;
       }
 
-  pub unites : (id : ℕ) (v : View E K) (other : ℕ) (w : View E K) → Joins (G) id v other w (united_row_view v w) nobody
+  pub unites : (id : ℕ) (v : RowView E K) (other : ℕ) (w : RowView E K) → Joins (G) id v other w (united_row_view v w) nobody
   unites id v other w s r at ne at' =
-      let both : View E K = united_row_view v w in
+      let both : RowView E K = united_row_view v w in
       let there : get_elem? s.views other ≡ some w = sym (set_else s.views id other both ne) ∙ at' in
-      let each : (P : View E K → Type 0) → P both → P nobody → ((i : ℕ) (u : View E K) → get_elem? s.views i ≡ some u → P u) → (i : ℕ) (u : View E K) → get_elem? (set (set s.views id both) other nobody) i ≡ some u → P u =
+      let each : (P : RowView E K → Type 0) → P both → P nobody → ((i : ℕ) (u : RowView E K) → get_elem? s.views i ≡ some u → P u) → (i : ℕ) (u : RowView E K) → get_elem? (set (set s.views id both) other nobody) i ≡ some u → P u =
       λ P b no old. each_set (set s.views id both) other nobody P no (each_set s.views id both P b old) in
       record {
         latest = r.latest;
@@ -362,8 +362,8 @@ module _ {T E K : Type 0} (law : K → ℕ → T → Type 0) (history : T → Li
       → G (opening words slots (first_row_view history key xs))
   unfolding start_of
   starts words slots xs long same zeros lie all =
-      let first : View E K = first_row_view history key xs in
-      let only : (P : View E K → Type 0) → P first → (i : ℕ) (u : View E K) → get_elem? (first ∷ []) i ≡ some u → P u = λ P h i u e. subst P (only_one first u i e) h in
+      let first : RowView E K = first_row_view history key xs in
+      let only : (P : RowView E K → Type 0) → P first → (i : ℕ) (u : RowView E K) → get_elem? (first ∷ []) i ≡ some u → P u = λ P h i u e. subst P (only_one first u i e) h in
       record {
         latest = λ q. start_of (slice_get xs q);
         sized = length-map slots some ∙ same;
@@ -389,17 +389,17 @@ module _ {T E K : Type 0} (law : K → ℕ → T → Type 0) (history : T → Li
   starts_with words slots xs ys e long same zeros lie all = subst (λ (zs : List (Option T)). G (opening words slots (first_row_view history key zs))) (sym e) (starts words slots xs long same zeros lie all)
 
   -- who has all parts, and no lock, knows that each value is at home, with a history that it has seen
-  pub all_home : (s : St) (r : G s) (id : ℕ) (v : View E K) → get_elem? s.views id ≡ some v → v.parts ≡ 16 → v.held ≡ []
+  pub all_home : (s : St) (r : G s) (id : ℕ) (v : RowView E K) → get_elem? s.views id ≡ some v → v.parts ≡ 16 → v.held ≡ []
       → (p : ℕ) → place p < length s.words → (x : T) × (get_elem? s.homes (place p) ≡ some (some (Some x))) × law key p x × ((h : List E) → Contains v.fronts (front p h) → IsPrefix h (history x)) × Contains v.fronts (front p (history x))
   all_home s r id v at all idle p below =
       let dealt : parts s.views ≡ 16 = r.dealt in
       let none : seats_with_lock p s.views ≡ 0 = none_held p s.views (λ i u e. dite (ℕ_discrete i id)
-      (λ same. (let is : v ≡ u = some-injective v u (sym at ∙ (ap (get_elem? s.views) (sym same) ∙ e)) in subst (λ (z : View E K). z.held ≡ []) is idle))
+      (λ same. (let is : v ≡ u = some-injective v u (sym at ∙ (ap (get_elem? s.views) (sym same) ∙ e)) in subst (λ (z : RowView E K). z.held ≡ []) is idle))
       (λ other. r.holder i u e (let two = parts_two s.views id i v u at e other in omega arith))) in
       let free = is_free _ (sym (r.counted p) ∙ none) in
       let h = r.home p below free in
       let last : Contains v.fronts (front p (r.latest p)) = (let w = r.seen p below free in dite (ℕ_discrete w.id id)
-      (λ same. (let is : v ≡ w.view = some-injective v w.view (sym at ∙ (ap (get_elem? s.views) (sym same) ∙ w.there)) in subst (λ (z : View E K). Contains z.fronts (front p (r.latest p))) (sym is) w.sees))
+      (λ same. (let is : v ≡ w.view = some-injective v w.view (sym at ∙ (ap (get_elem? s.views) (sym same) ∙ w.there)) in subst (λ (z : RowView E K). Contains z.fronts (front p (r.latest p))) (sym is) w.sees))
       (λ other. absurd (let two = parts_two s.views id w.id v w.view at w.there other in let some_part = w.part in omega arith))) in
       (h.0, h.1, h.2, (λ l c. subst (λ m. IsPrefix l m) (sym h.3) (r.known id v at (front p l) c)), subst (λ l. Contains v.fronts (front p l)) (sym h.3) last)
 

@@ -8,7 +8,7 @@ use native.Mathlib.Decide.{ℕ_discrete}
 use lib.ListN.{get_elem?}
 use Rattle.atomic_table.proofs.Lists.{at_longer, set_else}
 use Rattle.inst_row.specs.declared.view.Front.{Front}
-use Rattle.inst_row.specs.declared.view.View.{View}
+use Rattle.inst_row.specs.declared.view.RowView.{RowView}
 use Rattle.inst_row.specs.View.{front, fronts_of, informed_row_view, left_of, united_row_view, nobody}
 use Rattle.inst_row.specs.Rule.{IsSeen}
 
@@ -25,11 +25,11 @@ next_in : {A : Type 0} (x y : A) (l : List A) → Contains l y → Contains (x �
 next_in x y l c = Contains-append_right (x ∷ []) l y c
 
 module _ {E K : Type 0} where
-  same_view : (views : List (View E K)) (i j : ℕ) (v u : View E K) → i ≡ j → get_elem? views j ≡ some v → get_elem? views i ≡ some u → v ≡ u
+  same_view : (views : List (RowView E K)) (i j : ℕ) (v u : RowView E K) → i ≡ j → get_elem? views j ≡ some v → get_elem? views i ≡ some u → v ≡ u
   same_view views i j v u same at e = some-injective v u (sym at ∙ (ap (get_elem? views) (sym same) ∙ e))
 
   -- the seat's view changed, and it has seen no less
-  pub seen_set : (views : List (View E K)) (id : ℕ) (v w : View E K) (p : ℕ) (h : List E) → get_elem? views id ≡ some v → (0 < v.parts → 0 < w.parts)
+  pub seen_set : (views : List (RowView E K)) (id : ℕ) (v w : RowView E K) (p : ℕ) (h : List E) → get_elem? views id ≡ some v → (0 < v.parts → 0 < w.parts)
       → ((f : Front E) → Contains v.fronts f → Contains w.fronts f) → IsSeen views p h → IsSeen (set views id w) p h
   seen_set views id v w p h at part more s = dite (ℕ_discrete s.id id)
       (λ same.
@@ -38,24 +38,24 @@ module _ {E K : Type 0} where
         id = id;
         view = w;
         there = at_changed views id v w at;
-        part = part (subst (λ (u : View E K). 0 < u.parts) (sym is) s.part);
-        sees = more (front p h) (subst (λ (u : View E K). Contains u.fronts (front p h)) (sym is) s.sees);
+        part = part (subst (λ (u : RowView E K). 0 < u.parts) (sym is) s.part);
+        sees = more (front p h) (subst (λ (u : RowView E K). Contains u.fronts (front p h)) (sym is) s.sees);
       })
       (λ other. record { id = s.id; view = s.view; there = set_else views id s.id w other ∙ s.there; part = s.part; sees = s.sees })
 
   -- a part of the seat went to a new one
-  pub seen_told : (views : List (View E K)) (id : ℕ) (v : View E K) (p : ℕ) (h : List E) → get_elem? views id ≡ some v → IsSeen views p h
+  pub seen_told : (views : List (RowView E K)) (id : ℕ) (v : RowView E K) (p : ℕ) (h : List E) → get_elem? views id ≡ some v → IsSeen views p h
       → IsSeen (set views id (left_of v) ++ informed_row_view v ∷ []) p h
   seen_told views id v p h at s = dite (ℕ_discrete s.id id)
       (λ same.
       let is : v ≡ s.view = same_view views s.id id v s.view same at s.there in
-      let some_part : 0 < v.parts = subst (λ (u : View E K). 0 < u.parts) (sym is) s.part in
+      let some_part : 0 < v.parts = subst (λ (u : RowView E K). 0 < u.parts) (sym is) s.part in
       record {
         id = length (set views id (left_of v));
         view = informed_row_view v;
         there = at_end (set views id (left_of v)) (informed_row_view v);
         part = omega arith;
-        sees = subst (λ (u : View E K). Contains u.fronts (front p h)) (sym is) s.sees;
+        sees = subst (λ (u : RowView E K). Contains u.fronts (front p h)) (sym is) s.sees;
       })
       (λ other. record {
         id = s.id;
@@ -66,26 +66,26 @@ module _ {E K : Type 0} where
       })
 
   -- the other seat was joined to this one
-  pub seen_united : (views : List (View E K)) (id other : ℕ) (v w : View E K) (p : ℕ) (h : List E) → other ≢ id → get_elem? views id ≡ some v
+  pub seen_united : (views : List (RowView E K)) (id other : ℕ) (v w : RowView E K) (p : ℕ) (h : List E) → other ≢ id → get_elem? views id ≡ some v
       → get_elem? (set views id (united_row_view v w)) other ≡ some w → IsSeen views p h → IsSeen (set (set views id (united_row_view v w)) other nobody) p h
   seen_united views id other v w p h ne at at' before =
-      let both : View E K = united_row_view v w in
+      let both : RowView E K = united_row_view v w in
       let s = seen_set views id v both p h at (λ part. omega arith) (λ f c. Contains-append_left v.fronts w.fronts f c) before in
       dite (ℕ_discrete s.id other)
       (λ same.
       let is : w ≡ s.view = same_view (set views id both) s.id other w s.view same at' s.there in
-      let some_part : 0 < w.parts = subst (λ (u : View E K). 0 < u.parts) (sym is) s.part in
+      let some_part : 0 < w.parts = subst (λ (u : RowView E K). 0 < u.parts) (sym is) s.part in
       record {
         id = id;
         view = both;
         there = set_else (set views id both) other id nobody (λ e. ne (sym e)) ∙ at_changed views id v both at;
         part = omega arith;
-        sees = Contains-append_right v.fronts w.fronts (front p h) (subst (λ (u : View E K). Contains u.fronts (front p h)) (sym is) s.sees);
+        sees = Contains-append_right v.fronts w.fronts (front p h) (subst (λ (u : RowView E K). Contains u.fronts (front p h)) (sym is) s.sees);
       })
       (λ apart. record { id = s.id; view = s.view; there = set_else (set views id both) other s.id nobody apart ∙ s.there; part = s.part; sees = s.sees })
 
   -- the seat left this history behind the lock
-  pub seen_here : (views : List (View E K)) (id : ℕ) (v w : View E K) (p : ℕ) (h : List E) → get_elem? views id ≡ some v → 0 < w.parts
+  pub seen_here : (views : List (RowView E K)) (id : ℕ) (v w : RowView E K) (p : ℕ) (h : List E) → get_elem? views id ≡ some v → 0 < w.parts
       → Contains w.fronts (front p h) → IsSeen (set views id w) p h
   seen_here views id v w p h at part c = record { id = id; view = w; there = at_changed views id v w at; part = part; sees = c }
 

@@ -3,18 +3,18 @@ use Rattle.std.specs.Prelude.{◌≡◌, ℕ, true, false, slice_index_or, Some}
 use Rattle.std.specs.Mem.Slots.{slots_items, slots_filled}
 use mathlib.Core.Option.{some}
 use lib.ListN.{get_elem?}
-use Rattle.inst_row.specs.declared.ended.Ended.{Ended}
+use Rattle.inst_row.specs.declared.ended.EndedRow.{EndedRow}
 use Rattle.inst_row.specs.Place.{place}
 
 module _ {T : Type 0} where
-  abbrev pub locks_of : Ended T → ℕ
+  abbrev pub locks_of : EndedRow T → ℕ
   locks_of e = e.locks
 
   -- this value still lies behind the lock p
-  pub record Lies (p : ℕ) (x : T) (e : Ended T) : Type 0 where
+  pub record Lies (p : ℕ) (x : T) (e : EndedRow T) : Type 0 where
     pub there : slice_index_or (slots_filled e.closed.slots) (place p) false ≡ true
     pub value : get_elem? (slots_items e.closed.slots) (place p) ≡ some (Some x)
 
   -- what lay behind the lock p was taken out
-  abbrev pub IsOut : ℕ → Ended T → Type 0
+  abbrev pub IsOut : ℕ → EndedRow T → Type 0
   IsOut p e = slice_index_or (slots_filled e.closed.slots) (place p) false ≡ false

@@ -7,7 +7,7 @@ use mathlib.Core.List.{IsPrefix}
 use lib.ListN.{get_elem?}
 use Rattle.atomic_table.specs.Table.{State}
 use Rattle.inst_row.specs.declared.view.Front.{Front}
-use Rattle.inst_row.specs.declared.view.View.{View}
+use Rattle.inst_row.specs.declared.view.RowView.{RowView}
 use Rattle.inst_row.specs.Place.{place}
 use Rattle.inst_row.specs.View.{front, seats_with_lock, parts}
 use Rattle.inst_row.specs.declared.row.TheConstants.{MOST_SEATS}
@@ -19,9 +19,9 @@ takers zero = 0
 takers (suc n) = 1
 
 -- a seat that has a part has seen this beginning of the history behind the lock p
-pub record IsSeen {E K : Type 0} (views : List (View E K)) (p : ℕ) (h : List E) : Type 0 where
+pub record IsSeen {E K : Type 0} (views : List (RowView E K)) (p : ℕ) (h : List E) : Type 0 where
   pub id : ℕ
-  pub view : View E K
+  pub view : RowView E K
   pub there : get_elem? views id ≡ some view
   pub part : 0 < view.parts
   pub sees : Contains view.fronts (front p h)
@@ -37,7 +37,7 @@ pub record IsSeen {E K : Type 0} (views : List (View E K)) (p : ℕ) (h : List E
 -- holder: who has no part has no lock
 -- named: a seat knows what the row was told
 pub record Guarded {T E K : Type 0} (law : K → ℕ → T → Type 0) (history : T → List E) (key : K)
-    (s : State (Option T) (View E K)) : Type 0 where
+    (s : State (Option T) (RowView E K)) : Type 0 where
   pub latest : ℕ → List E
   pub sized : length s.homes ≡ length s.words
   pub counted : (p : ℕ) → seats_with_lock p s.views ≡ takers (slice_index s.words (place p))
@@ -46,13 +46,13 @@ pub record Guarded {T E K : Type 0} (law : K → ℕ → T → Type 0) (history 
       × (history x ≡ latest p)
   pub seen : (p : ℕ) → place p < length s.words → slice_index s.words (place p) ≡ 0 →
       IsSeen s.views p (latest p)
-  pub known : (id : ℕ) (v : View E K) → get_elem? s.views id ≡ some v → (f : Front E) →
+  pub known : (id : ℕ) (v : RowView E K) → get_elem? s.views id ≡ some v → (f : Front E) →
       Contains v.fronts f →
       IsPrefix f.history (latest f.lock)
-  pub mine : (id : ℕ) (v : View E K) → get_elem? s.views id ≡ some v → (f : Front E) →
+  pub mine : (id : ℕ) (v : RowView E K) → get_elem? s.views id ≡ some v → (f : Front E) →
       Contains v.held f →
       f.history ≡ latest f.lock
   pub dealt : parts s.views ≡ MOST_SEATS
-  pub holder : (id : ℕ) (v : View E K) → get_elem? s.views id ≡ some v → v.parts ≡ 0 → v.held ≡ []
-  pub named : (id : ℕ) (v : View E K) → get_elem? s.views id ≡ some v → (k : K) → v.about ≡ Some k →
+  pub holder : (id : ℕ) (v : RowView E K) → get_elem? s.views id ≡ some v → v.parts ≡ 0 → v.held ≡ []
+  pub named : (id : ℕ) (v : RowView E K) → get_elem? s.views id ≡ some v → (k : K) → v.about ≡ Some k →
       k ≡ key

@@ -3,14 +3,14 @@
 use Rattle.std.specs.Prelude.{◌≡◌, ◌⊎◌, ◌↔◌, ℕ, ◌+◌, ◌<◌, List, [], ◌∷◌, ◌++◌, Contains, Some, None}
 use mathlib.Core.List.{IsPrefix}
 use Rattle.atomic_table.specs.Seated.{TableId}
-use Rattle.inst_row.specs.declared.view.View.{View}
+use Rattle.inst_row.specs.declared.view.RowView.{RowView}
 use Rattle.inst_row.specs.declared.seat.RowSeat.{RowSeat}
 use Rattle.inst_row.specs.Place.{place}
 use Rattle.inst_row.specs.View.{front}
 use Rattle.inst_row.specs.declared.row.TheConstants.{MOST_SEATS}
 
 module _ {T E K : Type 0} where
-  abbrev pub view_of : RowSeat T E K → View E K
+  abbrev pub view_of : RowSeat T E K → RowView E K
   view_of s = s.seat.me.0
 
   -- the seat is on the row with this name, which was told of the key

@@ -3,7 +3,7 @@
 use Rattle.std.specs.Prelude.{ℕ, suc, ◌+◌, ◌-◌, min, cond, ◌==◌, List, [], ◌∷◌, ◌++◌, Option, Some}
 use Rattle.std.specs.Prelude.{None}
 use Rattle.inst_row.specs.declared.view.Front.{Front}
-use Rattle.inst_row.specs.declared.view.View.{View}
+use Rattle.inst_row.specs.declared.view.RowView.{RowView}
 use Rattle.inst_row.specs.declared.row.TheConstants.{MOST_SEATS}
 
 abbrev pub front : {E : Type 0} → ℕ → List E → Front E
@@ -15,12 +15,12 @@ fronts_at p [] = 0
 fronts_at p (f ∷ fs) = cond (f.lock == p) 1 0 + fronts_at p fs
 
 -- how many seats have the lock p
-abbrev pub seats_with_lock : {E K : Type 0} → ℕ → List (View E K) → ℕ
+abbrev pub seats_with_lock : {E K : Type 0} → ℕ → List (RowView E K) → ℕ
 seats_with_lock p [] = 0
 seats_with_lock p (v ∷ vs) = fronts_at p v.held + seats_with_lock p vs
 
 -- the parts of all seats
-abbrev pub parts : {E K : Type 0} → List (View E K) → ℕ
+abbrev pub parts : {E K : Type 0} → List (RowView E K) → ℕ
 parts [] = 0
 parts (v ∷ vs) = v.parts + parts vs
 
@@ -35,13 +35,13 @@ fronts_of history p (None ∷ xs) = fronts_of history (suc p) xs
 fronts_of history p (Some x ∷ xs) = front p (history x) ∷ fronts_of history (suc p) xs
 
 -- the first seat has all parts, and has seen the history of each value
-abbrev pub first_row_view : {T E K : Type 0} → (T → List E) → K → List (Option T) → View E K
+abbrev pub first_row_view : {T E K : Type 0} → (T → List E) → K → List (Option T) → RowView E K
 first_row_view history key values =
     record { about = Some key; parts = MOST_SEATS; held = []; fronts = fronts_of history 0 values }
 
 module _ {E K : Type 0} where
   -- after the lock p was taken, with the history h
-  abbrev pub took : View E K → ℕ → List E → View E K
+  abbrev pub took : RowView E K → ℕ → List E → RowView E K
   took v p h =
       record {
         about = v.about;
@@ -52,7 +52,7 @@ module _ {E K : Type 0} where
       }
 
   -- after the lock that was taken last was given back, with the history h
-  abbrev pub gave : View E K → ℕ → List E → View E K
+  abbrev pub gave : RowView E K → ℕ → List E → RowView E K
   gave v p h =
       record {
         about = v.about;
@@ -63,15 +63,15 @@ module _ {E K : Type 0} where
       }
 
   -- a new seat beside this one
-  abbrev pub informed_row_view : View E K → View E K
+  abbrev pub informed_row_view : RowView E K → RowView E K
   informed_row_view v =
       record { about = v.about; parts = min 1 v.parts; held = []; fronts = v.fronts }
 
   -- this one, once there is a new seat beside it
-  abbrev pub left_of : View E K → View E K
+  abbrev pub left_of : RowView E K → RowView E K
   left_of v = record { about = v.about; parts = v.parts - 1; held = v.held; fronts = v.fronts }
 
-  abbrev pub united_row_view : View E K → View E K → View E K
+  abbrev pub united_row_view : RowView E K → RowView E K → RowView E K
   united_row_view v w =
       record {
         about = v.about;
@@ -82,5 +82,5 @@ module _ {E K : Type 0} where
       }
 
   -- a seat that was joined away
-  abbrev pub nobody : View E K
+  abbrev pub nobody : RowView E K
   nobody = record { about = None; parts = 0; held = []; fronts = [] }

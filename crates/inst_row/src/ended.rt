@@ -10,7 +10,7 @@ use std::alloc::Global;
 
 /// The values of a row that has ended, by the numbers of their locks. Take each one out, and then
 /// call `free`.
-pub struct Ended<T> {
+pub struct EndedRow<T> {
     closed: Closed<Option<T>, Global>,
     locks: usize,
     ghost slots: { slots_len closed.slots ≡ place locks },
@@ -19,11 +19,11 @@ pub struct Ended<T> {
         slice_index_or (slots_filled closed.slots) k false ≡ false },
 }
 
-impl<T: Drop> Ended<T> {
+impl<T: Drop> EndedRow<T> {
     ghost use Rattle.inst_row.specs.Ended.{Lies, IsOut, locks_of};
 
     /// Empties the slots between those of the locks, so that only the values are left to take out.
-    pub(crate) fn of(mut closed: Closed<Option<T>, Global>, locks: usize) -> Ended<T>
+    pub(crate) fn of(mut closed: Closed<Option<T>, Global>, locks: usize) -> EndedRow<T>
         requires slots { slots_len closed.slots ≡ place locks }
         requires full { IsFull closed.slots }
         ensures locks { locks_of result ≡ locks }
@@ -36,7 +36,7 @@ impl<T: Drop> Ended<T> {
                 drop(closed.take(slot));
             }
         }
-        Ended { closed, locks }
+        EndedRow { closed, locks }
     }
 
     /// How many locks there were.
@@ -66,7 +66,7 @@ impl<T: Drop> Ended<T> {
     pub fn free(self)
         requires out { (p : ℕ) → p < locks_of self → IsOut p self }
     {
-        let Ended { closed, locks: _ } = self;
+        let EndedRow { closed, locks: _ } = self;
         closed.free();
     }
 }

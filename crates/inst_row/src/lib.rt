@@ -11,10 +11,10 @@ mod seat;
 mod steps;
 mod view;
 
-pub use ended::Ended;
+pub use ended::EndedRow;
 pub use lawful::Lawful;
 pub use row::{LockRow, MOST_SEATS};
 pub use row_start::RowStart;
 pub use rule::Guarding;
 pub use seat::RowSeat;
-pub use view::{Front, View};
+pub use view::{Front, RowView};

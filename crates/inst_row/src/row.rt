@@ -9,7 +9,7 @@ mod seating;
 use crate::lawful::Lawful;
 use crate::row_start::RowStart;
 use crate::rule::Guarding;
-use crate::view::View;
+use crate::view::RowView;
 use atomic_table::Table;
 use std::alloc::Global;
 
@@ -33,7 +33,7 @@ pub(crate) const STRIDE: usize = 8;
 /// ```
 #[derive(Drop)]
 pub struct LockRow<T, E, K, L: Lawful<T, E, K>> {
-    table: Table<Option<T>, View<E, K>, RowStart<T, K>, Guarding<L>, Global>,
+    table: Table<Option<T>, RowView<E, K>, RowStart<T, K>, Guarding<L>, Global>,
     locks: usize,
     ghost words: { table.shared.table_id.words ≡ place locks },
     ghost slots: { table.shared.table_id.slots ≡ place locks },

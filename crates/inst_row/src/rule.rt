@@ -1,6 +1,6 @@
 use crate::lawful::Lawful;
 use crate::row_start::RowStart;
-use crate::view::View;
+use crate::view::RowView;
 use atomic_table::TableRule;
 use std::marker::PhantomData;
 
@@ -11,7 +11,7 @@ pub struct Guarding<L> {
     law: PhantomData<L>,
 }
 
-impl<T, E, K, L: Lawful<T, E, K>> TableRule<Option<T>, View<E, K>, RowStart<T, K>> for Guarding<L> {
+impl<T, E, K, L: Lawful<T, E, K>> TableRule<Option<T>, RowView<E, K>, RowStart<T, K>> for Guarding<L> {
     ghost use Rattle.inst_row.specs.Rule.{Guarded};
     ghost use Rattle.inst_row.specs.View.{first_row_view};
 

@@ -1,15 +1,15 @@
 //! The kinds of step on a row, and what each tells the seat that takes it.
 use crate::lawful::Lawful;
-use crate::view::View;
+use crate::view::RowView;
 use atomic_table::{Join, Play, Split};
 use std::marker::PhantomData;
 
 /// The exchange that takes a lock, or finds it taken.
-pub struct Taking<L> {
+pub struct LockTaking<L> {
     law: PhantomData<L>,
 }
 
-impl<T, E, K, L: Lawful<T, E, K>> Play<Option<T>, View<E, K>> for Taking<L> {
+impl<T, E, K, L: Lawful<T, E, K>> Play<Option<T>, RowView<E, K>> for LockTaking<L> {
     ghost use Rattle.inst_row.specs.Steps.{takes_lock};
 
     ghost then = { takes_lock L.law L.history };
@@ -18,7 +18,7 @@ impl<T, E, K, L: Lawful<T, E, K>> Play<Option<T>, View<E, K>> for Taking<L> {
 /// The exchange that says that a seat waits for it.
 pub struct Awaiting;
 
-impl<T, E, K> Play<Option<T>, View<E, K>> for Awaiting {
+impl<T, E, K> Play<Option<T>, RowView<E, K>> for Awaiting {
     ghost use Rattle.inst_row.specs.Steps.{tells_nothing};
 
     ghost then = { tells_nothing };
@@ -29,16 +29,16 @@ pub struct Giving<L> {
     law: PhantomData<L>,
 }
 
-impl<T, E, K, L: Lawful<T, E, K>> Play<Option<T>, View<E, K>> for Giving<L> {
+impl<T, E, K, L: Lawful<T, E, K>> Play<Option<T>, RowView<E, K>> for Giving<L> {
     ghost use Rattle.inst_row.specs.Steps.{gives_lock};
 
     ghost then = { gives_lock L.history };
 }
 
 /// A new seat has seen as much, and gets one part.
-pub struct Tell;
+pub struct TellFront;
 
-impl<E, K> Split<View<E, K>> for Tell {
+impl<E, K> Split<RowView<E, K>> for TellFront {
     ghost use Rattle.inst_row.specs.View.{informed_row_view, left_of};
 
     ghost left = { left_of };
@@ -47,9 +47,9 @@ impl<E, K> Split<View<E, K>> for Tell {
 }
 
 /// One seat has seen what both had seen, with the parts of both.
-pub struct Unite;
+pub struct UniteSeats;
 
-impl<E, K> Join<View<E, K>> for Unite {
+impl<E, K> Join<RowView<E, K>> for UniteSeats {
     ghost use Rattle.inst_row.specs.View.{united_row_view, nobody};
 
     ghost both = { united_row_view };

@@ -8,7 +8,7 @@ pub struct Front<E> {
 }
 
 /// What a seat on the row has and has seen. Contracts speak of it; no value of it is made.
-pub struct View<E, K> {
+pub struct RowView<E, K> {
     /// What the row was told when it was made; a seat that was joined away knows nothing of it.
     pub about: Option<K>,
     /// How many of the row's parts it has.

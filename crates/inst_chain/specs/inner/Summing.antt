@@ -14,7 +14,7 @@ use Rattle.inst_chain.specs.Summing.{HasFirst}
 use Rattle.inst_chain.specs.declared.digest.Digest.{Digest}
 use Rattle.inst_chain.specs.declared.prefix.Prefix.{Prefix}
 use Rattle.inst_chain.specs.declared.summary.Seen.{Seen}
-use Rattle.inst_chain.specs.declared.summary.Tally.{Tally}
+use Rattle.inst_chain.specs.declared.summary.LineTally.{LineTally}
 use Rattle.inst_chain.specs.declared.summary.Reading.{Reading}
 
 -- the first of these lines, if there is one
@@ -37,7 +37,7 @@ AreDamaged lines right =
     → IsDamagedAfter file right
 
 -- the same, and their marks were checked
-pub record Tallies (tally : Tally) (lines : List (List ℕ)) : Type 0 where
+pub record Tallies (tally : LineTally) (lines : List (List ℕ)) : Type 0 where
   pub sees : Sees tally.seen lines
   pub checked : MatchOption tally.wrong (HasGoneThrough tally.checker lines) (AreDamaged lines)
 
@@ -58,7 +58,7 @@ pub record HasReadAll (reading : Reading) (file : List ℕ) : Type 0 where
   pub fits : reading.cutter.at < 2 ^ 64
 
 -- what a tally says of the marks, and whether the closed byte follows the lines
-abbrev pub IsChain : Tally → Bool → Result Digest Prefix → Type 0
+abbrev pub IsChain : LineTally → Bool → Result Digest Prefix → Type 0
 IsChain tally is_shut result = MatchOption tally.wrong
     (MatchResult result (λ digest. (is_shut ≡ true) × (tally.checker.sealed ≡ true)
     × (digest ≡ tally.seen.digest))

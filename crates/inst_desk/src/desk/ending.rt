@@ -9,7 +9,7 @@ ghost use Rattle.inst_desk.specs.declared.desk.opening.TheConstants.{MOST_HANDS}
 use super::Desk;
 use crate::hand::Hand;
 use crate::job::Job;
-use crate::rule::{Gathering, Queue, Seat, Taking};
+use crate::rule::{Gathering, Queue, DeskPass, Taking};
 use crate::tally::Tally;
 use std::sync::Wait;
 
@@ -33,7 +33,7 @@ fn join(queue: &Queue, hand: Hand, other: Hand) -> Hand
 }
 
 /// The jobs that lie on a desk whose only hand this is.
-fn drain<R: Wait>(rt: &R, queue: &Queue, seat: Seat, left: &mut Vec<Job>)
+fn drain<R: Wait>(rt: &R, queue: &Queue, seat: DeskPass, left: &mut Vec<Job>)
     requires on { IsPassOf queue.now seat }
     requires all { (view seat).parts ≡ MOST_HANDS }
     requires empty { left.old.items ≡ [] }

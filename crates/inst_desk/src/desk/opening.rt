@@ -6,7 +6,7 @@ ghost use Rattle.inst_desk.specs.Desk.{capacity_of, AreAllHandsOf, IsNewHand, Ma
 
 use super::Desk;
 use crate::hand::Hand;
-use crate::rule::{Dealing, Queue, Seat};
+use crate::rule::{Dealing, Queue, DeskPass};
 use inst_base::Fault;
 use std::alloc::{AllocError, Global};
 
@@ -17,7 +17,7 @@ pub const MOST_ROOM: u16 = 4_096;
 pub const MOST_HANDS: u8 = 16;
 
 /// A hand that neither put nor took.
-fn new_hand(seat: Seat) -> Hand
+fn new_hand(seat: DeskPass) -> Hand
     requires { ((view seat).put ≡ []) × ((view seat).taken ≡ []) }
     ensures { result.seat ≡ seat }
 {
@@ -30,7 +30,7 @@ fn new_hand(seat: Seat) -> Hand
 
 impl Desk {
     /// So many hands, the first with this seat; together they have all its parts.
-    fn hands(&self, alloc: Global, seat: Seat, hands: u8) -> Result<Vec<Hand>, AllocError>
+    fn hands(&self, alloc: Global, seat: DeskPass, hands: u8) -> Result<Vec<Hand>, AllocError>
         requires on { IsPassOf self.now.queue seat }
         requires first { view seat ≡ first_account }
         requires hands { (0 < hands) × (hands ≤ MOST_HANDS) }

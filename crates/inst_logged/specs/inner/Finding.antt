@@ -12,7 +12,7 @@ use Rattle.inst_logged.specs.inner.Failing.{FailsBy}
 use Rattle.inst_logged.specs.declared.error.LoggedError.{LoggedError}
 use Rattle.inst_logged.specs.declared.version.Version.{Version}
 use Rattle.inst_logged.specs.declared.version.Version.TheVariants.{One, Two}
-use Rattle.inst_logged.specs.declared.hub.examining.Found.{Found}
+use Rattle.inst_logged.specs.declared.hub.examining.LogFindings.{LogFindings}
 
 -- a log without marks is taken as it is; one with marks has no line, or its marks are right
 abbrev pub IsVerified : Version → List ℕ → Option Marker → Type 0
@@ -21,7 +21,7 @@ IsVerified Two file found =
     MatchOption found (recovered_lines file ≡ []) (λ marker. SealedBy file marker)
 
 -- the file's lines go so far, its marks are right, and it has the mark that was asked for
-pub record FindsInFile (version : Version) (wanted : Option Digest) (file : List ℕ) (found : Found) : Type
+pub record FindsInFile (version : Version) (wanted : Option Digest) (file : List ℕ) (found : LogFindings) : Type
     0 where
   pub extent : IsExtent file found.extent
   pub verified : IsVerified version file found.marker
@@ -31,7 +31,7 @@ pub record FindsInFile (version : Version) (wanted : Option Digest) (file : List
 -- however many were told, where its marks are wrong or it hasn't the mark that was asked for; or
 -- the disk failed.
 pub record IsExamined {D : Type 0} (disks : Ghosts D) (version : Version) (wanted : Option Digest)
-    (old new : D) (result : Result Found LoggedError) : Type 0 where
+    (old new : D) (result : Result LogFindings LoggedError) : Type 0 where
   pub found : IfOk result (λ found. HasKeptFaith disks new →
       FindsInFile version wanted (disks.seen old) found)
   pub cause : IfErr result (λ error. HasKeptFaith disks new → (header : List ℕ) (told : Option ℕ) →

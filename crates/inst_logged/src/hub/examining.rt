@@ -11,7 +11,7 @@ use std::alloc::Global;
 
 /// What a log was found to have.
 #[derive(Drop)]
-pub(crate) struct Found {
+pub(crate) struct LogFindings {
     /// How far its lines go.
     pub(crate) extent: Extent,
     /// What makes its next mark, if it has marks and a line.
@@ -29,7 +29,7 @@ pub(crate) fn examine<D: Disk>(
     version: Version,
     disk: &mut D,
     wanted: Option<Digest>,
-) -> Result<Found, LoggedError>
+) -> Result<LogFindings, LoggedError>
     requires usable { IsTrue (D.Disk.is_usable disk.old) }
     ensures { IsExamined D.Disk version wanted disk.old disk.new result }
 {
@@ -44,7 +44,7 @@ fn examine_unmarked<D: Disk>(
     alloc: Global,
     disk: &mut D,
     wanted: Option<Digest>,
-) -> Result<Found, LoggedError>
+) -> Result<LogFindings, LoggedError>
     requires usable { IsTrue (D.Disk.is_usable disk.old) }
     ensures { IsExamined D.Disk version.One wanted disk.old disk.new result }
 {
@@ -52,7 +52,7 @@ fn examine_unmarked<D: Disk>(
         return Err(LoggedError::OtherDigest);
     }
     let extent = survey(alloc, disk)?;
-    Ok(Found {
+    Ok(LogFindings {
         extent,
         marker: None,
     })
@@ -63,7 +63,7 @@ fn examine_marked<D: Disk>(
     alloc: Global,
     disk: &mut D,
     wanted: Option<Digest>,
-) -> Result<Found, LoggedError>
+) -> Result<LogFindings, LoggedError>
     requires usable { IsTrue (D.Disk.is_usable disk.old) }
     ensures { IsExamined D.Disk version.Two wanted disk.old disk.new result }
 {
@@ -72,5 +72,5 @@ fn examine_marked<D: Disk>(
         return Err(LoggedError::OtherDigest);
     }
     let Verified { extent, marker, .. } = verified;
-    Ok(Found { extent, marker })
+    Ok(LogFindings { extent, marker })
 }

@@ -5,7 +5,7 @@ ghost use Rattle.inst_row.specs.Seated.{IsOn, HasAll, HasSeen, GoesOn};
 ghost use Rattle.inst_row.specs.Row.{row_id, key_of, size};
 
 use super::LockRow;
-use crate::ended::Ended;
+use crate::ended::EndedRow;
 use crate::lawful::Lawful;
 use crate::seat::RowSeat;
 
@@ -13,7 +13,7 @@ impl<T: Drop, E, K, L: Lawful<T, E, K>> LockRow<T, E, K, L> {
     /// Ends the row. Who has all its parts knows that each value is there and keeps its law, with a
     /// history that it has seen and that goes on from all that it has seen. Take each one out, and
     /// then call `free`.
-    pub fn take_apart(self, seat: RowSeat<T, E, K>) -> Ended<T>
+    pub fn take_apart(self, seat: RowSeat<T, E, K>) -> EndedRow<T>
         requires on { IsOn (row_id self) (key_of self) seat }
         requires all { HasAll seat }
         ensures enough { locks_of result ≡ size self }
@@ -23,6 +23,6 @@ impl<T: Drop, E, K, L: Lawful<T, E, K>> LockRow<T, E, K, L> {
     {
         let LockRow { table, locks } = self;
         let RowSeat { seat } = seat;
-        Ended::of(table.close_with(seat), locks)
+        EndedRow::of(table.close_with(seat), locks)
     }
 }

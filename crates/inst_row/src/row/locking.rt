@@ -7,7 +7,7 @@ ghost use Rattle.inst_row.specs.Row.{row_id, key_of, size};
 use super::{LockRow, STRIDE};
 use crate::lawful::Lawful;
 use crate::seat::RowSeat;
-use crate::steps::{Awaiting, Giving, Taking};
+use crate::steps::{Awaiting, Giving, LockTaking};
 use std::sync::Wait;
 use std::thread::yield_now;
 
@@ -39,7 +39,7 @@ impl<T, E, K, L: Lawful<T, E, K>> LockRow<T, E, K, L> {
         let shared = &self.table.shared;
         let place = lock * STRIDE;
         for _ in 0..TRIES {
-            if shared.compare_exchange::<Taking<L>>(&mut seat.seat, place, 0, word) == 0 {
+            if shared.compare_exchange::<LockTaking<L>>(&mut seat.seat, place, 0, word) == 0 {
                 return shared.exchange(&mut seat.seat, place, None);
             }
             yield_now();

@@ -6,7 +6,7 @@ ghost use Rattle.inst_row.specs.Row.{row_id, key_of, size};
 use super::LockRow;
 use crate::lawful::Lawful;
 use crate::seat::RowSeat;
-use crate::steps::{Tell, Unite};
+use crate::steps::{TellFront, UniteSeats};
 
 impl<T, E, K, L: Lawful<T, E, K>> LockRow<T, E, K, L> {
     /// A new seat with one of the seat's parts, which has seen as much. A seat that gave its last
@@ -20,7 +20,7 @@ impl<T, E, K, L: Lawful<T, E, K>> LockRow<T, E, K, L> {
         ensures halves { Halves seat.old seat.new result }
     {
         RowSeat {
-            seat: self.table.shared.split_seat::<Tell>(&mut seat.seat),
+            seat: self.table.shared.split_seat::<TellFront>(&mut seat.seat),
         }
     }
 
@@ -37,7 +37,7 @@ impl<T, E, K, L: Lawful<T, E, K>> LockRow<T, E, K, L> {
         ensures sees { SeesBoth seat.old other seat.new }
     {
         let RowSeat { seat: other } = other;
-        self.table.shared.join_seat::<Unite>(&mut seat.seat, other);
+        self.table.shared.join_seat::<UniteSeats>(&mut seat.seat, other);
     }
 
     /// Each has then seen what either had.

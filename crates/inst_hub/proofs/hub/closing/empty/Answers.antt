@@ -4,7 +4,7 @@ use Rattle.std.proofs.lemmas.Bool.{cases_eq}
 use mathlib.Core.Option.{some-injective}
 use Rattle.inst_journal.specs.declared.event.Event.{Event}
 use Rattle.inst_journal.specs.Sound.{IsSound}
-use Rattle.inst_row.specs.declared.ended.Ended.{Ended}
+use Rattle.inst_row.specs.declared.ended.EndedRow.{EndedRow}
 use Rattle.inst_row.specs.Ended.{Lies, IsOut}
 use Rattle.inst_row.specs.Row.{key_of, size}
 use Rattle.inst_row.specs.Seated.{HasSeen, GoesOn}
@@ -14,7 +14,7 @@ use Rattle.inst_participant.specs.declared.participant.Participant.{Participant}
 use Rattle.inst_hub.proofs.JoinedSeatsOfTellers.{one_out}
 use Rattle.inst_hub.proofs.hub.closing.empty.Goals as goal
 
-same_value : {T : Type 0} (p : ℕ) (x y : T) (e : Ended T) → Lies p x e → Lies p y e → x ≡ y
+same_value : {T : Type 0} (p : ℕ) (x y : T) (e : EndedRow T) → Lies p x e → Lies p y e → x ≡ y
 same_value p x y e one two = let is : Some x ≡ Some y = some-injective (Some x) (Some y) (sym one.value ∙ two.value) in cc
 
 pub take-requires : goal.take-requires
