@@ -27,7 +27,7 @@ impl<const N: usize> Model for ShortText<N> {
 
     ghost view = { λ text. take text.len text.bytes };
 
-    ghost invariant = { λ text. IsKept N text.bytes text.len };
+    ghost invariant = { λ text. IsPaddedText N text.bytes text.len };
 
     ghost inverse = { λ xs. record { bytes = xs ++ replicate (N - length xs) 0; len = length xs } };
 

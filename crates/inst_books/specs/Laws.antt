@@ -1,5 +1,5 @@
 -- The laws of books as text: what is written is read as it was. They are this hub's own promises.
-use Rattle.std.specs.Prelude.{◌≡◌, ℕ, Bool, true, ◌==◌, if◌then◌else◌, Result, Ok}
+use Rattle.std.specs.Prelude.{◌≡◌, ℕ, Bool, true, ◌&&◌, ◌==◌, if◌then◌else◌, Result, Ok}
 use Rattle.std.specs.Prelude.{Err, IsOkAnd}
 use Rattle.std.specs.Prelude.{List, [], ◌∷◌, length, get_or, take, flat_map}
 use Rattle.std.specs.List.{list_all}

@@ -21,7 +21,7 @@ pub(crate) fn workers(
 ) -> Result<Vec<Worker>, AllocError>
     requires { length tellers.items ≡ length hands.items }
     ensures hands { IfOk result (λ all. hands_of all.items ≡ hands.items) }
-    ensures tellers { IfOk result (λ all. tellers_of all.items ≡ tellers.items) }
+    ensures tellers { IfOk result (λ all. workers_tellers all.items ≡ tellers.items) }
 {
     let mut all = Vec::new(alloc);
     let mut tellers = tellers.into_iter();

@@ -43,7 +43,7 @@ pub fn first_batch(
     ensures batch { IfOk result (λ heading. IsBatch heading.batch.items) }
     ensures items { IfOk result (λ heading.
         heading.batch.items ≡ header version mode settings.now) }
-    ensures marker { IfOk result (λ heading. BeginsBy version heading.batch.items heading.marker) }
+    ensures marker { IfOk result (λ heading. BeginsWithMarker version heading.batch.items heading.marker) }
 {
     let lines = settings_line(alloc, version, mode, settings, None)?;
     close_heading(version, lines)
@@ -62,7 +62,7 @@ pub fn first_batch_from(
     ensures batch { IfOk result (λ heading. IsBatch heading.batch.items) }
     ensures items { IfOk result (λ heading.
         heading.batch.items ≡ header_from version mode settings.now journals.now) }
-    ensures marker { IfOk result (λ heading. BeginsBy version heading.batch.items heading.marker) }
+    ensures marker { IfOk result (λ heading. BeginsWithMarker version heading.batch.items heading.marker) }
     // So a start finds the log again.
     ensures again { IfOk result (λ _. IsSettings settings.now →
         CanBeginFrom settings.now journals.now) }
@@ -87,7 +87,7 @@ fn close_heading(version: Version, mut lines: Vec<u8>) -> Result<Heading, AllocE
     ensures batch { IfOk result (λ heading. IsBatch heading.batch.items) }
     ensures items { IfOk result (λ heading.
         heading.batch.items ≡ at_rest (lines_and_mark version (recovered_lines lines.items))) }
-    ensures marker { IfOk result (λ heading. BeginsBy version heading.batch.items heading.marker) }
+    ensures marker { IfOk result (λ heading. BeginsWithMarker version heading.batch.items heading.marker) }
 {
     // No line of settings or of books is a mark: this is never reached.
     if has_mark(&lines) {
@@ -109,7 +109,7 @@ fn mark_heading(version: Version, lines: &mut Vec<u8>) -> Result<Marker, AllocEr
     ensures whole { OnOk result (AreWholeLines lines.new.items) }
     ensures lines { OnOk result (recovered_lines lines.new.items
         ≡ lines_and_mark version (recovered_lines lines.old.items)) }
-    ensures marker { IfOk result (λ marker. BeginsBy version lines.new.items marker) }
+    ensures marker { IfOk result (λ marker. BeginsWithMarker version lines.new.items marker) }
 {
     let mut marker = Marker::new();
     match version {

@@ -39,7 +39,7 @@ impl Intake {
 
     /// Nothing was read yet.
     pub(crate) fn new(alloc: Global) -> Result<Intake, AllocError>
-        ensures { IfOk result (λ intake. held intake ≡ []) }
+        ensures { IfOk result (λ intake. line_part intake ≡ []) }
     {
         let bytes = vec![in alloc; 0; BUFFER_BYTES]?;
         Ok(Intake { bytes, len: 0 })

@@ -39,7 +39,7 @@ fn bare_command_line<'a>(alloc: Global) -> Command<'a>
 /// The subcommand of a row.
 fn subcommand<'a>(alloc: Global, row: &Subcommand) -> Result<Command<'a>, AllocError>
     ensures shape { IfOk result (λ command. app_of command ≡ app_of_row row.now) }
-    ensures local { IfOk result (λ command. IsLocal command) }
+    ensures local { IfOk result (λ command. HasOwnOptions command) }
 {
     let mut command = Command::new(alloc, row.name)
         .about(row.about)

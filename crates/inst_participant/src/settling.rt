@@ -24,7 +24,7 @@ pub fn settle<B: Board>(slot: &mut Slot, board: &mut B) -> Result<u32, AllocErro
     ensures ready { IsReadyToSettle B.settings B.knows B.has_role board.new slot.new }
     ensures later { IsLater B.settings B.knows B.has_role B.stays board.old slot.old board.new
         slot.new }
-    ensures settled { IfOk result (λ _. IsSettled B.knows board.new slot.new) }
+    ensures settled { IfOk result (λ _. HasSettledAll B.knows board.new slot.new) }
     ensures count { IfOk result (λ count. count ≡ new_events slot.old.events slot.new.events) }
     ensures sound { IsSound slot.new.settings slot.new.who slot.new.events }
 {
@@ -40,7 +40,7 @@ fn settle_all<B: Board>(slot: &mut Slot, board: &mut B) -> Result<(), AllocError
     ensures ready { IsReadyToSettle B.settings B.knows B.has_role board.new slot.new }
     ensures later { IsLater B.settings B.knows B.has_role B.stays board.old slot.old board.new
         slot.new }
-    ensures settled { IfOk result (λ _. IsSettled B.knows board.old slot.new) }
+    ensures settled { IfOk result (λ _. HasSettledAll B.knows board.old slot.new) }
 {
     learn_own(slot, board)?;
     learn_arrived(slot, board)?;
@@ -68,7 +68,7 @@ fn deliver_at<B: Board>(slot: &mut Slot, board: &mut B, place: Place) -> Result<
     ensures ready { IsReadyToSettle B.settings B.knows B.has_role board.new slot.new }
     ensures later { IsLater B.settings B.knows B.has_role B.stays board.old slot.old board.new
         slot.new }
-    ensures come { IfOk result (λ _. HasCome B.knows board.old place slot.new) }
+    ensures come { IfOk result (λ _. HasArrived B.knows board.old place slot.new) }
 {
     slot.deliver(board, place)?;
     Ok(())

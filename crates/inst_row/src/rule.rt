@@ -17,5 +17,5 @@ impl<T, E, K, L: Lawful<T, E, K>> TableRule<Option<T>, RowView<E, K>, RowStart<T
 
     ghost holds = { λ key s. Guarded L.law L.history key.about.value s };
 
-    ghost first = { λ key. first_view L.history key.about.value key.values.value.items };
+    ghost first = { λ key. first_row_view L.history key.about.value key.values.value.items };
 }

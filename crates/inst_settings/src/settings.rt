@@ -35,7 +35,7 @@ impl Model for Settings {
 
     ghost Value = { HubSettings };
 
-    ghost view = { λ s. settings_of s.codes.items s.numbers };
+    ghost view = { λ s. settings_from s.codes.items s.numbers };
 
     ghost invariant = { λ s. IsSettings (settings_from s.codes.items s.numbers)
         × TellsAll s.codes.items s.finder.table };

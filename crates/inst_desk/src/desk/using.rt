@@ -34,7 +34,7 @@ impl Desk {
         ensures of { IsHandOf self.now hand.new }
         ensures same { IsSameHand hand.old hand.new }
         ensures put { put_of hand.new ≡ put_of hand.old }
-        ensures taken { IfSome result (λ job. taken_of hand.new ≡ jobs_taken hand.old ++ job ∷ []) }
+        ensures taken { IfSome result (λ job. jobs_taken hand.new ≡ jobs_taken hand.old ++ job ∷ []) }
         ensures lay { IfSome result (λ job. LiesFirst (account_of hand.old) job) }
         ensures unchanged { result ≡ None → jobs_taken hand.new ≡ jobs_taken hand.old }
         ensures none { result ≡ None → WasEmpty hand.old }

@@ -109,7 +109,7 @@ impl Hub {
             AreNew (row_id r.0.row) (key_of r.0.row)
             (first_fronts (participants settings) (histories_from journals.now)) r.1.items) }
         ensures parts { IfOk result (λ r. HaveAllParts r.1.items) }
-        ensures opened { IfOk result (λ r. HasOpened (FromBooks (books_of journals.now)) r.0) }
+        ensures opened { IfOk result (λ r. HasOpenedHub (FromBooks (books_of journals.now)) r.0) }
         ensures bad { (result ≡ Err Fault.BadSettings) ↔ ¬ MayOpen tellers }
         ensures only { IfErr result (λ e. (e ≡ Fault.Memory) ⊎ (e ≡ Fault.BadSettings)) }
     {

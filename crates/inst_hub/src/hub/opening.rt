@@ -108,7 +108,7 @@ impl Hub {
             AreNew (row_id r.0.row) (key_of r.0.row) (first_fronts (participants settings) (λ p.
             [])) r.1.items) }
         ensures parts { IfOk result (λ r. HaveAllParts r.1.items) }
-        ensures opened { IfOk result (λ r. HasOpened First r.0) }
+        ensures opened { IfOk result (λ r. HasOpenedHub First r.0) }
         ensures bad { (result ≡ Err Fault.BadSettings) ↔ ¬ MayOpen tellers }
         ensures only { IfErr result (λ e. (e ≡ Fault.Memory) ⊎ (e ≡ Fault.BadSettings)) }
     {

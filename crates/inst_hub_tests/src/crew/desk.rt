@@ -40,7 +40,7 @@ fn open(alloc: Global) -> Result<(Desk, Hand), Fault>
 fn put_three<R: Wait>(rt: &R, desk: &Desk, hand: &mut Hand) -> Result<[Option<u32>; 3], Fault>
     requires { IsHandOf desk.now hand.old }
     ensures of { IfOk result (λ r. IsHandOf desk.now hand.new) }
-    ensures parts { IfOk result (λ r. parts_of hand.new ≡ hand_parts hand.old) }
+    ensures parts { IfOk result (λ r. hand_parts hand.new ≡ hand_parts hand.old) }
 {
     let first = desk.put(rt, hand, job(1)?).err();
     let second = desk.put(rt, hand, job(2)?).err();
