@@ -48,7 +48,7 @@ pub record IsFound (key : InitialState) (p : ℕ) (s mid : Seat) (x : Participan
 pub out_of_box : (key : InitialState) (p : ℕ) (s mid : Seat) (b : Box Participant) (x : Participant) → x ≡ b.value → IsSince key p b.value → GoesOn p b.value.slot.events s
     → Has p b.value.slot.events mid → Sees p b.value.slot.events s mid → IsFound key p s mid x
 out_of_box key p s mid b x is law goes_on has sees =
-    let found : IsFound key p s mid b.value = record { law = law; goes_on = goes_on; has = has; sees = sight_knows } in
+    let found : IsFound key p s mid b.value = record { law = law; goes_on = goes_on; has = has; sees = sees } in
     subst (λ (y : Participant). IsFound key p s mid y) (sym is) found
 
 module _ {T E K : Type 0} where

@@ -148,9 +148,9 @@ answer_written s O L (Deliver from index to) lawful opening steps fits = refl
 answer_written s O L (Learn who from index) lawful opening steps fits = refl
 answer_written s O L (Expire who index at) lawful opening steps fits = refl
 
-pub model_written : (s : HubSettings) (step : Step) (told : Answer) → step_fits s step ≡ true → IsOfModel s step reply_result → answer_can_be_written s reply_result ≡ true
-model_written s step reply_result fits of = ap (answer_can_be_written s) of.answer_is ∙ answer_written s of.opening of.steps step of.lawful of.is_opening of.is_interleaving fits
+pub model_written : (s : HubSettings) (step : Step) (told : Answer) → step_fits s step ≡ true → IsOfModel s step told → answer_can_be_written s told ≡ true
+model_written s step told fits of = ap (answer_can_be_written s) of.answer_is ∙ answer_written s of.opening of.steps step of.lawful of.is_opening of.is_interleaving fits
 
-pub result_written : (s : HubSettings) (step : Step) (result : Result Answer AllocError) → step_fits s step ≡ true → IfOk result (IsOfModel s step) → IfOk result (λ reply_result. answer_can_be_written s reply_result ≡ true)
-result_written s step (Ok reply_result) fits of = model_written s step reply_result fits of
+pub result_written : (s : HubSettings) (step : Step) (result : Result Answer AllocError) → step_fits s step ≡ true → IfOk result (IsOfModel s step) → IfOk result (λ told. answer_can_be_written s told ≡ true)
+result_written s step (Ok told) fits of = model_written s step told fits of
 result_written s step (Err fault) fits of = tt

@@ -91,7 +91,7 @@ module _ (old : Replies → Type 0) (before : Option (List ℕ)) (batches : List
         all = all;
         tells = record { told = []; handed = Appends-keeps before before (Keeps-same before); whole = none };
         on = λ f said. (f, said, λ more. ap (λ (l : List ℕ). l ++ f more) (sym (none f said)));
-        kept = lines_after_settings;
+        kept = kept;
       }
 
   -- one batch more

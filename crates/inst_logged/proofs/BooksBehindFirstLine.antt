@@ -132,11 +132,11 @@ same_books a b same = λ i p. at p i
     events (Some es) = es
 
     kept : (o : Option History) → kept_by o ≡ events (option_map (λ journal. journal.events) o)
-    lines_after_settings None = refl
-    lines_after_settings (Some journal) = refl
+    kept None = refl
+    kept (Some journal) = refl
 
     by_events : (journals : List History) (p : ℕ) → books_of journals p ≡ events (slice_get (all_events journals) p)
-    by_events journals p = lines_after_settings (slice_get journals p) ∙ ap events (sym (slice_get-map (λ journal. journal.events) journals p))
+    by_events journals p = kept (slice_get journals p) ∙ ap events (sym (slice_get-map (λ journal. journal.events) journals p))
 
     at : (p : ℕ) → books_of a p ≡ books_of b p
     at p = by_events a p ∙ ap (λ (ess : List (List Event)). events (slice_get ess p)) same ∙ sym (by_events b p)
@@ -227,16 +227,16 @@ marked_long One lines = omega arith
 marked_long Two lines = omega (arith, length-append lines (mark_of (blocks lines) ∷ []))
 
 pub has_books : (version : Version) (s : HubSettings) (journals : List History) (line : List ℕ) (kept : Lines) (file text : List ℕ) (k : ℕ) → length (lines_of_books s journals) + 2 ≤ k
-    → recovered_lines file ≡ lines_and_mark version (line ∷ lines_of_books s journals) ++ lines_after_settings → text ≡ blocks (take k (recovered_lines file)) → HasBooks version s journals text
-has_books version s journals line lines_after_settings file text k long begins is =
+    → recovered_lines file ≡ lines_and_mark version (line ∷ lines_of_books s journals) ++ kept → text ≡ blocks (take k (recovered_lines file)) → HasBooks version s journals text
+has_books version s journals line kept file text k long begins is =
     let first = lines_and_mark version (line ∷ lines_of_books s journals) in
     let split : k ≡ length first + (k - length first) = omega (arith, marked_long version (line ∷ lines_of_books s journals)) in
     let lines : recovered_lines text ≡ take k (recovered_lines file) = ap recovered_lines is ∙ lines_back (take k (recovered_lines file)) (all_take k (recovered_lines file) (all_lines file)) in
     record {
       line = line;
-      rest = take (k - length first) lines_after_settings;
+      rest = take (k - length first) kept;
       whole = is ∙ ap blocks (sym lines);
-      lines = lines ∙ ap (take k) begins ∙ ap (λ (n : ℕ). take n (first ++ lines_after_settings)) split ∙ take-append-add first lines_after_settings (k - length first);
+      lines = lines ∙ ap (take k) begins ∙ ap (λ (n : ℕ). take n (first ++ kept)) split ∙ take-append-add first kept (k - length first);
     }
 
 -- ---- the first line that was read

@@ -207,7 +207,7 @@ module _ {B : Type 0} (settings : B → HubSettings) (knows : B → Fact → Typ
 
       go : (o : Option ℕ) → cond (from == book.who) (position (takes id) (live_taken book.who book.events)) (arrived_at from id book.arrivals) ≡ o → ticket ≡ place_with_index from o
           → IsTicket sees s book.who command book.events (State from id state) ticket
-      go None e told = subst (IsTicket sees s book.who command book.events (State from id state)) (sym reply_result) (unplaced b book s from id lawful adopted replied.sound party (from == book.who) refl e)
-      go (Some index) e told = subst (IsTicket sees s book.who command book.events (State from id state)) (sym reply_result)
+      go None e told = subst (IsTicket sees s book.who command book.events (State from id state)) (sym told) (unplaced b book s from id lawful adopted replied.sound party (from == book.who) refl e)
+      go (Some index) e told = subst (IsTicket sees s book.who command book.events (State from id state)) (sym told)
           (let lies = lies_there book from id index (from == book.who) refl e in
-          (refl, lies_live b book from id index lawful lies, in_state b book s from id index state sees lawful replied.sound lies (seen (place_at from index) reply_result) outcome))
+          (refl, lies_live b book from id index lawful lies, in_state b book s from id index state sees lawful replied.sound lies (seen (place_at from index) told) outcome))

@@ -116,10 +116,10 @@ module _ {D : Type 0} (disks : Ghosts D) (run : KeptRun) (hub after : LoggedHub 
 
     front_on : HasKeptFaith disks disk' → SurvivesEachCrash disks run.told hub after t → IsLogTaken hub.version hub.header.items run.told wanted (file_of disks hub)
         → AnswersAFront run t ((d : D) → IsTrue (disks.is_mixing d)) (change_on disks disk disk')
-    front_on is lines_after_settings taken =
+    front_on is kept taken =
         let was = faithful (faithful' is) in
         let survives = subst (λ (file : List ℕ). SurvivesACrash run.mode went hub.header.items run.told file (disks.may_leave (disk_of after)) t.left t.left' t.held t.held') left.same
-        (subst (λ (m : Mode). SurvivesACrash m went hub.header.items run.told (file_of disks hub) (disks.may_leave (disk_of after)) t.left t.left' t.held t.held') of_mode (lines_after_settings.survives went has_gone)) in
+        (subst (λ (m : Mode). SurvivesACrash m went hub.header.items run.told (file_of disks hub) (disks.may_leave (disk_of after)) t.left t.left' t.held t.held') of_mode (kept.survives went has_gone)) in
         let k = survives.kept in
         record {
           version = hub.version;
@@ -134,9 +134,9 @@ module _ {D : Type 0} (disks : Ghosts D) (run : KeptRun) (hub after : LoggedHub 
             kept = record { told = k.told; handed = k.handed; kept = λ file may. k.kept file (left_at_once disks stay disk (disk_of after) disk' left' file may) };
           };
           begins = λ begins file may.
-              lines_after_settings.begins (subst (λ (f : List ℕ). Begins hub.header.items f) (sym left.same) begins) file (left_at_once disks stay disk (disk_of after) disk' left' file may);
+              kept.begins (subst (λ (f : List ℕ). Begins hub.header.items f) (sym left.same) begins) file (left_at_once disks stay disk (disk_of after) disk' left' file may);
           intact = λ mixes intact file may.
-              lines_after_settings.intact mixes (subst (λ (f : List ℕ). IsIntact hub.version f) (sym left.same) intact) file (left_at_once disks stay disk (disk_of after) disk' left' file may);
+              kept.intact mixes (subst (λ (f : List ℕ). IsIntact hub.version f) (sym left.same) intact) file (left_at_once disks stay disk (disk_of after) disk' left' file may);
         }
 
     as_before : HasSameFile disks (disk_of hub) (disk_of after) → IsAsItWas (change_on disks disk disk')
@@ -161,7 +161,7 @@ module _ {D : Type 0} (disks : Ghosts D) (run : KeptRun) (hub after : LoggedHub 
       front = λ is.
           elim (stops.begun (faithful' is)) [
             | inl still ↦ inl (still.0.0, still.0.1, as_before still.1)
-            | inr taken ↦ inr (front_on is (lines_after_settings (faithful' is)) taken)
+            | inr taken ↦ inr (front_on is (kept (faithful' is)) taken)
           ];
     }
 

@@ -51,10 +51,10 @@ IsKept own world = IsWorld world × (world.board.settings ≡ own) × IsSettings
 
 -- it stays true by a step from a world that a contract saw so
 pub still_kept : {A : Type 0} (told : A → Answer) (own : HubSettings) (old seen new : World) (step : Step) (result : Result A AllocError) → IsKept own old → old ≡ seen → IsWorld new
-    → RunsOrNeedsMemory reply_result seen step result new → IsKept own new
-still_kept reply_result own old seen new step result kept saw whole ran =
+    → RunsOrNeedsMemory told seen step result new → IsKept own new
+still_kept told own old seen new step result kept saw whole ran =
     let was = subst (IsKept own) saw kept in
-    (whole, ran.settings ∙ was.1, subst IsSettings (sym ran.settings) was.2, goes_on reply_result seen new step result was.3 ran)
+    (whole, ran.settings ∙ was.1, subst IsSettings (sym ran.settings) was.2, goes_on told seen new step result was.3 ran)
 
 -- who asks what fits is a participant
 pub asker : (s : HubSettings) (ask : AskValue) → ask_fits s ask ≡ true → is_participant s ask.who ≡ true
@@ -200,18 +200,18 @@ module _ (books : List Book) (b c : Contents) (i : ℕ) (slot new : Book) (seen 
       }
 
 -- what was run of the step that was matched was run of the step
-pub ran_matched : {A : Type 0} (told : A → Answer) (old new : World) (step matched : Step) (x : A) → step ≡ matched → RunsOrNeedsMemory reply_result old matched (Ok x) new → RunsOrNeedsMemory (λ (answer : Answer). answer) old step (Ok (reply_result x)) new
-ran_matched reply_result old new step matched x is ran = record {
-  ok = subst (λ (s : Step). Runs old s (reply_result x) new) (sym is) ran.ok;
+pub ran_matched : {A : Type 0} (told : A → Answer) (old new : World) (step matched : Step) (x : A) → step ≡ matched → RunsOrNeedsMemory told old matched (Ok x) new → RunsOrNeedsMemory (λ (answer : Answer). answer) old step (Ok (told x)) new
+ran_matched told old new step matched x is ran = record {
+  ok = subst (λ (s : Step). Runs old s (told x) new) (sym is) ran.ok;
   err = tt;
   memory = tt;
   settings = ran.settings;
 }
 
 pub refused_matched : {A : Type 0} (Q : AllocError → Type 0) (told : A → Answer) (old new : World) (step matched : Step) (e : AllocError) (passed_on : Result Answer AllocError) → step ≡ matched → IsErrAnd passed_on Q
-    → RunsOrNeedsMemory reply_result old matched (Err e) new → RunsOrNeedsMemory (λ (answer : Answer). answer) old step passed_on new
-refused_matched Q reply_result old new step matched e (Ok x) is fails ran = absurd fails
-refused_matched Q reply_result old new step matched e (Err f) is fails ran = record {
+    → RunsOrNeedsMemory told old matched (Err e) new → RunsOrNeedsMemory (λ (answer : Answer). answer) old step passed_on new
+refused_matched Q told old new step matched e (Ok x) is fails ran = absurd fails
+refused_matched Q told old new step matched e (Err f) is fails ran = record {
   ok = tt;
   err = ran.err;
   memory = subst (λ (s : Step). TakesMemory old s) (sym is) ran.memory;

@@ -1,7 +1,7 @@
 use Rattle.std.proofs.Common.{sym, ◌∙◌}
 use Rattle.inst_chain.proofs.SummaryOfLines.{longer_wrong, none_wrong, wrong_now}
 use Rattle.inst_log.specs.Layout.{recovered_lines}
-use Rattle.inst_chain.proofs.summary.Tally.add.Goals as goal
+use Rattle.inst_chain.proofs.summary.LineTally.add.Goals as goal
 
 pub returns-then-is_some : goal.returns-then-is_some
 returns-then-is_some c = λ done t. record {

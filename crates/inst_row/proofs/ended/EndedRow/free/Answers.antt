@@ -5,7 +5,7 @@ use mathlib.Core.Logic.{dite}
 use native.Mathlib.Decide.{ℕ_discrete}
 use Rattle.std.proofs.lemmas.Nat.{div-add-mod'}
 use Rattle.inst_row.specs.Place.{place}
-use Rattle.inst_row.proofs.ended.Ended.free.Goals as goal
+use Rattle.inst_row.proofs.ended.EndedRow.free.Goals as goal
 
 pub free-requires : goal.free-requires
 free-requires g c = λ k below.

@@ -1,5 +1,5 @@
 use Rattle.std.proofs.Common.{rules}
-use Rattle.inst_row.proofs.ended.Ended.take.Goals as goal
+use Rattle.inst_row.proofs.ended.EndedRow.take.Goals as goal
 
 pub returns-clause-value : goal.returns-clause-value
 returns-clause-value g c = search rules
