@@ -165,7 +165,6 @@ impl Ledger {
         ensures err { OnErr result (self.new.book ≡ self.old.book) }
         ensures room { 0 < self.old.room → IsOk result }
     {
-        let _ = self.journal.events().len();
         self.journal.push(Event::Fetched { count })?;
         self.read += count as usize;
         Ok(())
@@ -259,7 +258,7 @@ fn add_line(statement: &mut KeptStatement, event: u32, movement: Option<Movement
 }
 
 /// The event of a fund or defund command.
-fn funding_event(is_defunding: bool, funding: Funding) -> Event
+pub(super) fn funding_event(is_defunding: bool, funding: Funding) -> Event
     ensures { result ≡ funding_event is_defunding funding }
 {
     if is_defunding {
