@@ -44,12 +44,13 @@ fn go_over(runner: &mut Runner, place: Place, at: Moment) -> Result<(), AllocErr
     let Some(to) = runner.world.beneficiary_at(place) else {
         return Ok(());
     };
-    if let Some(deadline) = runner.world.pending_until(place) {
-        if !at.is_due(deadline) {
-            let Place { owner: from, index } = place;
-            runner.world.step(&Step::Deliver { from, index, to })?;
-            return runner.agenda.wait(deadline, place);
-        }
+    let Some(deadline) = runner.world.pending_until(place) else {
+        return follow_up_transfer(&mut runner.world, place, to, at);
+    };
+    if !at.is_due(deadline) {
+        let Place { owner: from, index } = place;
+        runner.world.step(&Step::Deliver { from, index, to })?;
+        return runner.agenda.wait(deadline, place);
     }
     follow_up_transfer(&mut runner.world, place, to, at)?;
     if let Some(deadline) = runner.world.pending_until(place) {

@@ -13,7 +13,7 @@ use crate::booked::is_forwarded;
 use crate::handle::Handled;
 use crate::opened::carried_length;
 use crate::{Event, sums};
-use inst_base::{Fault, Ident, mention};
+use inst_base::{Fault, Ident};
 use inst_command::{Funding, Line, LineKind, Lines, Outcome, Reply};
 use inst_settings::Settings;
 use std::alloc::{AllocError, Global};
@@ -175,7 +175,6 @@ fn all_lines(
     requires sound { IsSound settings.now who events.now }
     ensures { IfOk result (λ lines. lines.items ≡ statement events.now) }
 {
-    mention::<LineKind>();
     let mut lines = Vec::new(alloc);
     for index in carried_length(events)..events.len() {
         let event = &events[index];

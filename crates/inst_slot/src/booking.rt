@@ -10,10 +10,9 @@ ghost use Rattle.inst_ledger.specs.Right.{own_ids};
 ghost use Rattle.inst_slot.specs.Waiting.{IsRightSlot};
 
 use crate::waiting::Waiting;
-use inst_base::mention;
 use inst_command::Outcome;
 use inst_ledger::Ledger;
-use inst_transfers::{Found, Side, Transfer};
+use inst_transfers::Found;
 use std::alloc::AllocError;
 
 /// Books the outcome of a transfer that was found and lies at this index: one of the participant's
@@ -39,7 +38,6 @@ pub(crate) fn book(
         (own_ids ledger.new.book.who ledger.new.book.events) waiting.new }
     ensures room { 0 < ledger.old.room → IsOk result }
 {
-    mention::<(Side, Transfer, Outcome)>();
     ledger.keep_found(found, outcome)?;
     if found.from == ledger.who() {
         waiting.take_out(index);

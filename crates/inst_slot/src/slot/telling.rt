@@ -8,9 +8,8 @@ ghost use Rattle.inst_slot.specs.Telling.{delivery, with_delivery, Keeps};
 
 use super::Slot;
 use crate::arrivals::Spot;
-use inst_base::mention;
 use inst_board::{Board, Look};
-use inst_command::{Entry, Outcome, Place};
+use inst_command::{Entry, Place};
 use inst_journal::Event;
 use std::alloc::AllocError;
 
@@ -45,7 +44,6 @@ impl Slot {
         ensures ok { OnOk result (self.new ≡ with_delivery self.old place (Some entry)) }
         ensures err { OnErr result (self.new ≡ self.old) }
     {
-        mention::<Outcome>();
         let Entry {
             from,
             id,

@@ -18,8 +18,8 @@ pub returns-in_ok-wait-clause-ok : goal.returns-in_ok-wait-clause-ok
 returns-in_ok-wait-clause-ok c = λ O L was.
     let hub = c.args.runner.now.world in
     let looked = c.pending_until.ensures.same ∙ c.beneficiary_at.ensures.same in
-    goes_waiting O L c.args.at c.args.place hub c.follow_up_transfer.new.world c.pending_until-2.new.self c.args.runner.now.agenda c.wait-in-Some-pending_until-2.new.self c.in-Some.to c.in-Some-pending_until-2.deadline
-    (c.follow_up_transfer.ensures.settings ∙ ap world_settings looked) c.pending_until-2.ensures.same (c.in-Some.ensures.beneficiary O L was)
+    goes_waiting O L c.args.at c.args.place hub c.follow_up_transfer-2.new.world c.pending_until-2.new.self c.args.runner.now.agenda c.wait-in-Some-pending_until-2.new.self c.in-Some.to c.in-Some-pending_until-2.deadline
+    (c.follow_up_transfer-2.ensures.settings ∙ ap world_settings looked) c.pending_until-2.ensures.same (c.in-Some.ensures.beneficiary O L was)
     (c.in_ok-follow_up_transfer.ensures.ok O L (subst (λ (h : World). HasRun O L h) (sym looked) was))
     (λ M ran x there none. sym c.in-Some-pending_until-2.is ∙ c.pending_until-2.ensures.deadline O M ran x there none) c.in_ok-wait.ensures.ok
 
@@ -27,8 +27,8 @@ pub returns-in_default-pending_until-2-clause-ok : goal.returns-in_default-pendi
 returns-in_default-pending_until-2-clause-ok c = λ O L was.
     let hub = c.args.runner.now.world in
     let looked = c.pending_until.ensures.same ∙ c.beneficiary_at.ensures.same in
-    goes_decided O L c.args.at c.args.place hub c.follow_up_transfer.new.world c.pending_until-2.new.self c.args.runner.now.agenda c.in-Some.to
-    (c.follow_up_transfer.ensures.settings ∙ ap world_settings looked) c.pending_until-2.ensures.same (c.in-Some.ensures.beneficiary O L was)
+    goes_decided O L c.args.at c.args.place hub c.follow_up_transfer-2.new.world c.pending_until-2.new.self c.args.runner.now.agenda c.in-Some.to
+    (c.follow_up_transfer-2.ensures.settings ∙ ap world_settings looked) c.pending_until-2.ensures.same (c.in-Some.ensures.beneficiary O L was)
     (c.in_ok-follow_up_transfer.ensures.ok O L (subst (λ (h : World). HasRun O L h) (sym looked) was))
     (λ M ran x there none. sym c.in_default-pending_until-2.is ∙ c.pending_until-2.ensures.deadline O M ran x there none)
 
