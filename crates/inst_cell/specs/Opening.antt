@@ -70,8 +70,8 @@ pub record AreOpened (s : HubSettings) (n : ℕ) (boards : List SharedBoard) (si
   pub enough : length sights ≡ n
   pub sight : (i : ℕ) (t : Sight) → slice_get sights i ≡ Some t → IsAdmitted s table t
 
--- a seat's view is cut in two as the rule of the table allows: both are of the same hub, and know of
--- each place one standing
+-- a seat's view is cut in two as the rule of the table allows: both are of the same hub, and know
+-- of each place one standing
 pub record CutsView (left right : View → View) : Type 0 where
   pub splits : (hub : HubSettings) (id : ℕ) (view : View) →
       Splits (IsKeptBoard hub) id view (left view) (right view)

@@ -6,7 +6,8 @@ ghost use Rattle.inst_journal.specs.Booked.{first_some};
 ghost use Rattle.inst_journal.specs.Money.{position};
 ghost use Rattle.inst_journal.specs.Reply.{reply_without_event};
 ghost use Rattle.inst_journal.specs.Sound.{IsSound};
-ghost use Rattle.inst_journal.specs.Statement.{received, paid, line_of_accepted, line_of, statement};
+ghost use Rattle.inst_journal.specs.Statement.{received, paid, line_of_accepted, line_of};
+ghost use Rattle.inst_journal.specs.Statement.{statement};
 ghost use Rattle.inst_journal.specs.Statement.{statement_part};
 
 use crate::booked::is_forwarded;

@@ -35,7 +35,8 @@ pub(crate) struct Request {
 /// The transfer that the command decides, its place, and what it wishes for it.
 pub(crate) fn request_of(ledger: &Ledger, arrivals: &[Spot], command: &Command) -> Option<Request>
     requires spots { AreSpots (rows_of ledger.now.book.who ledger.now.book.events) arrivals.now }
-    ensures { GivesRequest ledger.now (request (book_with_spots ledger.now.book arrivals.now) command.now)
+    ensures { GivesRequest ledger.now
+        (request (book_with_spots ledger.now.book arrivals.now) command.now)
         (decided_id command.now) result }
 {
     match command {

@@ -32,7 +32,8 @@ pub(crate) fn book(
     requires right { IsRightSlot ledger.old.book.settings ledger.old.book.who ledger.old.book.events
         (own_ids ledger.old.book.who ledger.old.book.events) waiting.old }
     ensures ok { OnOk result (ledger.new.book
-        ≡ ledger_with_event ledger.old.book (Event.Booked found.now.from found.now.id outcome.now)) }
+        ≡ ledger_with_event ledger.old.book
+        (Event.Booked found.now.from found.now.id outcome.now)) }
     ensures err { OnErr result (ledger.new.book ≡ ledger.old.book) }
     ensures right { IsRightSlot ledger.new.book.settings ledger.new.book.who ledger.new.book.events
         (own_ids ledger.new.book.who ledger.new.book.events) waiting.new }

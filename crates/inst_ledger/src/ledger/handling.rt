@@ -27,7 +27,8 @@ impl Ledger {
     /// Whether a fund or defund command is new, and no repeat; `Duplicate` and `Full` come first.
     fn is_new_funding(&self, is_defunding: bool, funding: &Funding) -> Result<bool, Fault>
         ensures { result ≡ is_new_funding self.now.book.settings self.now.book.events
-            funding.now.reference (is_funding_repeat is_defunding funding.now self.now.book.events) }
+            funding.now.reference
+            (is_funding_repeat is_defunding funding.now self.now.book.events) }
     {
         if self.is_funding_repeat(is_defunding, funding) {
             return Ok(false);
@@ -62,8 +63,8 @@ impl Ledger {
     }
 
     /// Whether a submission with this deadline is new, and no repeat. Refused, in this order, by
-    /// `SelfTransfer`, `Duplicate`, `StampAhead`, `Expired`, `Full` and `Shortage`. It looks once at
-    /// the table.
+    /// `SelfTransfer`, `Duplicate`, `StampAhead`, `Expired`, `Full` and `Shortage`. It looks once
+    /// at the table.
     pub fn is_new_submission(
         &self,
         at: Moment,
@@ -71,7 +72,8 @@ impl Ledger {
         deadline: Moment,
     ) -> Result<bool, Fault>
         requires fits { command_fits self.now.book.settings (Command.Submit submission.now) ≡ true }
-        requires deadline { deadline ≡ deadline_of self.now.book.settings.limit submission.now.stamp }
+        requires deadline { deadline
+            ≡ deadline_of self.now.book.settings.limit submission.now.stamp }
         ensures answer { submit self.now.book.settings self.now.book.who self.now.book.events at
             submission.now
             ≡ submission_result self.now.book.settings submission.now result }
@@ -284,7 +286,8 @@ impl Ledger {
     /// Answers a question for statement lines, or `Memory`.
     fn answer_statement(&self, alloc: Global, skip: u64, count: u32) -> Result<Handled, Fault>
         ensures { IsUnlessMemory result
-            (reply_without_event (Reply.Statement (statement_part self.now.book.events skip count))) }
+            (reply_without_event
+            (Reply.Statement (statement_part self.now.book.events skip count))) }
     {
         let lines = self.statement(alloc, skip, count)?;
         Ok(Handled {

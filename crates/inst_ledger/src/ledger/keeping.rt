@@ -58,7 +58,8 @@ impl Ledger {
         requires fits { Fits self.old.book.settings self.old.book.who self.old.book.events
             (Event.Taken id sending.to sending.cents sending.stamp) }
         ensures { self.new.book ≡
-            ledger_with_event self.old.book (Event.Taken id sending.to sending.cents sending.stamp) }
+            ledger_with_event self.old.book
+            (Event.Taken id sending.to sending.cents sending.stamp) }
     {
         let Sending { to, cents, stamp } = sending;
         let taken = Event::Taken {
@@ -128,7 +129,8 @@ impl Ledger {
         requires fits { Fits self.old.book.settings self.old.book.who self.old.book.events
             (Event.Booked found.now.from found.now.id outcome.now) }
         ensures ok { OnOk result (self.new.book ≡
-            ledger_with_event self.old.book (Event.Booked found.now.from found.now.id outcome.now)) }
+            ledger_with_event self.old.book
+            (Event.Booked found.now.from found.now.id outcome.now)) }
         ensures err { OnErr result (self.new.book ≡ self.old.book) }
         ensures room { 0 < self.old.room → IsOk result }
     {
@@ -161,7 +163,8 @@ impl Ledger {
     fn keep_fetched(&mut self, count: u32) -> Result<(), AllocError>
         requires { Fits self.old.book.settings self.old.book.who self.old.book.events
             (Event.Fetched count) }
-        ensures ok { OnOk result (self.new.book ≡ ledger_with_event self.old.book (Event.Fetched count)) }
+        ensures ok { OnOk result
+            (self.new.book ≡ ledger_with_event self.old.book (Event.Fetched count)) }
         ensures err { OnErr result (self.new.book ≡ self.old.book) }
         ensures room { 0 < self.old.room → IsOk result }
     {
