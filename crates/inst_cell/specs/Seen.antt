@@ -27,4 +27,4 @@ state_of (decided terms deadline outcome at) = Decided outcome
 abbrev pub Peeks : Sight → Place → State → Sight → Type 0
 Peeks t k found u =
     (p : Standing) × Learns (settings_of (board_of_sight t)).margin sight_knows t k p u
-        × (found ≡ state_of p)
+    × (found ≡ state_of p)

@@ -99,7 +99,7 @@ positions at = position_step A at ∷ position_step B at ∷ []
 abbrev pub confirm_before_expire : List Step
 confirm_before_expire =
     delivered ++ confirm_step B A (codes "T1") 10999 ∷ expire A 0 11000 ∷ learn A A 0
-        ∷ positions 11000
+    ∷ positions 11000
 
 abbrev pub expire_before_confirm : List Step
 expire_before_confirm =
@@ -112,7 +112,7 @@ untold_yet = delivered ++ confirm_step B A (codes "T1") 2000 ∷ []
 abbrev pub untold_then_learnt : List Step
 untold_then_learnt =
     untold_yet ++ position_step A 2000 ∷ position_step B 2000 ∷ learn A A 0 ∷ position_step A 2000
-        ∷ []
+    ∷ []
 
 -- what B asks beside other traffic
 abbrev pub fetch_B : Step
@@ -148,13 +148,13 @@ confirmed_late = delivered ++ confirm_step B A (codes "T1") 11000 ∷ learn A A 
 abbrev pub confirmed_before_delivery : List Step
 confirmed_before_delivery =
     submitted_steps ++ confirm_step B A (codes "T1") 2000 ∷ investigate_step A (codes "T1") 2000
-        ∷ deliver B A 0
+    ∷ deliver B A 0
     ∷ []
 
 abbrev pub expired_before_taken : List Step
 expired_before_taken =
     fund_step A (codes "F1") 50000 0 ∷ expire A 0 11000
-        ∷ submit_step A (codes "T1") B 20000 1000 1000
+    ∷ submit_step A (codes "T1") B 20000 1000 1000
     ∷ deliver B A 0 ∷ []
 
 abbrev pub one_of_two_expired : List Step

@@ -59,7 +59,8 @@ impl Model for Slot {
           arrivals_of (rows_of slot.ledger.book.who slot.ledger.book.events) slot.arrivals.items;
     } };
 
-    ghost invariant = { λ slot. IsRightSlot slot.ledger.book.settings slot.ledger.book.who slot.ledger.book.events
+    ghost invariant = { λ slot. IsRightSlot slot.ledger.book.settings slot.ledger.book.who
+        slot.ledger.book.events
         (own_ids slot.ledger.book.who slot.ledger.book.events) slot.waiting
         × AreSpots (rows_of slot.ledger.book.who slot.ledger.book.events) slot.arrivals.items };
 }

@@ -26,7 +26,7 @@ DifferentWordsHaveDifferentNumbers =
 abbrev pub OneDecidedWord : Type 0
 OneDecidedWord =
     (margin : ℕ) (words : List Word) → AreLawful margin words →
-        (i j : ℕ) (o p : Outcome) (t u : ℕ) →
+    (i j : ℕ) (o p : Outcome) (t u : ℕ) →
     slice_get words i ≡ Some (DecidedWord o t) → slice_get words j ≡ Some (DecidedWord p u) →
     DecidedWord o t ≡ DecidedWord p u
 

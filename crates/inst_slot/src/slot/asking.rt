@@ -93,9 +93,7 @@ impl Slot {
     {
         let id = submission.id;
         let deadline = submission.stamp.deadline(self.ledger.settings().limit());
-        let is_new = self
-            .ledger
-            .is_new_submission(ask.at, submission, deadline)?;
+        let is_new = self.ledger.is_new_submission(ask.at, submission, deadline)?;
         if is_new {
             self.take(board, submission, deadline)?;
         }

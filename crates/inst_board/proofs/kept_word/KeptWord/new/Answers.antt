@@ -14,8 +14,7 @@ lawful_word margin (decided terms deadline outcome at) lawful form = form
 pub invariant_of-result : goal.invariant_of-result
 invariant_of-result c =
     let p : Standing = standing_of c.args.kept.now in
-    subst (λ (k : Kept). IsWord (word_of (standing_of k)) × (word_number (word_of (standing_of k)) ≡ c.pack_outcome.result)) (sym c.of.ensures)
-    (
+    subst (λ (k : Kept). IsWord (word_of (standing_of k)) × (word_number (word_of (standing_of k)) ≡ c.pack_outcome.result)) (sym c.of.ensures) (
       lawful_word c.requires.0 p c.requires.1 (subst (λ (w : Word). HasWordForm w) c.word_of.ensures c.pack_outcome.ensures.form),
       sym (c.pack_outcome.ensures.number ∙ ap word_number c.word_of.ensures),
     )
