@@ -75,8 +75,9 @@ impl Ledger {
         self.table.take(id, to, cents, stamp);
     }
 
-    /// Keeps a transfer that is forwarded to the participant.
-    fn keep_forwarded(&mut self, entry: Entry) -> Result<(), AllocError>
+    /// Keeps a transfer that is forwarded to the participant. Where memory is refused all is as it
+    /// was.
+    pub fn keep_forwarded(&mut self, entry: Entry) -> Result<(), AllocError>
         requires { Fits self.old.book.settings self.old.book.who self.old.book.events
             (Event.Forwarded entry.from entry.id entry.cents entry.deadline) }
         ensures ok { OnOk result (self.new.book ≡
