@@ -5,7 +5,7 @@
 mod host_logs;
 
 use host_logs::HostLogs;
-use inst_program::{program, words_failed};
+use inst_program::{Console, program, words_failed};
 use std::env;
 use std::io::IsTerminal;
 use std::process::ExitCode;
@@ -17,18 +17,13 @@ fn main(rt: HostRuntime) -> ExitCode {
         Ok(words) => words,
         Err(error) => return ExitCode::from(words_failed(&error, &mut errors)),
     };
-    let mut reader = rt.stdin();
-    let mut writer = rt.stdout();
-    let mut logs = HostLogs::new(&rt);
     let is_watched = errors.is_terminal();
-    ExitCode::from(program(
-        &rt,
-        &mut logs,
-        alloc,
-        words,
-        &mut reader,
-        &mut writer,
-        &mut errors,
+    let mut console = Console {
+        reader: rt.stdin(),
+        writer: rt.stdout(),
+        errors,
         is_watched,
-    ))
+    };
+    let mut logs = HostLogs::new(&rt);
+    ExitCode::from(program(&rt, &mut logs, words, &mut console))
 }

@@ -39,27 +39,34 @@ struct Closed {
     journals: Vec<Journal>,
 }
 
-/// Closes the hub of the log of the first name, and makes the log of the second name, which begins
-/// with its books. One that begins so already is left as it is. The first log must have the mark
-/// with the digest, if one is given. Where it is damaged, `errors` gets how far it is right.
+/// Which log is closed, which one begins with its books, and the digest that the first must have,
+/// if one is asked for.
+pub(crate) struct NextTask<'a> {
+    pub(crate) from: &'a str,
+    pub(crate) to: &'a str,
+    pub(crate) digest: Option<&'a str>,
+}
+
+/// Closes the hub of the first log of the task, and makes the second, which begins with its books.
+/// One that begins so already is left as it is. Where the first log is damaged, `errors` gets how
+/// far it is right.
 pub(crate) fn next<L: Logs, E: Write>(
     logs: &mut L,
     alloc: Global,
-    from: &str,
-    to: &str,
-    digest: Option<&str>,
+    task: NextTask<'_>,
     errors: &mut E,
 ) -> Result<(), ExitReason>
     requires none_out { AllAreIn (L.files logs.old) }
     ensures ok { OnOk result
-        (Carries from.now to.now (option_map (λ d.
-        d.now) digest.entry) (L.files logs.old) (L.files logs.new)) }
-    ensures err { OnErr result (SparesBoth from.now to.now (L.files logs.old) (L.files logs.new)) }
+        (Carries task.entry.from.now task.entry.to.now
+        (option_map (λ d. d.now) task.entry.digest) (L.files logs.old) (L.files logs.new)) }
+    ensures err { OnErr result (SparesBoth task.entry.from.now task.entry.to.now (L.files logs.old) (L.files logs.new)) }
     ensures refused { IfErr result (λ ending. status_of_ending ending ≡ 2
-        → IsUncarried from.now to.now (option_map (λ d.
-        d.now) digest.entry) (L.files logs.old) (L.files logs.new)) }
+        → IsUncarried task.entry.from.now task.entry.to.now
+        (option_map (λ d. d.now) task.entry.digest) (L.files logs.old) (L.files logs.new)) }
     ensures all_in { AllAreIn (L.files logs.new) }
 {
+    let NextTask { from, to, digest } = task;
     if !logs.has(from)? {
         return Err(ExitReason::Log(LogFault::NoLog));
     }
@@ -112,28 +119,28 @@ fn close_on<D: Disk + Drop, E: Write>(
     ensures { IsHubClosed D.Disk wanted disk result.1 result.0 }
 {
     match beginning_of(alloc, &mut disk) {
-        Ok(Some(LogHeader { mode, settings, .. })) => {
-            close_hub(alloc, mode, &settings, wanted, disk, errors)
-        }
+        Ok(Some(header)) => close_hub(alloc, &header, wanted, disk, errors),
         Ok(None) => (Err(ExitReason::Log(LogFault::NoLog)), disk),
         Err(ending) => (Err(ending), disk),
     }
 }
 
-/// Closes the hub of these settings whose log is on this disk, and gives the disk back.
+/// Closes the hub whose log, which begins with this header, is on this disk, and gives the disk
+/// back.
 fn close_hub<D: Disk + Drop, E: Write>(
     alloc: Global,
-    mode: Mode,
-    settings: &Settings,
+    header: &LogHeader,
     wanted: Option<Digest>,
     mut disk: D,
     errors: &mut E,
 ) -> (Result<Closed, ExitReason>, D)
     requires opened { IsJustOpened D.Disk disk }
-    requires read { HasKeptFaith D.Disk disk → IsReadAsLog mode settings.now (D.Disk.seen disk) }
+    requires read { HasKeptFaith D.Disk disk →
+        IsReadAsLog header.now.mode header.now.settings (D.Disk.seen disk) }
     ensures { IsHubClosed D.Disk wanted disk result.1 result.0 }
 {
-    let hub = match NewHub::of_log(alloc, mode, settings, &mut disk) {
+    let mode = header.mode;
+    let hub = match NewHub::of_log(alloc, mode, &header.settings, &mut disk) {
         Ok(hub) => hub,
         Err(error) => return (Err(told_ending(error, errors)), disk),
     };

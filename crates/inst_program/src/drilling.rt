@@ -11,16 +11,17 @@ ghost use Rattle.inst_program.specs.Script.{script_of};
 ghost use Rattle.inst_program.specs.inner.Drilling.{IsDrillStopped, IsScripted, IsUndrilled};
 ghost use Rattle.inst_program.specs.inner.ExitReason.{status_of_ending};
 
+use crate::console::Console;
 use crate::exit_reason::ExitReason;
 use crate::logs::Logs;
 use inst_command::Step;
-use inst_drill::{DrillResult, Ungated, drill};
+use inst_drill::{DrillRequest, DrillResult, Ungated, drill};
 use inst_json::append_step;
 use inst_options::LogFault;
 use inst_settings::Settings;
 use sqlite_disk::Disk;
-use std::alloc::{AllocError, Global};
-use std::io::{self, Write};
+use std::alloc::{AllocError, AllocGlobal, Global};
+use std::io::{self, Read, Write};
 use std::sync::Wait;
 use std::thread::Threads;
 
@@ -31,61 +32,65 @@ pub(crate) struct DrillTask {
     /// How many transfers there are in each opening.
     pub(crate) transfers: u16,
     pub(crate) openings: u8,
-    /// Whether a line tells of each opening as it begins.
-    pub(crate) is_watched: bool,
 }
 
 /// Drills a hub, and writes the script to the file of this name, if one is named. The file must be
 /// new or empty.
-pub(crate) fn drill_hub<H: Threads + Wait + Sync, L: Logs, W: Write, E: Write>(
+pub(crate) fn drill_hub<H: Threads + Wait + Sync + AllocGlobal, L: Logs, R: Read + Drop, W: Write + Drop, E: Write + Drop>(
     rt: &H,
     logs: &mut L,
-    alloc: Global,
     asked: DrillTask,
     script: Option<&str>,
-    writer: &mut W,
-    errors: &mut E,
+    console: &mut Console<R, W, E>,
 ) -> Result<(), ExitReason>
     requires none_out { AllAreIn (L.files logs.old) }
     ensures ok { OnOk result
         (Drills asked.settings asked.openings (option_map (λ file. file.now) script.entry)
-        (W.contents writer.old) (W.contents writer.new) (L.files logs.old) (L.files logs.new)) }
+        (W.contents console.old.writer) (W.contents console.new.writer) (L.files logs.old)
+        (L.files logs.new)) }
     ensures err { IfErr result
-        (IsUndrilled asked (option_map (λ file. file.now) script.entry) (writer.new ≡ writer.old)
-        (L.files logs.old) (L.files logs.new)) }
+        (IsUndrilled asked (option_map (λ file. file.now) script.entry)
+        (console.new.writer ≡ console.old.writer) (L.files logs.old) (L.files logs.new)) }
     ensures all_in { AllAreIn (L.files logs.new) }
 {
     match script {
-        Some(path) => drill_to_file(rt, logs, alloc, asked, path, writer, errors),
+        Some(path) => drill_to_file(rt, logs, asked, path, console),
         None => {
-            run_drill(rt, alloc, asked, writer, errors)?;
+            run_drill(rt, asked, console)?;
             Ok(())
         }
     }
 }
 
 /// Drills a hub.
-fn run_drill<H: Threads + Wait + Sync, W: Write, E: Write>(
+fn run_drill<H: Threads + Wait + Sync + AllocGlobal, R: Read + Drop, W: Write + Drop, E: Write + Drop>(
     rt: &H,
-    alloc: Global,
     asked: DrillTask,
-    writer: &mut W,
-    errors: &mut E,
+    console: &mut Console<R, W, E>,
 ) -> Result<DrillResult, ExitReason>
     ensures ok { IfOk result
-        (HasDrilledAll asked.settings asked.openings (W.contents writer.old)
-        (W.contents writer.new)) }
-    ensures err { IfErr result (IsDrillStopped asked (writer.new ≡ writer.old)) }
+        (HasDrilledAll asked.settings asked.openings (W.contents console.old.writer)
+        (W.contents console.new.writer)) }
+    ensures err { IfErr result (IsDrillStopped asked (console.new.writer ≡ console.old.writer)) }
 {
     let DrillTask {
         settings,
         transfers,
         openings,
-        is_watched,
     } = asked;
-    let gate = &Ungated;
+    let request = DrillRequest {
+        settings,
+        transfers,
+        openings,
+        gate: &Ungated,
+        is_watched: console.is_watched,
+    };
     match drill(
-        rt, alloc, settings, transfers, openings, gate, writer, errors, is_watched,
+        rt,
+        rt.alloc(),
+        &request,
+        &mut console.writer,
+        &mut console.errors,
     ) {
         Ok(left) => Ok(left),
         Err(error) => Err(ExitReason::from(error)),
@@ -93,40 +98,37 @@ fn run_drill<H: Threads + Wait + Sync, W: Write, E: Write>(
 }
 
 /// Drills a hub, and writes the script to the file of this name.
-fn drill_to_file<H: Threads + Wait + Sync, L: Logs, W: Write, E: Write>(
+fn drill_to_file<H: Threads + Wait + Sync + AllocGlobal, L: Logs, R: Read + Drop, W: Write + Drop, E: Write + Drop>(
     rt: &H,
     logs: &mut L,
-    alloc: Global,
     asked: DrillTask,
     path: &str,
-    writer: &mut W,
-    errors: &mut E,
+    console: &mut Console<R, W, E>,
 ) -> Result<(), ExitReason>
     requires none_out { AllAreIn (L.files logs.old) }
     ensures ok { OnOk result (Drills asked.settings asked.openings (Some path.now)
-        (W.contents writer.old) (W.contents writer.new) (L.files logs.old) (L.files logs.new)) }
-    ensures err { IfErr result (IsUndrilled asked (Some path.now) (writer.new ≡ writer.old)
-        (L.files logs.old) (L.files logs.new)) }
+        (W.contents console.old.writer) (W.contents console.new.writer) (L.files logs.old)
+        (L.files logs.new)) }
+    ensures err { IfErr result (IsUndrilled asked (Some path.now)
+        (console.new.writer ≡ console.old.writer) (L.files logs.old) (L.files logs.new)) }
     ensures all_in { AllAreIn (L.files logs.new) }
 {
     let disk = logs.open(path)?;
-    let (outcome, disk) = drill_to(rt, alloc, asked, disk, writer, errors);
+    let (outcome, disk) = drill_to(rt, asked, disk, console);
     logs.close(disk);
     outcome
 }
 
 /// Drills a hub, writes the script to this disk, and gives the disk back.
-fn drill_to<H: Threads + Wait + Sync, D: Disk + Drop, W: Write, E: Write>(
+fn drill_to<H: Threads + Wait + Sync + AllocGlobal, D: Disk + Drop, R: Read + Drop, W: Write + Drop, E: Write + Drop>(
     rt: &H,
-    alloc: Global,
     asked: DrillTask,
     mut disk: D,
-    writer: &mut W,
-    errors: &mut E,
+    console: &mut Console<R, W, E>,
 ) -> (Result<(), ExitReason>, D)
     requires usable { IsTrue (D.Disk.is_usable disk) }
-    ensures { IsScripted D.Disk asked (W.contents writer.old) (W.contents writer.new) (writer.new
-        ≡ writer.old)
+    ensures { IsScripted D.Disk asked (W.contents console.old.writer) (W.contents console.new.writer)
+        (console.new.writer ≡ console.old.writer)
         disk result.1 result.0 }
 {
     match is_empty(&mut disk) {
@@ -134,9 +136,9 @@ fn drill_to<H: Threads + Wait + Sync, D: Disk + Drop, W: Write, E: Write>(
         Ok(false) => return (Err(ExitReason::ScriptNotEmpty), disk),
         Err(_) => return (Err(ExitReason::Log(LogFault::DiskFault)), disk),
     }
-    match run_drill(rt, alloc, asked, writer, errors) {
+    match run_drill(rt, asked, console) {
         Ok(left) => {
-            let outcome = write_script(alloc, &mut disk, &left);
+            let outcome = write_script(rt.alloc(), &mut disk, &left);
             (outcome, disk)
         }
         Err(ending) => (Err(ending), disk),

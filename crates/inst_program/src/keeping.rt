@@ -15,6 +15,7 @@ ghost use Rattle.inst_program.specs.Keeping.{AsksFor, KeepsLines, kept_run};
 ghost use Rattle.inst_program.specs.inner.ExitReason.{status_of_ending, IsUnkept};
 ghost use Rattle.inst_program.specs.inner.Finding.{FindsGood};
 
+use crate::console::Console;
 use crate::exit_reason::{ExitReason, told_ending};
 use crate::logs::{Logs, LogsError};
 use crate::summary::sum_up;
@@ -29,32 +30,45 @@ use sqlite_disk::Disk;
 use std::alloc::{AllocError, Global};
 use std::io::{Read, Write};
 
-/// Answers the lines of `reader`, each once it is in the log, and sums up where `sums` says so.
-/// Where the log begins with other settings, `errors` gets those and the ones that are given; where
-/// the log is damaged, how far it is right.
+/// How lines are answered: a run or a play, the settings of the hub, and whether it is summed up.
+#[derive(Drop)]
+pub(crate) struct LineTask {
+    pub(crate) mode: Mode,
+    pub(crate) settings: Settings,
+    pub(crate) sums: bool,
+}
+
+/// The options of a log, and the digest that it must have, if one is asked for.
+struct WantedLog<'a> {
+    options: LogOptions<'a>,
+    digest: Option<Digest>,
+}
+
+/// Answers the lines of the console, each once it is in the log, and sums up where the task says
+/// so. Where the log begins with other settings, `errors` gets those and the ones that are given;
+/// where the log is damaged, how far it is right.
 ///
 /// # Errors
 ///
 /// `NoLog` if the log must be there and no file of that name is, or an empty one; none is made
 /// then.
-pub(crate) fn keep<L: Logs, R: Read, W: Write, E: Write>(
+pub(crate) fn keep<L: Logs, R: Read + Drop, W: Write + Drop, E: Write + Drop>(
     logs: &mut L,
     alloc: Global,
-    mode: Mode,
-    settings: &Settings,
+    task: &LineTask,
     log: LogOptions<'_>,
-    sums: bool,
-    reader: &mut R,
-    writer: &mut W,
-    errors: &mut E,
+    console: &mut Console<R, W, E>,
 ) -> Result<(), ExitReason>
     requires none_out { AllAreIn (L.files logs.old) }
-    ensures ok { OnOk result (KeepsLines (kept_run mode settings.now log.entry)
-        (streams R.Read W.Write reader.old reader.new writer.old writer.new)
+    ensures ok { OnOk result (KeepsLines (kept_run task.now.mode task.now.settings log.entry)
+        (streams R.Read W.Write console.old.reader console.new.reader console.old.writer
+        console.new.writer)
         (IsTrue (L.files logs.new).is_clean)
         (change_of (L.files logs.old) (L.files logs.new) log.entry.path.now)) }
-    ensures err { IfErr result (λ ending. IsUnkept (kept_run mode settings.now log.entry)
-        (streams R.Read W.Write reader.old reader.new writer.old writer.new)
+    ensures err { IfErr result (λ ending. IsUnkept
+        (kept_run task.now.mode task.now.settings log.entry)
+        (streams R.Read W.Write console.old.reader console.new.reader console.old.writer
+        console.new.writer)
         (L.files logs.old).mixes
         ((L.files logs.new).in_use log.entry.path.now) (IsTrue (L.files logs.new).is_clean)
         (change_of (L.files logs.old) (L.files logs.new) log.entry.path.now)
@@ -67,13 +81,15 @@ pub(crate) fn keep<L: Logs, R: Read, W: Write, E: Write>(
     }
     let wanted = wanted_of(log.digest)?;
     let disk = logs.open(log.path)?;
-    let (outcome, disk) = keep_on(
-        alloc, mode, settings, log, wanted, disk, reader, writer, errors,
-    );
+    let wanted = WantedLog {
+        options: log,
+        digest: wanted,
+    };
+    let (outcome, disk) = keep_on(alloc, task, wanted, disk, console);
     logs.close(disk);
     let mut runner = outcome?;
-    if sums {
-        sum_up(&mut runner, None, errors);
+    if task.sums {
+        sum_up(&mut runner, None, &mut console.errors);
     }
     Ok(())
 }
@@ -92,42 +108,51 @@ fn is_missing<L: Logs>(logs: &mut L, log: LogOptions<'_>) -> Result<bool, LogsEr
     Ok(!is_there)
 }
 
-/// Answers the lines of `reader`, each once it is in the log on this disk, and gives the disk back.
-fn keep_on<D: Disk + Drop, R: Read, W: Write, E: Write>(
+/// Answers the lines of the console, each once it is in the log on this disk, and gives the disk
+/// back.
+fn keep_on<D: Disk + Drop, R: Read + Drop, W: Write + Drop, E: Write + Drop>(
     alloc: Global,
-    mode: Mode,
-    settings: &Settings,
-    log: LogOptions<'_>,
-    wanted: Option<Digest>,
+    task: &LineTask,
+    wanted: WantedLog<'_>,
     mut disk: D,
-    reader: &mut R,
-    writer: &mut W,
-    errors: &mut E,
+    console: &mut Console<R, W, E>,
 ) -> (Result<Runner, ExitReason>, D)
-    requires wanted { AsksFor (option_map (λ d. d.now) log.digest) wanted }
+    requires wanted { AsksFor (option_map (λ d. d.now) wanted.options.digest) wanted.digest }
     requires opened { IsJustOpened D.Disk disk }
-    ensures ok { OnOk result.0 (KeepsLines (kept_run mode settings.now log.entry)
-        (streams R.Read W.Write reader.old reader.new writer.old writer.new)
+    ensures ok { OnOk result.0 (KeepsLines
+        (kept_run task.now.mode task.now.settings wanted.entry.options)
+        (streams R.Read W.Write console.old.reader console.new.reader console.old.writer
+        console.new.writer)
         (HasKeptFaith D.Disk result.1) (change_on D.Disk disk result.1)) }
-    ensures err { IfErr result.0 (λ ending. IsUnkept (kept_run mode settings.now log.entry)
-        (streams R.Read W.Write reader.old reader.new writer.old writer.new) ((d : D) →
+    ensures err { IfErr result.0 (λ ending. IsUnkept
+        (kept_run task.now.mode task.now.settings wanted.entry.options)
+        (streams R.Read W.Write console.old.reader console.new.reader console.old.writer
+        console.new.writer) ((d : D) →
         IsTrue (D.Disk.is_mixing d))
-        ⊥ (HasKeptFaith D.Disk result.1) (change_on D.Disk disk result.1) (status_of_ending ending)) }
+        ⊥ (HasKeptFaith D.Disk result.1) (change_on D.Disk disk result.1)
+        (status_of_ending ending)) }
 {
-    let hub = match find_hub(alloc, mode, settings, log.resume, &mut disk) {
+    let log = wanted.options;
+    let hub = match find_hub(alloc, task.mode, &task.settings, log.resume, &mut disk) {
         Ok(hub) => hub,
-        Err(error) => return (Err(told_ending(error, errors)), disk),
+        Err(error) => return (Err(told_ending(error, &mut console.errors)), disk),
     };
     let mut hub = hub.with_disk(alloc, disk);
-    match hub.run(alloc, log.told, wanted, reader, writer) {
+    match hub.run(
+        alloc,
+        log.told,
+        wanted.digest,
+        &mut console.reader,
+        &mut console.writer,
+    ) {
         Ok(()) => {
             let (runner, disk) = hub.into_parts();
             (Ok(runner), disk)
         }
         Err(error) => {
             let (_, mut disk) = hub.into_parts();
-            tell_failure(alloc, mode, settings, error, &mut disk, errors);
-            (Err(told_ending(error, errors)), disk)
+            tell_failure(alloc, task, error, &mut disk, &mut console.errors);
+            (Err(told_ending(error, &mut console.errors)), disk)
         }
     }
 }
@@ -193,8 +218,7 @@ pub(crate) fn wanted_of(digest: Option<&str>) -> Result<Option<Digest>, AllocErr
 /// is left as it is.
 fn tell_failure<D: Disk, E: Write>(
     alloc: Global,
-    mode: Mode,
-    settings: &Settings,
+    task: &LineTask,
     error: LoggedError,
     disk: &mut D,
     errors: &mut E,
@@ -203,7 +227,7 @@ fn tell_failure<D: Disk, E: Write>(
     ensures clean { HasKeptFaith D.Disk disk.new → HasKeptFaith D.Disk disk.old }
 {
     if let LoggedError::Log(LogError::OtherSettings) = error {
-        tell_settings(alloc, mode, settings, disk, errors);
+        tell_settings(alloc, task.mode, &task.settings, disk, errors);
     }
 }
 

@@ -3,6 +3,7 @@
 #![tactic(auto)]
 
 mod carrying;
+mod console;
 mod drilling;
 mod exit_reason;
 mod keeping;
@@ -13,6 +14,7 @@ mod showing;
 mod summary;
 mod tasks;
 
+pub use console::Console;
 pub use laws::{an_untaken_log_is_not_good, the_bounds};
 pub use logs::{Logs, LogsError};
 pub use tasks::{program, words_failed};

@@ -12,10 +12,11 @@ ghost use Rattle.inst_program.specs.inner.ExitReason.{status_of_ending};
 ghost use Rattle.inst_program.specs.inner.ExitReason.{AreLinesAnswered, IsUnanswered, IsUnchecked};
 ghost use Rattle.inst_program.specs.inner.ExitReason.{IsUndone, IsUnexplained};
 
-use crate::carrying::next;
+use crate::carrying::{NextTask, next};
+use crate::console::Console;
 use crate::drilling::{DrillTask, drill_hub};
 use crate::exit_reason::ExitReason;
-use crate::keeping::keep;
+use crate::keeping::{LineTask, keep};
 use crate::logs::Logs;
 use crate::showing::show;
 use crate::summary::sum_up;
@@ -26,7 +27,7 @@ use inst_options::{
     AnyFault, BadOption, Invocation, LogOptions, WordsError, excerpt, fault_of, wished,
 };
 use inst_settings::Settings;
-use std::alloc::Global;
+use std::alloc::{AllocGlobal, Global};
 use std::io::{self, ErrorKind as IoErrorKind, Read, Write};
 use std::sync::Wait;
 use std::thread::Threads;
@@ -44,30 +45,28 @@ use std::thread::Threads;
 /// that can't be written, and where memory was wanting before it began. What is wrong is told on
 /// `errors`: a text, or one line `fault <number> <name>`. What `errors` doesn't take is lost. Its
 /// time is in the bytes of the input and of the log.
-pub fn program<H: Threads + Wait + Sync, L: Logs, R: Read, W: Write, E: Write>(
+pub fn program<H: Threads + Wait + Sync + AllocGlobal, L: Logs, R: Read + Drop, W: Write + Drop, E: Write + Drop>(
     rt: &H,
     logs: &mut L,
-    alloc: Global,
     words: Vec<String>,
-    reader: &mut R,
-    writer: &mut W,
-    errors: &mut E,
-    is_watched: bool,
+    console: &mut Console<R, W, E>,
 ) -> u8
     requires none_out { AllAreIn (L.files logs.old) }
     // What the words ask for is done, is refused, or has failed.
     ensures ends { Ends (map string_bytes words.items)
-        (streams R.Read W.Write reader.old reader.new writer.old writer.new)
+        (streams R.Read W.Write console.old.reader console.new.reader console.old.writer
+        console.new.writer)
         (L.files logs.old) (L.files logs.new) result }
     // Each log that was opened is closed.
     ensures all_in { AllAreIn (L.files logs.new) }
 {
+    let alloc = rt.alloc();
     match wished(alloc, &words) {
-        Ok(wish) => match serve(rt, logs, alloc, wish, reader, writer, errors, is_watched) {
+        Ok(wish) => match serve(rt, logs, wish, console) {
             Ok(()) => 0,
-            Err(ending) => tell_ending(ending, errors),
+            Err(ending) => tell_ending(ending, &mut console.errors),
         },
-        Err(error) => tell_error(alloc, error, writer, errors),
+        Err(error) => tell_error(alloc, error, &mut console.writer, &mut console.errors),
     }
 }
 
@@ -182,118 +181,115 @@ fn tell<E: Write>(fault: Fault, errors: &mut E) -> u8
 }
 
 /// Does what words ask for.
-fn serve<H: Threads + Wait + Sync, L: Logs, R: Read, W: Write, E: Write>(
+fn serve<H: Threads + Wait + Sync + AllocGlobal, L: Logs, R: Read + Drop, W: Write + Drop, E: Write + Drop>(
     rt: &H,
     logs: &mut L,
-    alloc: Global,
     wish: Invocation<'_>,
-    reader: &mut R,
-    writer: &mut W,
-    errors: &mut E,
-    is_watched: bool,
+    console: &mut Console<R, W, E>,
 ) -> Result<(), ExitReason>
     requires none_out { AllAreIn (L.files logs.old) }
     ensures ok { (words : List (List ℕ)) → IsWished words wish.entry → OnOk result (Done words
-        (streams R.Read W.Write reader.old reader.new writer.old writer.new) (L.files logs.old)
+        (streams R.Read W.Write console.old.reader console.new.reader console.old.writer
+        console.new.writer) (L.files logs.old)
         (L.files logs.new)) }
     ensures err { (words : List (List ℕ)) → IsWished words wish.entry →
         IfErr result (λ ending. IsUndone words
-        (streams R.Read W.Write reader.old reader.new writer.old writer.new) (L.files logs.old)
+        (streams R.Read W.Write console.old.reader console.new.reader console.old.writer
+        console.new.writer) (L.files logs.old)
         (L.files logs.new)
         (status_of_ending ending)) }
     ensures all_in { AllAreIn (L.files logs.new) }
 {
+    let alloc = rt.alloc();
     match wish {
-        Invocation::Run(settings, log, sums) => answer(
-            logs,
-            alloc,
-            Mode::Run,
-            &settings,
-            log,
-            sums,
-            reader,
-            writer,
-            errors,
-        ),
-        Invocation::Play(settings, log, sums) => answer(
-            logs,
-            alloc,
-            Mode::Play,
-            &settings,
-            log,
-            sums,
-            reader,
-            writer,
-            errors,
-        ),
+        Invocation::Run(settings, log, sums) => {
+            let task = LineTask {
+                mode: Mode::Run,
+                settings,
+                sums,
+            };
+            answer(logs, alloc, &task, log, console)
+        }
+        Invocation::Play(settings, log, sums) => {
+            let task = LineTask {
+                mode: Mode::Play,
+                settings,
+                sums,
+            };
+            answer(logs, alloc, &task, log, console)
+        }
         Invocation::Drill(settings, transfers, openings, script) => {
             let asked = DrillTask {
                 settings,
                 transfers,
                 openings,
-                is_watched,
             };
-            drill_hub(rt, logs, alloc, asked, script, writer, errors)
+            drill_hub(rt, logs, asked, script, console)
         }
-        Invocation::Check(settings) => check(alloc, &settings, reader, writer),
-        Invocation::Log(path) => show(logs, alloc, path, writer, errors),
-        Invocation::Next(from, to, digest) => next(logs, alloc, from, to, digest, errors),
-        Invocation::Explain(word) => explain(word, writer),
+        Invocation::Check(settings) => {
+            check(alloc, &settings, &mut console.reader, &mut console.writer)
+        }
+        Invocation::Log(path) => {
+            show(logs, alloc, path, &mut console.writer, &mut console.errors)
+        }
+        Invocation::Next(from, to, digest) => {
+            let task = NextTask { from, to, digest };
+            next(logs, alloc, task, &mut console.errors)
+        }
+        Invocation::Explain(word) => explain(word, &mut console.writer),
     }
 }
 
-/// Answers the lines of `reader` at a hub of these settings, with a log or without, and sums up
-/// what `sums` asks for.
-fn answer<L: Logs, R: Read, W: Write, E: Write>(
+/// Answers the lines of the console at a hub, with a log or without, and sums up what is asked for.
+fn answer<L: Logs, R: Read + Drop, W: Write + Drop, E: Write + Drop>(
     logs: &mut L,
     alloc: Global,
-    mode: Mode,
-    settings: &Settings,
+    task: &LineTask,
     log: Option<LogOptions<'_>>,
-    sums: bool,
-    reader: &mut R,
-    writer: &mut W,
-    errors: &mut E,
+    console: &mut Console<R, W, E>,
 ) -> Result<(), ExitReason>
     requires none_out { AllAreIn (L.files logs.old) }
-    ensures ok { OnOk result (AreLinesAnswered mode settings.now log.entry
-        (streams R.Read W.Write reader.old reader.new writer.old writer.new) (L.files logs.old)
+    ensures ok { OnOk result (AreLinesAnswered task.now.mode task.now.settings log.entry
+        (streams R.Read W.Write console.old.reader console.new.reader console.old.writer
+        console.new.writer) (L.files logs.old)
         (L.files logs.new)) }
-    ensures err { IfErr result (IsUnanswered mode settings.now log.entry
-        (streams R.Read W.Write reader.old reader.new writer.old writer.new) (L.files logs.old)
+    ensures err { IfErr result (IsUnanswered task.now.mode task.now.settings log.entry
+        (streams R.Read W.Write console.old.reader console.new.reader console.old.writer
+        console.new.writer) (L.files logs.old)
         (L.files logs.new)) }
     ensures all_in { AllAreIn (L.files logs.new) }
 {
     match log {
-        Some(log) => keep(
-            logs, alloc, mode, settings, log, sums, reader, writer, errors,
-        ),
+        Some(log) => keep(logs, alloc, task, log, console),
         None => {
-            answer_unkept(alloc, mode, settings, sums, reader, writer, errors)?;
+            answer_unkept(alloc, task, console)?;
             Ok(())
         }
     }
 }
 
-/// Answers the lines of `reader` at a hub of these settings, and keeps none.
-fn answer_unkept<R: Read, W: Write, E: Write>(
+/// Answers the lines of the console at a hub, and keeps none.
+fn answer_unkept<R: Read + Drop, W: Write + Drop, E: Write + Drop>(
     alloc: Global,
-    mode: Mode,
-    settings: &Settings,
-    sums: bool,
-    reader: &mut R,
-    writer: &mut W,
-    errors: &mut E,
+    task: &LineTask,
+    console: &mut Console<R, W, E>,
 ) -> Result<(), Fault>
-    ensures ok { OnOk result (AnswersInput mode settings.now
-        (streams R.Read W.Write reader.old reader.new writer.old writer.new)) }
-    ensures err { IfErr result (FailsAfter (hub_answerer mode) (new_past settings.now)
-        (W.contents writer.old) (W.contents writer.new) (R.remaining reader.old)
-        (R.remaining reader.new)) }
+    ensures ok { OnOk result (AnswersInput task.now.mode task.now.settings
+        (streams R.Read W.Write console.old.reader console.new.reader console.old.writer
+        console.new.writer)) }
+    ensures err { IfErr result (FailsAfter (hub_answerer task.now.mode) (new_past task.now.settings)
+        (W.contents console.old.writer) (W.contents console.new.writer)
+        (R.remaining console.old.reader) (R.remaining console.new.reader)) }
 {
-    let mut served = serve_lines(alloc, mode, settings, reader, writer)?;
-    if sums {
-        sum_up(&mut served.runner, Some(served.counts), errors);
+    let mut served = serve_lines(
+        alloc,
+        task.mode,
+        &task.settings,
+        &mut console.reader,
+        &mut console.writer,
+    )?;
+    if task.sums {
+        sum_up(&mut served.runner, Some(served.counts), &mut console.errors);
     }
     Ok(())
 }

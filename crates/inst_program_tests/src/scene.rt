@@ -2,7 +2,7 @@
 ghost use Rattle.std.specs.Prelude.{◌≡◌, None};
 
 use crate::memory_logs::MemoryLogs;
-use inst_program::program;
+use inst_program::{Console, program};
 use std::io::Read;
 use std::process::Abort;
 use std::sync::Wait;
@@ -42,11 +42,11 @@ pub(crate) struct Ended {
 }
 
 /// Runs the program on these logs. Its words are cut at each space.
-pub(crate) fn run<H: Threads + Wait + Sync + AllocGlobal, R: Read>(
+pub(crate) fn run<H: Threads + Wait + Sync + AllocGlobal, R: Read + Drop>(
     rt: &H,
     logs: &mut MemoryLogs,
     words: &str,
-    reader: &mut R,
+    reader: R,
 ) -> Result<Ended, Fail>
     requires { logs.old.out ≡ None }
     ensures { logs.new.out ≡ None }
@@ -56,21 +56,17 @@ pub(crate) fn run<H: Threads + Wait + Sync + AllocGlobal, R: Read>(
     for word in words.split(' ') {
         all.push(String::from_str(rt.alloc(), word)?)?;
     }
-    let mut output = Vec::new(rt.alloc());
-    let mut errors = Vec::new(rt.alloc());
-    let status = program(
-        rt,
-        logs,
-        rt.alloc(),
-        all,
+    let mut console = Console {
         reader,
-        &mut output,
-        &mut errors,
-        false,
-    );
+        writer: Vec::new(rt.alloc()),
+        errors: Vec::new(rt.alloc()),
+        is_watched: false,
+    };
+    let status = program(rt, logs, all, &mut console);
+    let Console { writer, errors, .. } = console;
     Ok(Ended {
         status,
-        output,
+        output: writer,
         errors,
     })
 }
@@ -86,8 +82,7 @@ pub(crate) fn run_to<H: Threads + Wait + Sync + AllocGlobal + Abort>(
     requires { logs.old.out ≡ None }
     ensures { logs.new.out ≡ None }
 {
-    let mut reader = input;
-    let ended = run(rt, logs, words, &mut reader)?;
+    let ended = run(rt, logs, words, input)?;
     let found = (
         ended.status,
         ended.output.as_slice(),

@@ -25,7 +25,7 @@ fn a_script_goes_to_a_new_file_alone(rt: HostRuntime) -> Result<(), Fail> {
     run_to(&rt, &mut logs, DRILL_TO_A_LOG, b"", (2, b"", NOT_EMPTY))?;
     assert_eq!(rt; logs.bytes(Which::First), log.as_slice());
     let mut reader = b"".as_slice();
-    let drilled = run(&rt, &mut logs, DRILL, &mut reader)?;
+    let drilled = run(&rt, &mut logs, DRILL, reader)?;
     assert_eq!(rt; (drilled.status, drilled.output.as_slice()), (0, DRILLED));
     let script = logs.bytes(Which::Second).to_vec(rt.alloc())?;
     let lines = script.iter().filter(|byte| **byte == b'\n').count();

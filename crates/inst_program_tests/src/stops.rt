@@ -67,7 +67,7 @@ fn kept_lines<H: Threads + Wait + Sync + AllocGlobal + Abort>(
     ensures { logs.new.out ≡ None }
 {
     let mut reader: &[u8] = b"";
-    let ended = run(rt, logs, "log a", &mut reader)?;
+    let ended = run(rt, logs, "log a", reader)?;
     if ended.status == 2 {
         assert_eq!(rt; ended.errors.as_slice(), b"fault 21 NoLog\n".as_slice());
         return Ok(0);
@@ -104,7 +104,7 @@ fn resume<H: Threads + Wait + Sync + AllocGlobal + Abort>(
     assert!(rt; told <= kept, "{told} replies to {kept} lines");
     let words = format!(in rt.alloc(); "{RUN} --told {told}")?;
     let mut reader = in_pieces(lines_after(LINES, kept));
-    let ended = run(rt, logs, &words, &mut reader)?;
+    let ended = run(rt, logs, &words, reader)?;
     let mut replies = before.to_vec(rt.alloc())?;
     replies.extend_from_slice(&ended.output)?;
     let found = (count, ended.status, replies.as_slice());
@@ -122,7 +122,7 @@ fn stop_run<H: Threads + Wait + Sync + AllocGlobal + Abort>(
 ) -> Result<(bool, usize), Fail> {
     let mut logs = MemoryLogs::new(rt.alloc());
     logs.stop_after(calls, count);
-    let ended = run(rt, &mut logs, RUN, &mut in_pieces(LINES))?;
+    let ended = run(rt, &mut logs, RUN, in_pieces(LINES))?;
     let is_done = is_done(rt, calls, count, &ended);
     logs.crash();
     let written = newlines(&ended.output);
@@ -178,7 +178,7 @@ fn stop_next<H: Threads + Wait + Sync + AllocGlobal + Abort>(
     let first = logs.bytes(Which::First).to_vec(rt.alloc())?;
     logs.stop_after(calls, count);
     let mut reader: &[u8] = b"";
-    let ended = run(rt, &mut logs, NEXT, &mut reader)?;
+    let ended = run(rt, &mut logs, NEXT, reader)?;
     let is_done = is_done(rt, calls, count, &ended);
     logs.crash();
     assert_eq!(rt; logs.bytes(Which::First), first.as_slice());

@@ -43,5 +43,5 @@ returns-clause-ok c =
 pub invariant_of-self : goal.invariant_of-self
 invariant_of-self c = search rules
 
-pub invariant_of-self-in_err-keep : goal.invariant_of-self-in_err-keep
-invariant_of-self-in_err-keep c = search rules
+pub invariant_of-self-in_err-keep_forwarded : goal.invariant_of-self-in_err-keep_forwarded
+invariant_of-self-in_err-keep_forwarded c = search rules
