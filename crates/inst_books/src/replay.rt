@@ -32,7 +32,7 @@ pub struct Replay {
 }
 
 impl Model for Replay {
-    ghost use Rattle.inst_ledger.specs.LedgerBook.{LedgerBook};
+    ghost use Rattle.inst_ledger.specs.Book.{LedgerBook};
     ghost use Rattle.inst_books.specs.Tally.{IsTally};
 
     ghost Value = { LedgerBook };

@@ -20,7 +20,7 @@ use Rattle.inst_board.specs.declared.look.Look.TheVariants.{Unused as LookUnused
 use Rattle.inst_board.specs.declared.about.About.{About}
 use Rattle.inst_board.specs.declared.about.About.TheVariants.{Opened, HasTerms, Due, Decided, DecidedAt}
 use Rattle.inst_board.specs.declared.about.Fact.{Fact}
-use Rattle.inst_board.specs.Standing.{Standing, unused, pending, decided, IsPlace, IsLawful, Says, ShowsWord as WordsShow, word_of, look_of, place_state_of, about}
+use Rattle.inst_board.specs.Standing.{Standing, unused, pending, decided, IsPlace, IsLawful, Says, Shows as WordsShow, word_of, look_of, place_state_of, about}
 use Rattle.inst_board.specs.Learning.{Learns, Looks, AnswersWish, IsAnswer, IsParty}
 use Rattle.inst_board.specs.Wish.{wanted}
 use Rattle.inst_board.specs.Plain.{place_number}

@@ -10,7 +10,7 @@ use Rattle.inst_desk.specs.Desk.{IsHandOf, AreHandsOf, hand_parts, jobs_taken, t
 use Rattle.inst_hub.specs.declared.hub.Hub.{Hub}
 use Rattle.inst_hub.specs.declared.teller.Teller.{Teller}
 use Rattle.inst_hub.specs.Calls.{IsTellerOf, AreOf}
-use Rattle.inst_hub.specs.Opening.{hand_parts as parts_of_tellers}
+use Rattle.inst_hub.specs.Opening.{row_parts as parts_of_tellers}
 use Rattle.inst_row.specs.Seated.{view_of}
 use Rattle.inst_crew.specs.declared.shift.Shift.{Shift}
 use Rattle.inst_crew.specs.declared.worker.Worker.{Worker}

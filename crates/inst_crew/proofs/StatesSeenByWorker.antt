@@ -2,11 +2,8 @@
 use Rattle.std.proofs.Common.{◌≡◌, ℕ, zero, suc, List, [], ◌∷◌, ◌++◌, Some, None, subst}
 use Rattle.std.specs.Prelude.{Option, slice_get}
 use Rattle.inst_settings.specs.Settings.{HubSettings}
-use Rattle.inst_command.specs.declared.command.Command.{Command}
-use Rattle.inst_command.specs.declared.command.Command.TheVariants.{Fund, Defund, Submit, Confirm, Reject, Investigate, Fetch, Query}
 use Rattle.inst_command.specs.declared.outcome.State.{State as StateValue}
 use Rattle.inst_command.specs.declared.reply.Reply.{Reply}
-use Rattle.inst_command.specs.declared.reply.Reply.TheVariants.{Done, Taken, State, Inbox, Position as PositionReply, Statement as StatementReply, Refused}
 use Rattle.inst_board.specs.declared.about.About.TheVariants.{Opened, Decided}
 use Rattle.inst_board.specs.declared.about.Fact.{Fact}
 use Rattle.inst_command.specs.declared.place.Place.{Place}
@@ -15,33 +12,11 @@ use Rattle.inst_journal.specs.declared.event.Event.{Event}
 use Rattle.inst_command.specs.declared.ask.Ask.{Ask}
 use Rattle.inst_hub.specs.declared.hub.Hub.{Hub}
 use Rattle.inst_hub.specs.declared.teller.Teller.{Teller}
-use Rattle.inst_participant.specs.Answers.{IsTicket, IsSubmitted}
+use Rattle.inst_participant.specs.Answers.{IsTicket}
+use Rattle.inst_participant.proofs.PlaceOfTicketIsOpened.{ticket_opened}
 use Rattle.inst_hub.specs.Calls.{TellerKnowsMore, Calls, knows_of}
 use Rattle.inst_crew.specs.Seen.{IsOutcomeSeen}
 use Rattle.inst_crew.specs.inner.Seen.{AreSeen}
-
-no_ticket : (k : Place) → Some k ≡ None → ⊥
-no_ticket k e = cc
-
-submitted_opened : (sees : Fact → Type 0) (s : HubSettings) (command : Command) (k : Place) → IsSubmitted sees s command k → sees (about k Opened)
-submitted_opened sees s (Submit x) k h = h.0
-submitted_opened sees s (Fund funding) k h = absurd h
-submitted_opened sees s (Defund funding) k h = absurd h
-submitted_opened sees s (Confirm p i) k h = absurd h
-submitted_opened sees s (Reject p i r) k h = absurd h
-submitted_opened sees s (Investigate i) k h = absurd h
-submitted_opened sees s (Fetch n) k h = absurd h
-submitted_opened sees s (Query query) k h = absurd h
-
--- a ticket names a place that is known opened
-pub ticket_opened : (sees : Fact → Type 0) (s : HubSettings) (who : ℕ) (command : Command) (K : List Event) (reply : Reply) (k : Place) → IsTicket sees s who command K reply (Some k) → sees (about k Opened)
-ticket_opened sees s who command K (Taken id deadline) k h = submitted_opened sees s command k h.2
-ticket_opened sees s who command K (State from id state) k h = h.2.opened
-ticket_opened sees s who command K (Done r) k h = absurd (no_ticket k h)
-ticket_opened sees s who command K (Inbox es) k h = absurd (no_ticket k h)
-ticket_opened sees s who command K (PositionReply a b d) k h = absurd (no_ticket k h)
-ticket_opened sees s who command K (StatementReply ls) k h = absurd (no_ticket k h)
-ticket_opened sees s who command K (Refused f) k h = absurd (no_ticket k h)
 
 pub seen_more : (t u : Teller) (pair : Place × StateValue) → TellerKnowsMore t u → IsOutcomeSeen t pair → IsOutcomeSeen u pair
 seen_more t u pair more seen = record {

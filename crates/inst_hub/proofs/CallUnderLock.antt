@@ -7,7 +7,7 @@ use Rattle.inst_command.specs.declared.ask.Ask.{Ask}
 use Rattle.inst_command.specs.declared.command.Command.{Command}
 use Rattle.inst_command.specs.declared.command.Command.TheVariants.{Fund, Defund, Submit, Confirm, Reject, Investigate, Fetch, Query}
 use Rattle.inst_command.specs.declared.reply.Reply.{Reply}
-use Rattle.inst_command.specs.declared.reply.Reply.TheVariants.{Done, Taken as TakenReply, State, Inbox, Position as PositionReply, Statement as StatementReply, Refused}
+use Rattle.inst_model.specs.TransferTold.{TransferTold, transfer_told, tells_taken, tells_state, tells_nothing}
 use Rattle.inst_command.specs.declared.place.Place.{Place}
 use Rattle.inst_board.specs.declared.about.Fact.{Fact}
 use Rattle.std.specs.Global.{Box}
@@ -26,7 +26,7 @@ use Rattle.inst_participant.specs.declared.participant.Participant.{Participant}
 use Rattle.inst_hub.specs.declared.hub.Hub.{Hub}
 use Rattle.inst_hub.specs.declared.teller.Teller.{Teller}
 use Rattle.inst_participant.specs.LockLaw.{IsLater}
-use Rattle.inst_participant.specs.Answers.{Answered, IsSubmitted, IsTicket}
+use Rattle.inst_participant.specs.Answers.{Answered, IsSubmitted, IsTicket, IsTicketOf}
 use Rattle.inst_participant.specs.declared.follow_up.FollowUp.{FollowUp}
 use Rattle.inst_participant.specs.Following.{follow_up_of, Does}
 use Rattle.inst_participant.specs.Serving.{Serves}
@@ -42,7 +42,7 @@ pub record IsFound (key : InitialState) (p : ℕ) (s mid : Seat) (x : Participan
   pub law : IsSince key p x
   pub goes_on : GoesOn p x.slot.events s
   pub has : Has p x.slot.events mid
-  pub sight_knows : Sees p x.slot.events s mid
+  pub sees : Sees p x.slot.events s mid
 
 -- the same out of its box
 pub out_of_box : (key : InitialState) (p : ℕ) (s mid : Seat) (b : Box Participant) (x : Participant) → x ≡ b.value → IsSince key p b.value → GoesOn p b.value.slot.events s
@@ -182,11 +182,11 @@ submitted_more S S' more s (Investigate i) k h = absurd h
 submitted_more S S' more s (Fetch n) k h = absurd h
 submitted_more S S' more s (Query query) k h = absurd h
 
-ticket_more : (S S' : Fact → Type 0) → ((f : Fact) → S f → S' f) → (s : HubSettings) (who : ℕ) (command : Command) (K : List Event) (reply : Reply) (ticket : Option Place)
-    → IsTicket S s who command K reply ticket → IsTicket S' s who command K reply ticket
-ticket_more S S' more s who command K (TakenReply id d) (Some k) h = (h.0, h.1, submitted_more S S' more s command k h.2)
-ticket_more S S' more s who command K (TakenReply id d) None h = h
-ticket_more S S' more s who command K (State from id state) (Some k) h = (
+ticket_more : (S S' : Fact → Type 0) → ((f : Fact) → S f → S' f) → (s : HubSettings) (who : ℕ) (command : Command) (K : List Event) (told : TransferTold) (ticket : Option Place)
+    → IsTicketOf S s who command K told ticket → IsTicketOf S' s who command K told ticket
+ticket_more S S' more s who command K (tells_taken id d) (Some k) h = (h.0, h.1, submitted_more S S' more s command k h.2)
+ticket_more S S' more s who command K (tells_taken id d) None h = h
+ticket_more S S' more s who command K (tells_state from id state) (Some k) h = (
   h.0,
   h.1,
   record {
@@ -197,12 +197,8 @@ ticket_more S S' more s who command K (State from id state) (Some k) h = (
     outcome = λ o e. more _ (h.2.outcome o e);
   },
 )
-ticket_more S S' more s who command K (State from id state) None h = h
-ticket_more S S' more s who command K (Done r) ticket h = h
-ticket_more S S' more s who command K (Inbox e) ticket h = h
-ticket_more S S' more s who command K (PositionReply p r a) ticket h = h
-ticket_more S S' more s who command K (StatementReply l) ticket h = h
-ticket_more S S' more s who command K (Refused f) ticket h = h
+ticket_more S S' more s who command K (tells_state from id state) None h = h
+ticket_more S S' more s who command K tells_nothing ticket h = h
 
 -- a call, and what followed
 pub call_more : (h : Hub) (t u v : Teller) (ask : Ask) (r : (Reply × Option Place) × Option FollowUp) → Asks h t ask r u → TellerKnowsMore t u → TellerKnowsMore u v → Follows h r.1 u v → Calls h t ask r.0 v
@@ -218,6 +214,6 @@ call_more h t u v ask r asks known more follows =
           ∙ append_assoc (fronts_seen t) (front ask.who c.found.slot.events ∷ front ask.who c.left.slot.events ∷ []) follows.fronts);
       serves = c.serves;
       answered = c.answered;
-      ticket = ticket_more (knows_of u) (knows_of v) more.facts h.settings ask.who ask.command c.left.slot.events r.0.0 r.0.1 c.ticket;
+      ticket = ticket_more (knows_of u) (knows_of v) more.facts h.settings ask.who ask.command c.left.slot.events (transfer_told r.0.0) r.0.1 c.ticket;
     } in
     (follows.fronts, call, subst (λ (f : Option FollowUp). IsFollowed h f t follows.fronts) asks.1 (followed_from h r.1 t u follows.fronts known follows.followed))

@@ -83,7 +83,7 @@ pub record SurvivesACrash (mode : Mode) (past : HubPast) (header : List ℕ) (to
   pub consumes : Consumes left left' bytes
   pub lines : List (List ℕ)
   pub lines_are : AreLinesOf bytes left' lines
-  pub lines_after_settings : TellsKept (kept_said header) may_leave
+  pub kept : TellsKept (kept_said header) may_leave
       (AreReplies
       (unsent_replies_at mode past (kept_said header old)
       (told_count told (kept_said header old))))

@@ -7,6 +7,7 @@ pub mod Events
 pub mod BookingsInClosedBooks
 pub mod HistoriesBeginSoundAndClosed
 pub mod RepliesFromViewAlone
+pub mod QueriesTellOfNoTransfer
 pub mod Outcomes
 pub mod Transfers
 pub mod Sums

@@ -10,7 +10,6 @@ use Rattle.inst_settings.specs.Settings.{HubSettings}
 use Rattle.inst_command.specs.declared.command.Command.{Command}
 use Rattle.inst_command.specs.declared.command.Command.TheVariants.{Fund, Defund, Submit, Confirm, Reject, Investigate, Fetch, Query}
 use Rattle.inst_command.specs.declared.entry.Entry.{Entry}
-use Rattle.inst_command.specs.declared.query.Query.TheVariants.{Position, Statement}
 use Rattle.inst_command.specs.declared.outcome.Outcome.{Outcome}
 use Rattle.inst_command.specs.declared.outcome.State.TheVariants.{Unused, Pending, Decided}
 use Rattle.inst_command.specs.declared.step.Step.{Step}
@@ -18,7 +17,7 @@ use Rattle.inst_command.specs.declared.step.Step.TheVariants.{Ask}
 use Rattle.inst_command.specs.declared.reply.Answer.{Answer}
 use Rattle.inst_command.specs.declared.reply.Answer.TheVariants.{Reply, New}
 use Rattle.inst_command.specs.declared.reply.Reply.{Reply as ReplyValue}
-use Rattle.inst_command.specs.declared.reply.Reply.TheVariants.{Done, Taken as TakenReply, State, Inbox, Position as PositionReply, Statement as StatementReply, Refused}
+use Rattle.inst_command.specs.declared.reply.Reply.TheVariants.{State}
 use Rattle.inst_journal.specs.declared.event.Event.{Event}
 use Rattle.inst_journal.specs.declared.handle.Handled.{Handled}
 use Rattle.inst_journal.specs.declared.event.Event.TheVariants.{Funded, Defunded, Taken, Forwarded, Booked, Fetched, Opened}
@@ -31,9 +30,11 @@ use Rattle.inst_model.specs.Wants.{wants}
 use Rattle.inst_model.specs.Found.{found}
 use Rattle.inst_model.specs.Hub.{outcome, history}
 use Rattle.inst_model.specs.Trace.{as_reply}
+use Rattle.inst_model.specs.TransferTold.{TransferTold, transfer_told, tells_taken, tells_state, tells_nothing}
 use Rattle.inst_model.specs.OneOutcome.{AnsweredIsTheOutcome, BookedIsTheOutcome, OutcomeStays}
 use Rattle.inst_model.proofs.TextsTestsAndFirstThings.{or_else_kept, Each, Each_push, Each_weaker, Each_contains, first_some_each, same_transfer-true}
 use Rattle.inst_model.proofs.Histories.{by_step}
+use Rattle.inst_model.proofs.QueriesTellOfNoTransfer.{query_tells_nothing}
 use Rattle.inst_model.proofs.MirrorOfFittingHistories.{each_contained}
 use Rattle.inst_model.proofs.BookingsAreOfParties.{booked_found}
 use Rattle.inst_model.proofs.HistoriesBeginSoundAndClosed.{beginning_sound, beginning_booked}
@@ -111,22 +112,18 @@ booked_outcome s O opened L p from id o e =
     (λ event is here. books_is (outcome s O L) from id o event is here) (all_booked s O opened L p) e
 
 -- a decided state in the reply is the outcome
-abbrev IsRight : (ℕ → List ℕ → Option Outcome) → ReplyValue → Type 0
-IsRight outcomes (State from id (Decided o)) = outcomes from id ≡ Some o
-IsRight outcomes (State from id Unused) = Unit {0}
-IsRight outcomes (State from id Pending) = Unit {0}
-IsRight outcomes (Done reference) = Unit {0}
-IsRight outcomes (TakenReply id deadline) = Unit {0}
-IsRight outcomes (Inbox entries) = Unit {0}
-IsRight outcomes (PositionReply position reserved available) = Unit {0}
-IsRight outcomes (StatementReply lines) = Unit {0}
-IsRight outcomes (Refused fault) = Unit {0}
+abbrev IsRight : (ℕ → List ℕ → Option Outcome) → TransferTold → Type 0
+IsRight outcomes (tells_state from id (Decided o)) = outcomes from id ≡ Some o
+IsRight outcomes (tells_state from id Unused) = Unit {0}
+IsRight outcomes (tells_state from id Pending) = Unit {0}
+IsRight outcomes (tells_taken id deadline) = Unit {0}
+IsRight outcomes tells_nothing = Unit {0}
 
 abbrev Right : (ℕ → List ℕ → Option Outcome) → Result Handled Fault → Type 0
-Right outcomes h = IsRight outcomes (as_reply (reply_result h))
+Right outcomes h = IsRight outcomes (transfer_told (as_reply (reply_result h)))
 
 abbrev AnswerRight : (ℕ → List ℕ → Option Outcome) → Answer → Type 0
-AnswerRight outcomes (Reply r) = IsRight outcomes r
+AnswerRight outcomes (Reply r) = IsRight outcomes (transfer_told r)
 AnswerRight outcomes (New b) = Unit {0}
 
 chosen : (outcomes : ℕ → List ℕ → Option Outcome) (b : Bool) (x y : Result Handled Fault) → (b ≡ true → Right outcomes x) → (b ≡ false → Right outcomes y) → Right outcomes (cond b x y)
@@ -172,8 +169,7 @@ handled_right s who J (Investigate id) at outcomes known =
     chosen outcomes (is_taken id J) _ _
     (λ there. standing_right outcomes who id (still_pending who id) (booked who id J) _ tt (known who id) (cond-true (is_taken id J) (outcomes who id) None there)) (λ _. tt)
 handled_right s who J (Fetch max) at outcomes known = hand_out_right outcomes (take max (unread J))
-handled_right s who J (Query Position) at outcomes known = tt
-handled_right s who J (Query (Statement skip count)) at outcomes known = tt
+handled_right s who J (Query query) at outcomes known = subst (IsRight outcomes) (sym (query_tells_nothing J query)) tt
 
 pub answered_is_the_outcome : AnsweredIsTheOutcome
 answered_is_the_outcome s O opened past ask from id o e =

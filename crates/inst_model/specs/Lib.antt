@@ -5,6 +5,7 @@ pub mod View
 pub mod Kept
 pub mod Hub
 pub mod Trace
+pub mod TransferTold
 pub mod Rows
 pub mod Isolation
 pub mod OneOutcome

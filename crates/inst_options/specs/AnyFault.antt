@@ -9,12 +9,12 @@ use Rattle.inst_options.specs.declared.any_fault.AnyFault.TheVariants.{Hub, Log,
 
 abbrev pub any_fault_number : AnyFault → ℕ
 any_fault_number (Hub fault) = hub.number_of fault
-any_fault_number (Log fault) = log.number_of fault
+any_fault_number (Log fault) = log.log_fault_number fault
 any_fault_number NoInterleaving = 29
 
 abbrev pub any_fault_name : AnyFault → List ℕ
 any_fault_name (Hub fault) = hub.name_of fault
-any_fault_name (Log fault) = log.name_of fault
+any_fault_name (Log fault) = log.log_fault_name fault
 any_fault_name NoInterleaving = codes "NoInterleaving"
 
 -- the word is the fault's name, or its number in digits, which may follow a plus

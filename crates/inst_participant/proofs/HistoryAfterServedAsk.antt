@@ -7,7 +7,6 @@ use Rattle.inst_settings.specs.Settings.{HubSettings}
 use Rattle.inst_command.specs.declared.ask.Ask.{Ask}
 use Rattle.inst_command.specs.declared.outcome.Outcome.{Outcome}
 use Rattle.inst_command.specs.declared.reply.Reply.{Reply}
-use Rattle.inst_command.specs.declared.reply.Reply.TheVariants.{Done, Taken, State, Inbox, Position, Statement, Refused}
 use Rattle.inst_command.specs.declared.place.Place.{Place}
 use Rattle.inst_board.specs.declared.wish.Wish.{Wish}
 use Rattle.inst_board.specs.declared.about.Fact.{Fact}
@@ -15,6 +14,7 @@ use Rattle.inst_journal.specs.declared.event.Event.{Event}
 use Rattle.inst_journal.specs.Sound.{IsSound}
 use Rattle.inst_journal.specs.Reply.{handle, reply_result as told_of, kept_events}
 use Rattle.inst_model.specs.Trace.{as_reply}
+use Rattle.inst_model.specs.TransferTold.{TransferTold, transfer_told, tells_taken, tells_state, tells_nothing}
 use Rattle.inst_cell.specs.declared.sight.Sight.{Sight}
 use Rattle.inst_cell.specs.Held.{settings_of, knows, has_role}
 use Rattle.inst_cell.specs.Seen.{sight_knows}
@@ -22,8 +22,8 @@ use Rattle.inst_slot.specs.Book.{Book, place_of}
 use Rattle.inst_slot.specs.Asking.{request, handle_ask, Applies, AppliesTo}
 use Rattle.inst_participant.specs.declared.participant.Participant.{Participant}
 use Rattle.inst_participant.specs.LockLaw.{IsReady}
-use Rattle.inst_participant.specs.Answers.{Answered, IsTicket}
-use Rattle.inst_participant.specs.inner.Telling.{IsToldBy}
+use Rattle.inst_participant.specs.Answers.{Answered, IsTicket, IsTicketOf}
+use Rattle.inst_participant.specs.inner.Telling.{IsToldBy, IsToldFor}
 use Rattle.inst_participant.specs.Told.{IsToldMore}
 use Rattle.inst_participant.proofs.TicketOfReply.{IsReplied, ticket_taken, ticket_state}
 
@@ -52,12 +52,12 @@ pub its_ticket : (x y : Participant) (u : Sight) (ask : Ask) (reply : Reply) (ti
     → IsReady y → y.slot.who ≡ x.slot.who → y.slot.settings ≡ x.slot.settings → ask.who ≡ x.slot.who → IsSound y.slot.settings y.slot.who y.slot.events
     → Answered x.slot.settings x.slot.who x.slot.events ask reply y.slot.events
     → IsToldBy y ask.who reply u ticket → IsTicket (sight_knows u) x.slot.settings x.slot.who ask.command y.slot.events reply ticket
-its_ticket x y u ask reply ticket ready same_who same_settings own sound answered told = go reply told replied
+its_ticket x y u ask reply ticket ready same_who same_settings own sound answered told = go (transfer_told reply) told replied
   where
-    replied : IsReplied x.slot.settings x.slot.events ask.command ask.at answered.found reply y.slot
+    replied : IsReplied x.slot.settings x.slot.events ask.command ask.at answered.found (transfer_told reply) y.slot
     replied = record {
       settings_are = same_settings;
-      reply_is = subst (λ (n : ℕ). reply ≡ as_reply (told_of (handle x.slot.settings n x.slot.events ask.command ask.at answered.found))) (sym same_who) answered.reply_is;
+      told_is = ap transfer_told (subst (λ (n : ℕ). reply ≡ as_reply (told_of (handle x.slot.settings n x.slot.events ask.command ask.at answered.found))) (sym same_who) answered.reply_is);
       kept = subst (λ (n : ℕ). y.slot.events ≡ x.slot.events ++ kept_events (handle x.slot.settings n x.slot.events ask.command ask.at answered.found)) (sym same_who) answered.kept;
       sound = subst (λ (s : HubSettings). IsSound s y.slot.who y.slot.events) same_settings sound;
     }
@@ -65,17 +65,13 @@ its_ticket x y u ask reply ticket ready same_who same_settings own sound answere
     mine : ask.who ≡ y.slot.who
     mine = own ∙ sym same_who
 
-    go : (r : Reply) → IsToldBy y ask.who r u ticket → IsReplied x.slot.settings x.slot.events ask.command ask.at answered.found r y.slot → IsTicket (sight_knows u) x.slot.settings x.slot.who ask.command y.slot.events r ticket
-    go (Taken id deadline) t rep = subst (λ (n : ℕ). IsTicket (sight_knows u) x.slot.settings n ask.command y.slot.events (Taken id deadline) ticket) same_who
+    go : (told : TransferTold) → IsToldFor y ask.who told u ticket → IsReplied x.slot.settings x.slot.events ask.command ask.at answered.found told y.slot → IsTicketOf (sight_knows u) x.slot.settings x.slot.who ask.command y.slot.events told ticket
+    go (tells_taken id deadline) t rep = subst (λ (n : ℕ). IsTicketOf (sight_knows u) x.slot.settings n ask.command y.slot.events (tells_taken id deadline) ticket) same_who
         (ticket_taken settings_of knows has_role y.board y.slot x.slot.settings x.slot.events ask.command ask.at answered.found id deadline ticket (sight_knows u) ready.lawful ready.adopted rep
         (t.0 ∙ ap (λ (n : ℕ). place_of y.slot n id) mine) t.1)
-    go (State from id state) t rep = subst (λ (n : ℕ). IsTicket (sight_knows u) x.slot.settings n ask.command y.slot.events (State from id state) ticket) same_who
+    go (tells_state from id state) t rep = subst (λ (n : ℕ). IsTicketOf (sight_knows u) x.slot.settings n ask.command y.slot.events (tells_state from id state) ticket) same_who
         (ticket_state settings_of knows has_role y.board y.slot x.slot.settings x.slot.events ask.command ask.at answered.found from id state ticket (sight_knows u) ready.lawful ready.adopted rep t.0 t.1)
-    go (Done reference) t rep = t
-    go (Inbox entries) t rep = t
-    go (Position p r a) t rep = t
-    go (Statement lines) t rep = t
-    go (Refused fault) t rep = t
+    go tells_nothing t rep = t
 
 -- a history that is told one event more, if any, grows
 pub told_grows : (J K : List Event) → IsToldMore J K → IsPrefix J K

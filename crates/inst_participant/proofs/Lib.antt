@@ -14,3 +14,4 @@ pub mod HistoryFitsMoreParticipants
 pub mod SettlementPlaceByPlace
 pub mod OneBookSettlesOthersStay
 pub mod BooksLawfulOverJoinedBoard
+pub mod PlaceOfTicketIsOpened

@@ -12,7 +12,6 @@ use Rattle.inst_command.specs.declared.command.Command.{Command}
 use Rattle.inst_command.specs.declared.command.Command.TheVariants.{Fund, Defund, Submit, Confirm, Reject, Investigate, Fetch, Query}
 use Rattle.inst_command.specs.declared.entry.Entry.{Entry}
 use Rattle.inst_command.specs.declared.funding.Funding.{Funding}
-use Rattle.inst_command.specs.declared.query.Query.TheVariants.{Position as AskPosition, Statement as AskStatement}
 use Rattle.inst_command.specs.declared.outcome.Outcome.{Outcome}
 use Rattle.inst_command.specs.declared.outcome.State.{State as StateValue}
 use Rattle.inst_command.specs.declared.outcome.State.TheVariants.{Decided}
@@ -30,20 +29,17 @@ use Rattle.inst_journal.specs.Repeats.{taken_of}
 use Rattle.inst_journal.specs.Reply.{reply_with_event, funding, is_new_funding, submit, state_reply, still_pending, unread, hand_out, handle, reply_result, kept_events}
 use Rattle.inst_journal.proofs.RepeatIsAnsweredAgain.{the_very_same}
 use Rattle.inst_model.specs.Trace.{as_reply}
+use Rattle.inst_model.specs.TransferTold.{transfer_told, tells_taken, tells_state, tells_nothing}
+use Rattle.inst_model.proofs.QueriesTellOfNoTransfer.{query_tells_nothing}
 use Rattle.inst_slot.proofs.LiveTransfersAfterEvent.{newly_booked}
 
 either : (P : Result Handled Fault → Type 0) (b : Bool) (x y : Result Handled Fault) → (b ≡ true → P x) → P y → P (cond b x y)
 either P true x y first second = first refl
 either P false x y first second = second
 
--- whether the reply names a transfer
-abbrev names_one : Reply → Bool
-names_one (TakenReply id deadline) = true
-names_one (State from id state) = true
-names_one _ = false
-
+-- nothing of a transfer is replied
 abbrev NamesNone : Result Handled Fault → Type 0
-NamesNone r = names_one (as_reply (reply_result r)) ≡ false
+NamesNone r = transfer_told (as_reply (reply_result r)) ≡ tells_nothing
 
 funding_none : (reference : List ℕ) (new : Result Handled Fault) (r : Result Bool Fault) → NamesNone new → NamesNone (funding reference new r)
 funding_none reference new (Err fault) none = refl
@@ -61,16 +57,16 @@ defund_none : (s : HubSettings) (who : ℕ) (J : List Event) (funding : Funding)
 defund_none s who J funding at found =
     funding_none funding.reference _ (is_new_funding s J funding.reference (is_defund_repeat funding J)) (either NamesNone (nat_lt (available J) funding.cents) _ _ (λ short. refl) refl)
 
-not_taken : (r : Result Handled Fault) (id : List ℕ) (deadline : ℕ) → NamesNone r → TakenReply id deadline ≡ as_reply (reply_result r) → ⊥
-not_taken r id deadline none e = false≢true (sym none ∙ sym (ap names_one e))
+not_taken : (r : Result Handled Fault) (id : List ℕ) (deadline : ℕ) → NamesNone r → tells_taken id deadline ≡ transfer_told (as_reply (reply_result r)) → ⊥
+not_taken r id deadline none e = let never : tells_taken id deadline ≡ tells_nothing = e ∙ none in cc
 
-not_state : (r : Result Handled Fault) (from : ℕ) (id : List ℕ) (state : StateValue) → NamesNone r → State from id state ≡ as_reply (reply_result r) → ⊥
-not_state r from id state none e = false≢true (sym none ∙ sym (ap names_one e))
+not_state : (r : Result Handled Fault) (from : ℕ) (id : List ℕ) (state : StateValue) → NamesNone r → tells_state from id state ≡ transfer_told (as_reply (reply_result r)) → ⊥
+not_state r from id state none e = let never : tells_state from id state ≡ tells_nothing = e ∙ none in cc
 
 -- a submission is told taken where it is kept, and no state is told of it
 record IsOfSubmission (J : List Event) (x : Submission) (r : Result Handled Fault) : Type 0 where
-  pub taken : (id : List ℕ) (deadline : ℕ) → TakenReply id deadline ≡ as_reply (reply_result r) → (x.id ≡ id) × Contains (J ++ kept_events r) (taken_of x)
-  pub no_state : (from : ℕ) (id : List ℕ) (state : StateValue) → State from id state ≡ as_reply (reply_result r) → ⊥
+  pub taken : (id : List ℕ) (deadline : ℕ) → tells_taken id deadline ≡ transfer_told (as_reply (reply_result r)) → (x.id ≡ id) × Contains (J ++ kept_events r) (taken_of x)
+  pub no_state : (from : ℕ) (id : List ℕ) (state : StateValue) → tells_state from id state ≡ transfer_told (as_reply (reply_result r)) → ⊥
 
 refused_submission : (J : List Event) (x : Submission) (fault : Fault) → IsOfSubmission J x (Err fault)
 refused_submission J x fault = record {
@@ -105,8 +101,8 @@ record StandsSo (J : List Event) (other : ℕ) (name : List ℕ) (r : Result Han
 
 -- the state of this transfer is told, and nothing taken
 record IsOfState (J : List Event) (other : ℕ) (name : List ℕ) (r : Result Handled Fault) : Type 0 where
-  pub state : (from : ℕ) (id : List ℕ) (state : StateValue) → State from id state ≡ as_reply (reply_result r) → StandsSo J other name r from id state
-  pub not_taken : (id : List ℕ) (deadline : ℕ) → TakenReply id deadline ≡ as_reply (reply_result r) → ⊥
+  pub state : (from : ℕ) (id : List ℕ) (state : StateValue) → tells_state from id state ≡ transfer_told (as_reply (reply_result r)) → StandsSo J other name r from id state
+  pub not_taken : (id : List ℕ) (deadline : ℕ) → tells_taken id deadline ≡ transfer_told (as_reply (reply_result r)) → ⊥
 
 refused_state : (J : List Event) (other : ℕ) (name : List ℕ) (fault : Fault) → IsOfState J other name (Err fault)
 refused_state J other name fault = record {
@@ -157,12 +153,12 @@ standing_state J other name waiting None (Some z) is so = record {
 standing_state J other name waiting None None is so = so
 
 -- a state is told only where the transfer is known
-guarded : (J : List Event) (other : ℕ) (name : List ℕ) (b : Bool) (r : Result Handled Fault) (from : ℕ) (id : List ℕ) (state : StateValue) → IsOfState J other name r → State from id state ≡ as_reply (reply_result (cond b r (Err UnknownTransfer)))
+guarded : (J : List Event) (other : ℕ) (name : List ℕ) (b : Bool) (r : Result Handled Fault) (from : ℕ) (id : List ℕ) (state : StateValue) → IsOfState J other name r → tells_state from id state ≡ transfer_told (as_reply (reply_result (cond b r (Err UnknownTransfer))))
     → (b ≡ true) × StandsSo J other name (cond b r (Err UnknownTransfer)) from id state
 guarded J other name true r from id state so e = (refl, so.state from id state e)
 guarded J other name false r from id state so e = let never : ⊥ = cc in absurd never
 
-guarded_not_taken : (J : List Event) (other : ℕ) (name : List ℕ) (b : Bool) (r : Result Handled Fault) (id : List ℕ) (deadline : ℕ) → IsOfState J other name r → TakenReply id deadline ≡ as_reply (reply_result (cond b r (Err UnknownTransfer))) → ⊥
+guarded_not_taken : (J : List Event) (other : ℕ) (name : List ℕ) (b : Bool) (r : Result Handled Fault) (id : List ℕ) (deadline : ℕ) → IsOfState J other name r → tells_taken id deadline ≡ transfer_told (as_reply (reply_result (cond b r (Err UnknownTransfer)))) → ⊥
 guarded_not_taken J other name true r id deadline so e = so.not_taken id deadline e
 guarded_not_taken J other name false r id deadline so e = cc
 
@@ -191,7 +187,7 @@ forwarded_state who J other name r from id state there so = record {
 }
 
 module _ (s : HubSettings) (who : ℕ) (J : List Event) where
-  pub taken_told : (command : Command) (at : ℕ) (found : Option Outcome) (id : List ℕ) (deadline : ℕ) → TakenReply id deadline ≡ as_reply (reply_result (handle s who J command at found)) → TellsTaken J command (handle s who J command at found) id
+  pub taken_told : (command : Command) (at : ℕ) (found : Option Outcome) (id : List ℕ) (deadline : ℕ) → tells_taken id deadline ≡ transfer_told (as_reply (reply_result (handle s who J command at found))) → TellsTaken J command (handle s who J command at found) id
   taken_told (Submit x) at found id deadline e =
       let t = (of_submission s who J at x).taken id deadline e in
       record { x = x; command_is = refl; id_is = t.0; kept = t.1 }
@@ -201,10 +197,9 @@ module _ (s : HubSettings) (who : ℕ) (J : List Event) where
   taken_told (Fund funding) at found id deadline e = absurd (not_taken (handle s who J (Fund funding) at found) id deadline (fund_none s who J funding at found) e)
   taken_told (Defund funding) at found id deadline e = absurd (not_taken (handle s who J (Defund funding) at found) id deadline (defund_none s who J funding at found) e)
   taken_told (Fetch max) at found id deadline e = absurd (not_taken (hand_out (take max (unread J))) id deadline (handed_none (take max (unread J))) e)
-  taken_told (Query AskPosition) at found id deadline e = let never : ⊥ = cc in absurd never
-  taken_told (Query (AskStatement skip count)) at found id deadline e = let never : ⊥ = cc in absurd never
+  taken_told (Query query) at found id deadline e = absurd (not_taken (handle s who J (Query query) at found) id deadline (query_tells_nothing J query) e)
 
-  pub state_told : (command : Command) (at : ℕ) (found : Option Outcome) (from : ℕ) (id : List ℕ) (state : StateValue) → State from id state ≡ as_reply (reply_result (handle s who J command at found))
+  pub state_told : (command : Command) (at : ℕ) (found : Option Outcome) (from : ℕ) (id : List ℕ) (state : StateValue) → tells_state from id state ≡ transfer_told (as_reply (reply_result (handle s who J command at found)))
       → TellsState who J (handle s who J command at found) from id state
   state_told (Confirm other name) at found from id state e =
       let g = guarded J other name (is_forwarded other name J) _ from id state (confirmed_state J other name found) e in
@@ -219,5 +214,4 @@ module _ (s : HubSettings) (who : ℕ) (J : List Event) where
   state_told (Fund funding) at found from id state e = absurd (not_state (handle s who J (Fund funding) at found) from id state (fund_none s who J funding at found) e)
   state_told (Defund funding) at found from id state e = absurd (not_state (handle s who J (Defund funding) at found) from id state (defund_none s who J funding at found) e)
   state_told (Fetch max) at found from id state e = absurd (not_state (hand_out (take max (unread J))) from id state (handed_none (take max (unread J))) e)
-  state_told (Query AskPosition) at found from id state e = let never : ⊥ = cc in absurd never
-  state_told (Query (AskStatement skip count)) at found from id state e = let never : ⊥ = cc in absurd never
+  state_told (Query query) at found from id state e = absurd (not_state (handle s who J (Query query) at found) from id state (query_tells_nothing J query) e)

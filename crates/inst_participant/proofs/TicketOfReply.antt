@@ -14,8 +14,6 @@ use Rattle.inst_command.specs.declared.command.Command.TheVariants.{Submit}
 use Rattle.inst_command.specs.declared.outcome.Outcome.{Outcome}
 use Rattle.inst_command.specs.declared.outcome.State.{State as StateValue}
 use Rattle.inst_command.specs.declared.outcome.State.TheVariants.{Decided as IsDecided}
-use Rattle.inst_command.specs.declared.reply.Reply.{Reply}
-use Rattle.inst_command.specs.declared.reply.Reply.TheVariants.{Taken as TakenReply, State}
 use Rattle.inst_command.specs.declared.submission.Submission.{Submission}
 use Rattle.inst_terms.specs.declared.terms.Terms.{Terms}
 use Rattle.inst_command.specs.declared.place.Place.{Place}
@@ -33,6 +31,7 @@ use Rattle.inst_journal.proofs.TestOfOneThingFindsIt.{there_is_found}
 use Rattle.inst_journal.proofs.KeyOnce.{taken_once}
 use Rattle.inst_journal.proofs.OwnBookings.{own_unforwarded}
 use Rattle.inst_model.specs.Trace.{as_reply}
+use Rattle.inst_model.specs.TransferTold.{TransferTold, transfer_told, tells_taken, tells_state}
 use Rattle.inst_slot.specs.Book.{Book, place_at, terms_to, arrived_at, place_with_index, place_of}
 use Rattle.inst_slot.specs.LawfulBoard.{LiesAt, IsLawfulBoard, AllAreAdopted}
 use Rattle.inst_slot.proofs.ForwardedTransfersHavePlaces.{is_adopted}
@@ -40,14 +39,14 @@ use Rattle.inst_slot.proofs.SlotMayDecideWhatIsAsked.{position_found, taken_at_p
 use Rattle.inst_slot.proofs.LiveTransfersAfterEvent.{filtered}
 use Rattle.inst_slot.proofs.BoardStaysLawful.{arrival_at, lying}
 use Rattle.inst_slot.proofs.ResolutionFitsBooks.{arrival_forwarded, taken_contains}
-use Rattle.inst_participant.specs.Answers.{IsInState, IsTicket}
+use Rattle.inst_participant.specs.Answers.{IsInState, IsTicketOf}
 use Rattle.inst_participant.proofs.EachTransferOnce.{same_index, same_one, counted_kept}
 use Rattle.inst_participant.proofs.ReplyTellsOfHistory.{taken_told, state_told}
 
--- the reply is the model's for a command on the history J that finds this, and the book is that after it
-pub record IsReplied (s : HubSettings) (J : List Event) (command : Command) (at : ℕ) (found : Option Outcome) (reply : Reply) (book : Book) : Type 0 where
+-- what is told of a transfer is what the model replies of it to a command on the history J that finds this, and the book is that after it
+pub record IsReplied (s : HubSettings) (J : List Event) (command : Command) (at : ℕ) (found : Option Outcome) (told : TransferTold) (book : Book) : Type 0 where
   pub settings_are : book.settings ≡ s
-  pub reply_is : reply ≡ as_reply (reply_result (handle s book.who J command at found))
+  pub told_is : told ≡ transfer_told (as_reply (reply_result (handle s book.who J command at found)))
   pub kept : book.events ≡ J ++ kept_events (handle s book.who J command at found)
   pub sound : IsSound s book.who book.events
 
@@ -99,9 +98,9 @@ module _ {B : Type 0} (settings : B → HubSettings) (knows : B → Fact → Typ
   submitted : (b : B) (book : Book) (s : HubSettings) (id : List ℕ) (deadline : ℕ) (x : Submission) (ticket : Option Place) (sees : Fact → Type 0)
       → IsLawfulBoard settings knows has_role b book → book.settings ≡ s → IsSound s book.who book.events → x.id ≡ id → Contains book.events (Taken id x.to x.cents x.stamp)
       → ((k : Place) → ticket ≡ Some k → (f : Fact) → knows b f → sees f) → (o : Option ℕ) → position (takes id) (live_taken book.who book.events) ≡ o → ticket ≡ place_with_index book.who o
-      → IsTicket sees s book.who (Submit x) book.events (TakenReply id deadline) ticket
+      → IsTicketOf sees s book.who (Submit x) book.events (tells_taken id deadline) ticket
   submitted b book s id deadline x ticket sees lawful same sound id_is there seen None e is =
-      subst (IsTicket sees s book.who (Submit x) book.events (TakenReply id deadline)) (sym is)
+      subst (IsTicketOf sees s book.who (Submit x) book.events (tells_taken id deadline)) (sym is)
       (own_unlive book.who book.events id (there_is_found (takes id) (Taken id x.to x.cents x.stamp) book.events (same_text_refl id) there) e)
   submitted b book s id deadline x ticket sees lawful same sound id_is there seen (Some index) e is =
       let t = taken_at_position book id index e in
@@ -116,7 +115,7 @@ module _ {B : Type 0} (settings : B → HubSettings) (knows : B → Fact → Typ
       let due_is : deadline_of book.settings.limit t.stamp ≡ deadline_of s.limit x.stamp = ap (deadline_of book.settings.limit) stamp_is ∙ ap (λ (h : HubSettings). deadline_of h.limit x.stamp) same in
       let known = lawful.taken_known index id t.to t.cents t.stamp t.there in
       let saw = seen k is in
-      subst (IsTicket sees s book.who (Submit x) book.events (TakenReply id deadline)) (sym is) (
+      subst (IsTicketOf sees s book.who (Submit x) book.events (tells_taken id deadline)) (sym is) (
         refl,
         lies_live b book book.who id index lawful (inl (refl, t)),
         (
@@ -128,16 +127,16 @@ module _ {B : Type 0} (settings : B → HubSettings) (knows : B → Fact → Typ
 
   -- a taken transfer's ticket
   pub ticket_taken : (b : B) (book : Book) (s : HubSettings) (J : List Event) (command : Command) (at : ℕ) (found : Option Outcome) (id : List ℕ) (deadline : ℕ) (ticket : Option Place) (sees : Fact → Type 0) →
-      IsLawfulBoard settings knows has_role b book → AllAreAdopted book → IsReplied s J command at found (TakenReply id deadline) book →
+      IsLawfulBoard settings knows has_role b book → AllAreAdopted book → IsReplied s J command at found (tells_taken id deadline) book →
       ticket ≡ place_of book book.who id → ((k : Place) → ticket ≡ Some k → (f : Fact) → knows b f → sees f) →
-      IsTicket sees s book.who command book.events (TakenReply id deadline) ticket
+      IsTicketOf sees s book.who command book.events (tells_taken id deadline) ticket
   ticket_taken b book s J command at found id deadline ticket sees lawful adopted replied is seen =
-      let t = taken_told s book.who J command at found id deadline replied.reply_is in
+      let t = taken_told s book.who J command at found id deadline replied.told_is in
       let kept : Contains book.events (taken_of t.x) = subst (λ (K : List Event). Contains K (taken_of t.x)) (sym replied.kept) t.kept in
       let named = subst (λ (i : List ℕ). Contains book.events (Taken i t.x.to t.x.cents t.x.stamp)) t.id_is kept in
       let own : ticket ≡ place_with_index book.who (position (takes id) (live_taken book.who book.events)) =
       is ∙ ap (λ (c : Bool). place_with_index book.who (cond c (position (takes id) (live_taken book.who book.events)) (arrived_at book.who id book.arrivals))) (eq-eqb book.who book.who refl) in
-      subst (λ (c : Command). IsTicket sees s book.who c book.events (TakenReply id deadline) ticket) (sym t.command_is)
+      subst (λ (c : Command). IsTicketOf sees s book.who c book.events (tells_taken id deadline) ticket) (sym t.command_is)
       (submitted b book s id deadline t.x ticket sees lawful replied.settings_are replied.sound t.id_is named seen (position (takes id) (live_taken book.who book.events)) refl own)
 
   -- an own transfer was not forwarded
@@ -187,9 +186,9 @@ module _ {B : Type 0} (settings : B → HubSettings) (knows : B → Fact → Typ
 
   -- the ticket of a transfer whose state is told
   pub ticket_state : (b : B) (book : Book) (s : HubSettings) (J : List Event) (command : Command) (at : ℕ) (found : Option Outcome) (from : ℕ) (id : List ℕ) (state : StateValue) (ticket : Option Place) (sees : Fact → Type 0) →
-      IsLawfulBoard settings knows has_role b book → AllAreAdopted book → IsReplied s J command at found (State from id state) book →
+      IsLawfulBoard settings knows has_role b book → AllAreAdopted book → IsReplied s J command at found (tells_state from id state) book →
       ticket ≡ place_of book from id → ((k : Place) → ticket ≡ Some k → (f : Fact) → knows b f → sees f) →
-      IsTicket sees s book.who command book.events (State from id state) ticket
+      IsTicketOf sees s book.who command book.events (tells_state from id state) ticket
   ticket_state b book s J command at found from id state ticket sees lawful adopted replied is seen =
       go (cond (from == book.who) (position (takes id) (live_taken book.who book.events)) (arrived_at from id book.arrivals)) refl is
     where
@@ -200,14 +199,14 @@ module _ {B : Type 0} (settings : B → HubSettings) (knows : B → Fact → Typ
       party = ⊎_elim
           (λ own. inl (own.0, still_there (takes id) J X book.events replied.kept own.1))
           (λ forwarded. inr (still_there (forwards from id) J X book.events replied.kept forwarded))
-          (state_told s book.who J command at found from id state replied.reply_is).party
+          (state_told s book.who J command at found from id state replied.told_is).party
 
       outcome : (o : Outcome) → state ≡ IsDecided o → booked from id book.events ≡ Some o
-      outcome o decided = ap (booked from id) replied.kept ∙ (state_told s book.who J command at found from id state replied.reply_is).outcome o decided
+      outcome o decided = ap (booked from id) replied.kept ∙ (state_told s book.who J command at found from id state replied.told_is).outcome o decided
 
       go : (o : Option ℕ) → cond (from == book.who) (position (takes id) (live_taken book.who book.events)) (arrived_at from id book.arrivals) ≡ o → ticket ≡ place_with_index from o
-          → IsTicket sees s book.who command book.events (State from id state) ticket
-      go None e told = subst (IsTicket sees s book.who command book.events (State from id state)) (sym told) (unplaced b book s from id lawful adopted replied.sound party (from == book.who) refl e)
-      go (Some index) e told = subst (IsTicket sees s book.who command book.events (State from id state)) (sym told)
+          → IsTicketOf sees s book.who command book.events (tells_state from id state) ticket
+      go None e told = subst (IsTicketOf sees s book.who command book.events (tells_state from id state)) (sym told) (unplaced b book s from id lawful adopted replied.sound party (from == book.who) refl e)
+      go (Some index) e told = subst (IsTicketOf sees s book.who command book.events (tells_state from id state)) (sym told)
           (let lies = lies_there book from id index (from == book.who) refl e in
           (refl, lies_live b book from id index lawful lies, in_state b book s from id index state sees lawful replied.sound lies (seen (place_at from index) told) outcome))

@@ -12,7 +12,6 @@ use Rattle.inst_command.specs.declared.outcome.Outcome.{Outcome}
 use Rattle.inst_command.specs.declared.outcome.State.{State as StateValue}
 use Rattle.inst_command.specs.declared.outcome.State.TheVariants.{Decided as IsDecided}
 use Rattle.inst_command.specs.declared.reply.Reply.{Reply}
-use Rattle.inst_command.specs.declared.reply.Reply.TheVariants.{Taken as TakenReply, State}
 use Rattle.inst_terms.specs.declared.terms.Terms.{Terms}
 use Rattle.inst_command.specs.declared.place.Place.{Place}
 use Rattle.inst_board.specs.declared.wish.Wish.{Wish}
@@ -28,6 +27,8 @@ use Rattle.inst_journal.specs.Booked.{booked}
 use Rattle.inst_journal.specs.Opened.{is_live}
 use Rattle.inst_journal.specs.Reply.{handle, reply_result, kept_events}
 use Rattle.inst_model.specs.Trace.{as_reply}
+use Rattle.inst_model.specs.TransferTold.{TransferTold, transfer_told, tells_taken, tells_state}
+use Rattle.inst_model.specs.TransferTold.{tells_nothing}
 use Rattle.inst_slot.specs.Book.{terms_to}
 
 -- the command decides a transfer that is due at this deadline, of which the history has nothing
@@ -79,16 +80,22 @@ pub record IsInState (sees : Fact →
   pub has_terms : sees (about k (HasTerms terms))
   pub outcome : (o : Outcome) → state ≡ IsDecided o → sees (about k (Decided o))
 
--- The ticket that goes with the reply, where the history is then K: it names the place of the
--- transfer that the reply tells of, and there is none where that transfer isn't live
-abbrev pub IsTicket : (Fact → Type 0) → HubSettings → ℕ → Command → List Event → Reply →
+-- The ticket that goes with what a reply tells of a transfer, where the history is then K: it names
+-- the place of that transfer, and there is none where it isn't live
+abbrev pub IsTicketOf : (Fact → Type 0) → HubSettings → ℕ → Command → List Event → TransferTold →
     Option Place → Type 0
-IsTicket sees s who command K (TakenReply id deadline) (Some k) =
+IsTicketOf sees s who command K (tells_taken id deadline) (Some k) =
     (k.owner ≡ who) × (is_live who id K ≡ true)
     × IsSubmitted sees s command k
-IsTicket sees s who command K (TakenReply id deadline) None = is_live who id K ≡ false
-IsTicket sees s who command K (State from id state) (Some k) =
+IsTicketOf sees s who command K (tells_taken id deadline) None = is_live who id K ≡ false
+IsTicketOf sees s who command K (tells_state from id state) (Some k) =
     (k.owner ≡ from) × (is_live from id K ≡ true)
     × IsInState sees id state k
-IsTicket sees s who command K (State from id state) None = is_live from id K ≡ false
-IsTicket sees s who command K _ ticket = ticket ≡ None
+IsTicketOf sees s who command K (tells_state from id state) None = is_live from id K ≡ false
+IsTicketOf sees s who command K tells_nothing ticket = ticket ≡ None
+
+-- the ticket that goes with the reply
+abbrev pub IsTicket : (Fact → Type 0) → HubSettings → ℕ → Command → List Event → Reply →
+    Option Place → Type 0
+IsTicket sees s who command K reply ticket =
+    IsTicketOf sees s who command K (transfer_told reply) ticket

@@ -1,6 +1,6 @@
 use Rattle.std.proofs.Common.{ap, ◌∙◌}
 use Rattle.inst_journal.specs.Money.{available}
-use Rattle.inst_ledger.specs.LedgerBook.{LedgerBook}
+use Rattle.inst_ledger.specs.Book.{LedgerBook}
 use Rattle.inst_books.proofs.ComparisonOfNumbers.{decides_le}
 use Rattle.inst_books.proofs.replay.Replay.covers.Goals as goal
 

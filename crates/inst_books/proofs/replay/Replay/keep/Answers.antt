@@ -1,7 +1,7 @@
 use Rattle.std.proofs.Common.{◌≡◌, ℕ, arith, rules, length, refl, sym, ap, ◌∙◌}
 use Rattle.std.proofs.lemmas.Grind.{common_steps}
 use Rattle.inst_journal.specs.declared.event.Event.TheVariants.{Forwarded, Booked, Opened}
-use Rattle.inst_ledger.specs.LedgerBook.{LedgerBook}
+use Rattle.inst_ledger.specs.Book.{LedgerBook}
 use Rattle.inst_books.proofs.CountsAfterOneMoreEvent.{IsQuiet, quiet_one, own_booked, one_came, some_wait, one_booked, begun, after_keeping, fits_within, sound_before}
 use Rattle.inst_books.proofs.replay.Replay.keep.Goals as goal
 

@@ -2,7 +2,7 @@ use Rattle.std.proofs.Common.{◌≡◌, ℕ, arith, sym, ap, ◌∙◌}
 use Rattle.std.proofs.lemmas.Bool.{false≢true}
 use Rattle.inst_settings.specs.Settings.{HubSettings, is_within_ceiling}
 use Rattle.inst_journal.specs.Opened.{live_submissions}
-use Rattle.inst_ledger.specs.LedgerBook.{LedgerBook}
+use Rattle.inst_ledger.specs.Book.{LedgerBook}
 use Rattle.inst_books.proofs.replay.Replay.may_reserve.Goals as goal
 use Rattle.inst_books.proofs.replay.Replay.may_reserve.Goals.{then-live_submissions-from, else-live_submissions-from}
 

@@ -1,7 +1,7 @@
 use Rattle.std.proofs.Common.{sym, subst, arith}
 use Rattle.std.proofs.lemmas.Grind.{common_steps}
 use Rattle.inst_journal.specs.Sound.{Fits}
-use Rattle.inst_ledger.specs.LedgerBook.{LedgerBook}
+use Rattle.inst_ledger.specs.Book.{LedgerBook}
 use Rattle.inst_ledger.proofs.HistoryEventByEvent.{fits_at_place}
 use Rattle.inst_ledger.proofs.ledger.Ledger.keep_all.Goals as goal
 

@@ -1,7 +1,7 @@
 use Rattle.std.proofs.Common.{◌≡◌, sym, subst}
 use Rattle.inst_journal.specs.Opened.{carried}
 use Rattle.inst_journal.proofs.EventsCarriedOverOpening.{carried_opened}
-use Rattle.inst_ledger.specs.LedgerBook.{LedgerBook}
+use Rattle.inst_ledger.specs.Book.{LedgerBook}
 use Rattle.inst_slot.proofs.slot.Slot.carry.Goals as goal
 
 pub carried_over-requires : goal.carried_over-requires
