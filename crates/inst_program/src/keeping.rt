@@ -5,7 +5,7 @@ ghost use Rattle.inst_log.specs.Layout.{recovered_lines};
 ghost use Rattle.inst_logged.specs.Header.{header};
 ghost use Rattle.inst_logged.specs.Logged.{HasBegun, IsUnbegun};
 ghost use Rattle.inst_logged.specs.Refused.{IsRefused};
-ghost use Rattle.inst_logged.specs.Running.{HasKeptFaith, IsJustOpened, HasSameFile, IsOnlyRead};
+ghost use Rattle.inst_log.specs.Disks.{HasKeptFaith, IsJustOpened, HasSameFile, IsOnlyRead};
 ghost use Rattle.inst_logged.specs.Streams.{streams};
 ghost use Rattle.inst_logged.specs.declared.version.Version.TheVariants.{Two};
 ghost use Rattle.inst_program.specs.Files.{AllAreIn, IfKept, IsUntouched, OthersStay, change_of};
@@ -119,7 +119,7 @@ fn keep_on<D: Disk + Drop, R: Read, W: Write, E: Write>(
         Err(error) => return (Err(told_ending(error, errors)), disk),
     };
     let mut hub = hub.with_disk(alloc, disk);
-    match hub.run(alloc, log.told, wanted, reader, writer) {
+    match hub.run(log.told, wanted, reader, writer) {
         Ok(()) => {
             let (runner, disk) = hub.into_parts();
             (Ok(runner), disk)
