@@ -343,6 +343,22 @@ rests_runs O L hub at p index x run there is_one rests =
     let passed = time_passed hub O at p index x is_one (Learn p p index ∷ Deliver p index x.to ∷ L) learnt in
     (beneficiary_learnt hub O at p index x is_one (Expire p index at ∷ Learn p p index ∷ Deliver p index x.to ∷ L) passed).run
 
+-- what follows up a transfer that is pending and not due is its delivery: the other steps add nothing
+pub delivery_is_all : (O : Opening) (L : List Step) (hub : World) (at p index : ℕ) (x : Transfer) → at_place p (history (world_settings hub) O L p) index ≡ Some x
+    → is_participant (world_settings hub) p ≡ true → outcome (world_settings hub) O L p x.id ≡ None → at < deadline (world_settings hub) x
+    → HasRun O (Deliver p index x.to ∷ L) hub → HasRun O (reverse (of_transfer at p index x.to) ++ L) hub
+delivery_is_all O L hub at p index x there is_one none not_due run =
+    let s : HubSettings = world_settings hub in
+    let M : List Step = Deliver p index x.to ∷ L in
+    let undecided : outcome s O M p x.id ≡ None = same_outcome s O (Deliver p index x.to) L refl p x.id ∙ none in
+    let here : at_place p (history s O M p) index ≡ Some x = ap (λ (T : List Transfer). slice_get T index) (same_after s O (Deliver p index x.to ∷ []) L (no_ask_deliver p index x.to, tt) p) ∙ there in
+    let came : is_forwarded p x.id (history s O M x.to) ≡ true = delivery_forwards s O L p index x there none in
+    let rests : Rests s O M at p x = subst (λ (o : Option Outcome). RestsWith s at p x (history s O M p) (history s O M x.to) o) (sym undecided) (came, not_due) in
+    let before : RunsAtRest hub O at p index x M = record { run = run; there = here; rests = rests } in
+    let learnt = originator_learnt hub O at p index x is_one M before in
+    let passed = time_passed hub O at p index x is_one (Learn p p index ∷ M) learnt in
+    (beneficiary_learnt hub O at p index x is_one (Expire p index at ∷ Learn p p index ∷ M) passed).run
+
 -- what follows up a transfer leaves each place
 pub live_same_after_follow_up : (s : HubSettings) (O : Opening) (L : List Step) (t p n to q k : ℕ)
     → at_place q (history s O (reverse (of_transfer t p n to) ++ L) q) k ≡ at_place q (history s O L q) k

@@ -30,7 +30,8 @@ steps_of_originators at transfers (suc p) =
 -- what follows at this reading where these steps have been run: each transfer that has a place is
 -- gone over
 abbrev pub follow_ups : HubSettings → Opening → List Step → ℕ → List Step
-follow_ups s O L at = steps_of_originators at (λ p. live_transfers p (history s O L p)) (participants s)
+follow_ups s O L at = steps_of_originators at (λ p. live_transfers p (history s O L p))
+    (participants s)
 
 -- these steps, the newest in front, and what follows them
 abbrev pub followed_up : HubSettings → Opening → List Step → ℕ → List Step

@@ -20,7 +20,8 @@ pub record IsLeft (agenda : Agenda) (at p index : ℕ) : Type 0 where
 pub record IsAgendaOf (s : HubSettings) (O : Opening) (L : List Step) (agenda : Agenda) : Type 0
   where
     pub next_named : (p index : ℕ) → is_next agenda p index ≡ true → is_participant s p ≡ true
-    pub waiting_named : (m p index : ℕ) → is_awaited agenda m p index ≡ true → is_participant s p ≡ true
+    pub waiting_named : (m p index : ℕ) → is_awaited agenda m p index ≡ true →
+        is_participant s p ≡ true
     pub rests : (p index : ℕ) (x : Transfer) → is_participant s p ≡ true →
         at_place p (history s O L p) index ≡ Some x →
         (at : ℕ) → IsLeft agenda at p index → Rests s O L at p x

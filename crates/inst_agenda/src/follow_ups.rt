@@ -33,7 +33,8 @@ pub fn follow_up(runner: &mut Runner, at: Moment) -> Result<(), AllocError>
 }
 
 /// Goes over the transfer at the place, if there is one. Where it stays pending it waits for its
-/// deadline.
+/// deadline. Of one that is pending and not due only its beneficiary can have something to learn:
+/// neither side has an outcome to book, and nothing times out.
 fn go_over(runner: &mut Runner, place: Place, at: Moment) -> Result<(), AllocError>
     ensures next { OnOk result (runner.new.agenda.next ≡ runner.old.agenda.next) }
     ensures ok { OnOk result ((O : Opening) (L : List Step) → HasRun O L runner.old.world →
@@ -43,6 +44,14 @@ fn go_over(runner: &mut Runner, place: Place, at: Moment) -> Result<(), AllocErr
     let Some(to) = runner.world.beneficiary_at(place) else {
         return Ok(());
     };
+    let Some(deadline) = runner.world.pending_until(place) else {
+        return follow_up_transfer(&mut runner.world, place, to, at);
+    };
+    if !at.is_due(deadline) {
+        let Place { owner: from, index } = place;
+        runner.world.step(&Step::Deliver { from, index, to })?;
+        return runner.agenda.wait(deadline, place);
+    }
     follow_up_transfer(&mut runner.world, place, to, at)?;
     if let Some(deadline) = runner.world.pending_until(place) {
         runner.agenda.wait(deadline, place)?;

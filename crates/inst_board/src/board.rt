@@ -63,7 +63,8 @@ pub trait Board {
         requires deadline { 1 ≤ deadline }
 
         ensures opened { (terms : Terms) → wrote self.old place terms →
-            Learns (settings self.old).margin knows self.old place (pending terms deadline) self.new }
+            Learns (settings self.old).margin knows self.old place
+            (pending terms deadline) self.new }
         ensures others { KeepsWritten wrote self.old (λ k. k ≢ place) self.new }
         ensures stays { stays self.old self.new };
 

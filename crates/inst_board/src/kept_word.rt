@@ -1,11 +1,9 @@
 //! The outcome word of one place of a plain board.
 ghost use Rattle.std.specs.Prelude.{◌≡◌, ℕ};
-ghost use Rattle.inst_terms.specs.Word.{IsWord};
 ghost use Rattle.inst_board.specs.Standing.{IsLawful, word_of};
 ghost use Rattle.inst_board.specs.Plain.{standing_of};
 
 use crate::Kept;
-use inst_command::Outcome;
 use inst_terms::{Word, pack_outcome, read_outcome};
 use std::marker::Model;
 use std::snapshot::Snapshot;
@@ -62,23 +60,11 @@ impl KeptWord {
 /// What the word of a place says of which this is kept.
 #[inline(always)]
 fn word_of(kept: &Kept) -> Word
-    requires { (margin : ℕ) × IsLawful margin (standing_of kept.now) }
-    ensures value { result ≡ word_of (standing_of kept.now) }
-    ensures form { IsWord result }
+    ensures { result ≡ word_of (standing_of kept.now) }
 {
     match kept {
         Kept::Unused | Kept::Written(_) => Word::Unused,
-        Kept::Pending(_, deadline) => {
-            // The check is told the range of a moment only by a call.
-            let _ = deadline.past_base();
-            Word::Pending(*deadline)
-        }
-        Kept::Decided(_, _, outcome, at) => {
-            if let Outcome::Rejected(reason) = outcome {
-                let _ = reason.text();
-            }
-            let _ = at.past_base();
-            Word::Decided(*outcome, *at)
-        }
+        Kept::Pending(_, deadline) => Word::Pending(*deadline),
+        Kept::Decided(_, _, outcome, at) => Word::Decided(*outcome, *at),
     }
 }

@@ -60,7 +60,8 @@ impl Model for PlainBoard {
 
     ghost view = { λ b. record { settings = b.settings.value; kept = b.words.items } };
 
-    ghost invariant = { λ b. IsContents (record { settings = b.settings.value; kept = b.words.items })
+    ghost invariant = { λ b. IsContents
+        (record { settings = b.settings.value; kept = b.words.items })
         × (b.participants ≡ length b.settings.value.codes)
         × (b.places ≡ b.settings.value.places)
         × (b.margin ≡ b.settings.value.margin)
@@ -74,7 +75,8 @@ impl PlainBoard {
     ghost use Rattle.inst_command.specs.declared.place.Place.{Place};
     ghost use Rattle.inst_board.specs.declared.plain.Kept.TheVariants.{Unused as KeptUnused};
     ghost use Rattle.inst_board.specs.Standing.{IsPlace, IsLawful, is_place, look_of, word_of};
-    ghost use Rattle.inst_board.specs.Plain.{Becomes, kept_at, standing_at, standing_of, kept_terms};
+    ghost use Rattle.inst_board.specs.Plain.{Becomes, kept_at, standing_at, standing_of};
+    ghost use Rattle.inst_board.specs.Plain.{kept_terms};
 
     /// The board of a hub that opens: each place is unused.
     pub fn new(alloc: Global, settings: &Settings) -> Result<PlainBoard, AllocError>

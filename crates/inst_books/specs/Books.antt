@@ -23,7 +23,8 @@ AreWritable s books = list_all (list_all (event_can_be_written s)) books ≡ tru
 -- the lines of the books of the participants from `who` on
 abbrev pub book_lines_from : HubSettings → ℕ → List (List Event) → List (List ℕ)
 book_lines_from s who [] = []
-book_lines_from s who (book ∷ books) = map (event_line s who) book ++ book_lines_from s (who + 1) books
+book_lines_from s who (book ∷ books) = map (event_line s who) book
+    ++ book_lines_from s (who + 1) books
 
 -- the lines of all books
 abbrev pub book_lines : HubSettings → List (List Event) → List (List ℕ)

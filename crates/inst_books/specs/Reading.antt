@@ -132,7 +132,8 @@ abbrev pub IsBookUnlessMemory : {X : Type 0} → Result X BookFault → Result X
 IsBookUnlessMemory returned wanted = (returned ≡ Err Memory) ⊎ (returned ≡ wanted)
 
 -- what is returned, seen by view, is what is wanted, or that memory was refused, whenever that is
-abbrev pub GivesBookUnlessMemory : {X Y : Type 0} → (X → Y) → Result X BookFault → Result Y BookFault →
+abbrev pub GivesBookUnlessMemory : {X Y : Type 0} → (X → Y) → Result X BookFault →
+    Result Y BookFault →
     Type 0
 GivesBookUnlessMemory view (Ok x) wanted = Ok (view x) ≡ wanted
 GivesBookUnlessMemory view (Err fault) wanted = (fault ≡ Memory) ⊎ (Err fault ≡ wanted)

@@ -74,7 +74,8 @@ fn is_sent(sent: &Option<Sending>, limit: u32, to: u8, cents: Cents, deadline: M
 
 /// What came of the transfer to the participant `who`.
 fn forwarding(ledgers: &[Ledger], who: u8, from: u8, id: &Ident) -> Option<Forwarding>
-    ensures { result ≡ first_some (forwarding_of (from, id.now)) (ledger_histories ledgers.now who) }
+    ensures { result
+        ≡ first_some (forwarding_of (from, id.now)) (ledger_histories ledgers.now who) }
 {
     ledgers.get(usize::from(who))?.forwarding(from, id)
 }
@@ -140,7 +141,8 @@ fn all_agree(ledgers: &[Ledger], limit: u32, who: u8, events: &[Event]) -> bool
 pub(crate) fn books_agree(ledgers: &[Ledger], limit: u32) -> bool
     requires { length ledgers.now ≤ 256 }
     ensures { IsTrue result ↔
-        ((p : ℕ) → All (Agrees limit (ledger_histories ledgers.now) p) (ledger_histories ledgers.now p)) }
+        ((p : ℕ) →
+        All (Agrees limit (ledger_histories ledgers.now) p) (ledger_histories ledgers.now p)) }
 {
     for (who, ledger) in ledgers.iter().enumerate() {
         if !all_agree(ledgers, limit, who as u8, ledger.journal().events()) {

@@ -8,7 +8,8 @@ ghost use Rattle.inst_settings.specs.Settings.{is_participant};
 ghost use Rattle.inst_books.specs.Events.{data_in, event_can_be_written};
 ghost use Rattle.inst_books.specs.inner.Events.{is_name};
 ghost use Rattle.inst_books.specs.Laws.{event_has_form, outcome_has_form};
-ghost use Rattle.inst_books.specs.Events.{funding_data, taken_event_data, forwarded_data, booked_data};
+ghost use Rattle.inst_books.specs.Events.{funding_data, taken_event_data, forwarded_data};
+ghost use Rattle.inst_books.specs.Events.{booked_data};
 ghost use Rattle.inst_books.specs.Events.{rejected_event_data};
 ghost use Rattle.inst_books.specs.Events.{outcome_data, fetched_data, opened_data};
 

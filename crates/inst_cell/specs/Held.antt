@@ -34,7 +34,8 @@ abbrev pub roles_of : SharedBoard → List ℕ
 roles_of b = (view_of b).roles
 
 abbrev pub knows_at : HubSettings → View → Fact → Type 0
-knows_at s v f = IsPlace s f.place × Contains (all_that_is_known v) (known (place_number s f.place) f.about)
+knows_at s v f = IsPlace s f.place
+    × Contains (all_that_is_known v) (known (place_number s f.place) f.about)
 
 abbrev pub knows : SharedBoard → Fact → Type 0
 knows b f = knows_at (settings_of b) (view_of b) f

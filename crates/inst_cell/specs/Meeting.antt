@@ -1,6 +1,6 @@
 -- What holders over the same words know together: what one has seen is true for the other. That
 -- holders tell each other what they saw is this hub's own choice.
-use Rattle.std.specs.Prelude.{◌↔◌, ◌⊎◌}
+use Rattle.std.specs.Prelude.{◌≡◌, ◌↔◌, ◌⊎◌, ◌++◌, ℕ}
 use Rattle.inst_command.specs.declared.outcome.Outcome.{Outcome}
 use Rattle.inst_terms.specs.declared.terms.Terms.{Terms}
 use Rattle.inst_command.specs.declared.place.Place.{Place}
@@ -10,7 +10,7 @@ use Rattle.inst_board.specs.declared.about.Fact.{Fact}
 use Rattle.inst_board.specs.Standing.{about}
 use Rattle.inst_board.specs.Learning.{IsOfOpening, IsAnswer, KnowsTruly}
 use Rattle.inst_cell.specs.declared.shared_board.SharedBoard.{SharedBoard}
-use Rattle.inst_cell.specs.Held.{settings_of, knows, has_role}
+use Rattle.inst_cell.specs.Held.{settings_of, roles_of, knows, has_role}
 
 -- c knows exactly what a or b knew
 abbrev pub KnowsBoth : SharedBoard → SharedBoard → SharedBoard → Type 0
@@ -31,3 +31,8 @@ pub record Vouches (board other : SharedBoard) : Type 0 where
       knows board (about k (HasTerms t)) ⊎ knows other (about k (HasTerms t)) →
       knows board (about k (Decided o)) ⊎ knows other (about k (Decided o)) →
       knows board (about k (HasTerms t)) × knows board (about k (Decided o))
+
+-- the board has the roles of both
+pub record HasRolesOfBoth (board other new : SharedBoard) : Type 0 where
+  pub roles : roles_of new ≡ roles_of board ++ roles_of other
+  pub role : (p : ℕ) → has_role new p ↔ (has_role board p ⊎ has_role other p)

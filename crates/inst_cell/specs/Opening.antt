@@ -3,11 +3,14 @@
 -- knows what the one board knew. The sights have no role. This hub's own choice.
 use Rattle.std.specs.Prelude.{◌≡◌, ◌↔◌, ℕ, ◌≤◌, List, [], length, slice_get, Some}
 use Rattle.atomic_table.specs.Seated.{TableId}
+use Rattle.atomic_table.specs.Table.{Splits}
 use Rattle.inst_settings.specs.Settings.{HubSettings, participants}
 use Rattle.inst_board.specs.declared.about.Fact.{Fact}
 use Rattle.inst_cell.specs.declared.shared_board.SharedBoard.{SharedBoard}
 use Rattle.inst_cell.specs.declared.sight.Sight.{Sight}
-use Rattle.inst_cell.specs.View.{roles_from}
+use Rattle.inst_cell.specs.declared.view.View.{View}
+use Rattle.inst_cell.specs.View.{KnowsOne, roles_from}
+use Rattle.inst_cell.specs.Rule.{IsKeptBoard}
 use Rattle.inst_cell.specs.Held.{settings_of, table_of, roles_of, has_role, knows}
 use Rattle.inst_cell.specs.Seen.{board_of_sight, sight_knows}
 use Rattle.inst_cell.specs.declared.shared_board.opening.TheConstants.{MOST_TELLERS}
@@ -66,3 +69,14 @@ pub record AreOpened (s : HubSettings) (n : ℕ) (boards : List SharedBoard) (si
   pub board : (p : ℕ) (b : SharedBoard) → slice_get boards p ≡ Some b → IsOpened s table p b
   pub enough : length sights ≡ n
   pub sight : (i : ℕ) (t : Sight) → slice_get sights i ≡ Some t → IsAdmitted s table t
+
+-- a seat's view is cut in two as the rule of the table allows: both are of the same hub, and know
+-- of each place one standing
+pub record CutsView (left right : View → View) : Type 0 where
+  pub splits : (hub : HubSettings) (id : ℕ) (view : View) →
+      Splits (IsKeptBoard hub) id view (left view) (right view)
+  pub places : (view : View) →
+      ((left view).places ≡ view.places) × ((right view).places ≡ view.places)
+  pub margin : (view : View) →
+      ((left view).margin ≡ view.margin) × ((right view).margin ≡ view.margin)
+  pub one : (view : View) → KnowsOne view → KnowsOne (left view) × KnowsOne (right view)

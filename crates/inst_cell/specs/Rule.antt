@@ -62,7 +62,8 @@ pub record KeepsBoard (s : HubSettings) (words : List ℕ) (views : List View) :
   pub world : ℕ → Standing
   pub sized : length words ≡ count_of_places s * 6
   pub shown : (k : ℕ) → k < count_of_places s → slice_index words (k * 6 + 5) ≡ encode (world k)
-  pub written : (k i : ℕ) (t : Terms) → k < count_of_places s → i < 5 → Says (world k) (HasTerms t) →
+  pub written : (k i : ℕ) (t : Terms) → k < count_of_places s → i < 5 →
+      Says (world k) (HasTerms t) →
       slice_index words (k * 6 + i) ≡ slice_index (words_of t) i
   pub showable : (k : ℕ) → IsShowable s.margin (world k)
   pub honest : (id : ℕ) (v : View) → get_elem? views id ≡ some v → (f : Known) →
@@ -83,7 +84,8 @@ pub record KeepsBoard (s : HubSettings) (words : List ℕ) (views : List View) :
       Says (world k) (DecidedAt at) →
       AllLearnt views (k / s.places) (known k (DecidedAt at))
       ⊎ AllLearnt views t.to (known k (DecidedAt at))
-  pub noted : (id : ℕ) (v : View) → get_elem? views id ≡ some v → (k i n : ℕ) → k < count_of_places s →
+  pub noted : (id : ℕ) (v : View) → get_elem? views id ≡ some v → (k i n : ℕ) →
+      k < count_of_places s →
       i < 5 →
       note v.notes (k * 6 + i) ≡ Some n →
       (0 < count (k / s.places) v.roles)

@@ -26,4 +26,5 @@ state_of (decided terms deadline outcome at) = Decided outcome
 -- what the teller learns of the place as it peeks, and what it answers of that
 abbrev pub Peeks : Sight → Place → State → Sight → Type 0
 Peeks t k found u =
-    (p : Standing) × Learns (settings_of (board_of_sight t)).margin sight_knows t k p u × (found ≡ state_of p)
+    (p : Standing) × Learns (settings_of (board_of_sight t)).margin sight_knows t k p u
+    × (found ≡ state_of p)

@@ -16,7 +16,8 @@ use Rattle.inst_board.specs.Standing.{Standing, pending, Says}
 use Rattle.inst_board.specs.Learning.{IsOfOpening, IsAnswer}
 use Rattle.inst_cell.specs.declared.view.Known.{Known}
 use Rattle.inst_cell.specs.declared.view.View.{View}
-use Rattle.inst_cell.specs.View.{known, all_that_is_known, count, view_after_learning, with_note, HasNoted}
+use Rattle.inst_cell.specs.View.{known, all_that_is_known, count, view_after_learning, with_note}
+use Rattle.inst_cell.specs.View.{HasNoted}
 use Rattle.inst_cell.specs.View.{KnowsOne}
 use Rattle.inst_cell.specs.Rule.{encode, IsShowable}
 
@@ -70,7 +71,8 @@ pub record Vouched (v : View) : Type 0 where
   pub own : (k : ℕ) → 0 < count (k / v.places) v.roles → (a : About) → IsOfOpening a →
       Contains (all_that_is_known v) (known k a) → Contains v.facts (known k a)
   pub answered : (k : ℕ) (t : Terms) (o : Outcome) → 0 < count t.to v.roles → IsAnswer o →
-      Contains (all_that_is_known v) (known k (HasTerms t)) → Contains (all_that_is_known v) (known k (Decided o)) →
+      Contains (all_that_is_known v) (known k (HasTerms t)) →
+      Contains (all_that_is_known v) (known k (Decided o)) →
       Contains v.facts (known k (HasTerms t)) × Contains v.facts (known k (Decided o))
 
 -- a load of an outcome word

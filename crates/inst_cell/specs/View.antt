@@ -98,12 +98,14 @@ known_standing v k =
       id =
           [];
     }))
-    (unwrap_or (first_of due_in k (all_that_is_known v)) 0) (first_of outcome_about k (all_that_is_known v))
+    (unwrap_or (first_of due_in k (all_that_is_known v)) 0)
+    (first_of outcome_about k (all_that_is_known v))
     (first_of moment_in k (all_that_is_known v))
 
 -- all that a seat knows of a place is true of one standing
 abbrev pub KnowsOne : View → Type 0
-KnowsOne v = (k : ℕ) (a : About) → Contains (all_that_is_known v) (known k a) → Says (known_standing v k) a
+KnowsOne v = (k : ℕ) (a : About) → Contains (all_that_is_known v) (known k a) →
+    Says (known_standing v k) a
 
 says_one : (p : Standing) (a : About) → IsProp (Says p a)
 says_one unused a = Prim.hlevel props

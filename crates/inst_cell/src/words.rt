@@ -15,8 +15,6 @@ pub(crate) fn pending_word(deadline: Moment) -> u64
     ensures value { result ≡ number deadline 0 0 }
     ensures moment { IsTrue (is_moment deadline) }
 {
-    // The check is told the range of a moment only by a call.
-    let _ = deadline.past_base();
     pack_outcome(&Word::Pending(deadline))
 }
 
@@ -25,10 +23,6 @@ pub(crate) fn decided_word(outcome: &Outcome, at: Moment) -> u64
     ensures value { result ≡ outcome_number outcome.now at }
     ensures word { IsOutcome outcome.now × IsTrue (is_moment at) }
 {
-    if let Outcome::Rejected(reason) = outcome {
-        let _ = reason.text();
-    }
-    let _ = at.past_base();
     pack_outcome(&Word::Decided(*outcome, at))
 }
 
@@ -49,8 +43,5 @@ pub(crate) fn pack_terms(terms: &Terms) -> [u64; 5]
     ensures value { result ≡ words_of terms.now }
     ensures form { IsTerms terms.now }
 {
-    let &Terms { to: _to, cents, id } = terms;
-    let _ = cents.get();
-    let _ = id.text();
     pack(terms)
 }

@@ -87,7 +87,8 @@ submit s who J at x =
 -- transfer is pending
 abbrev pub state_reply : ℕ → List ℕ → Result Handled Fault → Option Outcome → Option Outcome →
     Result Handled Fault
-state_reply from id pending (Some outcome) found = reply_without_event (State from id (Decided outcome))
+state_reply from id pending (Some outcome) found = reply_without_event
+    (State from id (Decided outcome))
 state_reply from id pending None (Some outcome) =
     reply_with_event (Booked from id outcome) (State from id (Decided outcome))
 state_reply from id pending None None = pending
@@ -138,7 +139,8 @@ unread J = drop (sum_by handed_out J) (inbox J)
 -- hands out these entries
 abbrev pub hand_out : List Entry → Result Handled Fault
 hand_out [] = reply_without_event (Inbox [])
-hand_out (entry ∷ entries) = reply_with_event (Fetched (length (entry ∷ entries))) (Inbox (entry ∷ entries))
+hand_out (entry ∷ entries) = reply_with_event (Fetched (length (entry ∷ entries)))
+    (Inbox (entry ∷ entries))
 
 -- what a query is answered; it keeps nothing
 abbrev pub answer_query : List Event → QueryValue → Reply

@@ -76,7 +76,8 @@ defund reference cents = ask (Defund (record { reference = reference; cents = ce
 
 -- a transfer to B, stamped 1000
 abbrev pub asked_submit : List ℕ → ℕ → ℕ → Asked
-asked_submit id cents at = ask (Submit (record { id = id; to = B; cents = cents; stamp = 1000 })) at None
+asked_submit id cents at = ask
+    (Submit (record { id = id; to = B; cents = cents; stamp = 1000 })) at None
 
 -- a submission of more than A has
 abbrev pub too_much : ℕ → List ℕ → ℕ → ℕ → Asked
@@ -112,7 +113,8 @@ refused fault = Err fault
 
 -- A is funded and has submitted a transfer to B
 abbrev pub submitted_events : List Event
-submitted_events = after A [] (asked_fund (codes "F1") 50000 ∷ asked_submit (codes "T1") 20000 1000 ∷ [])
+submitted_events = after A []
+    (asked_fund (codes "F1") 50000 ∷ asked_submit (codes "T1") 20000 1000 ∷ [])
 
 -- and the transfer was accepted, and A has learnt of it
 abbrev pub accepted_events : List Event

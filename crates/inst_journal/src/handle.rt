@@ -40,7 +40,8 @@ pub fn handle_command(
     requires lawful { IsSettings settings.now }
     requires sound { IsSound settings.now who events.now }
     requires fits { command_fits settings.now command.now ≡ true }
-    ensures reply { IsUnlessMemory result (handle settings.now who events.now command.now at found) }
+    ensures reply { IsUnlessMemory result
+        (handle settings.now who events.now command.now at found) }
     ensures no_memory { copies events.now command.now ≡ false →
         result ≡ handle settings.now who events.now command.now at found }
 

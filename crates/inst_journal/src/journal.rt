@@ -54,7 +54,6 @@ impl Journal {
     pub fn copy(&self) -> Result<Journal, AllocError>
         ensures ok { IfOk result (λ journal. journal.events ≡ self.now.events) }
     {
-        mention::<Outcome>();
         Ok(Journal {
             events: self.events.clone()?,
         })

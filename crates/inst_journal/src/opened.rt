@@ -4,8 +4,6 @@ ghost use Rattle.inst_journal.specs.Opened.{is_opening, carried, current, openin
 ghost use Rattle.inst_journal.specs.Opened.{HasOpeningsLeft};
 
 use crate::{Event, Journal};
-use inst_base::mention;
-use inst_command::Outcome;
 
 /// How often books can be opened from.
 pub const MOST_OPENINGS: usize = 500;
@@ -51,7 +49,6 @@ impl Journal {
     pub fn openings(&self) -> usize
         ensures { result ≡ openings self.now.events }
     {
-        mention::<Outcome>();
         self.events()
             .iter()
             .filter(|event| is_opening(event))

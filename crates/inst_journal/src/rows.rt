@@ -6,11 +6,14 @@ ghost use Rattle.inst_command.specs.declared.outcome.Outcome.{Outcome};
 ghost use Rattle.inst_command.specs.declared.outcome.State.{State};
 ghost use Rattle.inst_command.specs.declared.reply.Reply.{Reply};
 ghost use Rattle.inst_journal.specs.declared.event.Event.{Event};
-ghost use Rattle.inst_journal.specs.Rows.{A, B, C, answers, after, opened_events, asked_fund, defund, asked_submit};
+ghost use Rattle.inst_journal.specs.Rows.{A, B, C, answers, after, opened_events, asked_fund};
+ghost use Rattle.inst_journal.specs.Rows.{defund, asked_submit};
 ghost use Rattle.inst_journal.specs.Rows.{too_much};
-ghost use Rattle.inst_journal.specs.Rows.{asked_investigate, fetch, asked_position, statement, done, taken};
+ghost use Rattle.inst_journal.specs.Rows.{asked_investigate, fetch, asked_position, statement};
+ghost use Rattle.inst_journal.specs.Rows.{done, taken};
 ghost use Rattle.inst_journal.specs.Rows.{state, money};
-ghost use Rattle.inst_journal.specs.Rows.{refused, submitted_events, accepted_events, again, two_places};
+ghost use Rattle.inst_journal.specs.Rows.{refused, submitted_events, accepted_events, again};
+ghost use Rattle.inst_journal.specs.Rows.{two_places};
 ghost use Rattle.inst_journal.specs.Rows.{all_fundings};
 ghost use Rattle.inst_journal.specs.Rows.{all_with_a_defunding, arrivals, confirmation, rejection};
 
@@ -32,7 +35,8 @@ pub fn repeat_and_duplicate_over_an_opening()
     ensures settled { answers A (opened_events accepted_events) again ≡
         taken (codes "T1") ∷ refused Fault.Duplicate ∷ done (codes "F1") ∷ refused Fault.Duplicate
         ∷ [] }
-    ensures keeps_nothing { after A (opened_events accepted_events) again ≡ opened_events accepted_events }
+    ensures keeps_nothing { after A (opened_events accepted_events) again
+        ≡ opened_events accepted_events }
 {}
 
 /// An opening gives back the place of what is settled and not that of what is pending.
@@ -47,7 +51,8 @@ pub fn places_given_back()
 /// A statement begins anew at an opening: with the number 1, and from the position of the whole
 /// history.
 pub fn statement_begins_anew()
-    ensures { answers A (opened_events accepted_events) (statement ∷ asked_fund (codes "F2") 1000 ∷ statement ∷ []) ≡
+    ensures { answers A (opened_events accepted_events)
+        (statement ∷ asked_fund (codes "F2") 1000 ∷ statement ∷ []) ≡
         Ok (Reply.Statement []) ∷ done (codes "F2")
         ∷ Ok (Reply.Statement (record {
           number = 1;
@@ -62,7 +67,8 @@ pub fn statement_begins_anew()
 /// An outcome that was booked before an opening is answered again after it, whatever is found, and
 /// nothing is kept.
 pub fn outcome_answered_after_an_opening()
-    ensures answer { answers A (opened_events accepted_events) (asked_investigate (codes "T1") (Some Outcome.TimedOut)
+    ensures answer { answers A (opened_events accepted_events)
+        (asked_investigate (codes "T1") (Some Outcome.TimedOut)
         ∷ []) ≡
         state A (codes "T1") (State.Decided Outcome.Accepted) ∷ [] }
     ensures keeps_nothing { after A (opened_events accepted_events)
@@ -118,7 +124,8 @@ pub fn fetch_in_order_of_arrival()
         ∷ Ok (Reply.Inbox []) ∷ [] }
     ensures kept { after B arrivals (fetch 2 ∷ fetch 2 ∷ fetch 2 ∷ []) ≡
         arrivals ++ Event.Fetched 2 ∷ Event.Fetched 1 ∷ [] }
-    ensures over_an_opening { answers B (opened_events (after B arrivals (fetch 2 ∷ []))) (fetch 2 ∷ []) ≡
+    ensures over_an_opening { answers B (opened_events (after B arrivals (fetch 2 ∷ [])))
+        (fetch 2 ∷ []) ≡
         Ok (Reply.Inbox (record { from = A; id = codes "T2"; cents = 300; deadline = 11200 } ∷ []))
         ∷ [] }
 {}

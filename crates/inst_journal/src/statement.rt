@@ -6,14 +6,15 @@ ghost use Rattle.inst_journal.specs.Booked.{first_some};
 ghost use Rattle.inst_journal.specs.Money.{position};
 ghost use Rattle.inst_journal.specs.Reply.{reply_without_event};
 ghost use Rattle.inst_journal.specs.Sound.{IsSound};
-ghost use Rattle.inst_journal.specs.Statement.{received, paid, line_of_accepted, line_of, statement};
+ghost use Rattle.inst_journal.specs.Statement.{received, paid, line_of_accepted, line_of};
+ghost use Rattle.inst_journal.specs.Statement.{statement};
 ghost use Rattle.inst_journal.specs.Statement.{statement_part};
 
 use crate::booked::is_forwarded;
 use crate::handle::Handled;
 use crate::opened::carried_length;
 use crate::{Event, sums};
-use inst_base::{Fault, Ident, mention};
+use inst_base::{Fault, Ident};
 use inst_command::{Funding, Line, LineKind, Lines, Outcome, Reply};
 use inst_settings::Settings;
 use std::alloc::{AllocError, Global};
@@ -175,7 +176,6 @@ fn all_lines(
     requires sound { IsSound settings.now who events.now }
     ensures { IfOk result (λ lines. lines.items ≡ statement events.now) }
 {
-    mention::<LineKind>();
     let mut lines = Vec::new(alloc);
     for index in carried_length(events)..events.len() {
         let event = &events[index];

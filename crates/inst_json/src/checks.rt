@@ -14,10 +14,12 @@ pub(crate) fn amount(settings: &Settings, cents: u64) -> Result<Cents, Fault>
     ensures value { result ≡ amount_of settings.now cents }
     ensures fits { IfOk result (λ amount. is_within_ceiling settings.now amount ≡ true) }
 {
-    if !settings.allows(cents) {
+    let ceiling = settings.ceiling();
+    let amount = Cents::new(cents)?;
+    if cents > ceiling {
         return Err(Fault::BadAmount);
     }
-    Cents::new(cents)
+    Ok(amount)
 }
 
 /// The moment at `ms` absolute milliseconds, or `BadMoment` outside the moments of the hub.

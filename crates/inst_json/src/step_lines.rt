@@ -95,7 +95,8 @@ fn append_passing(
     requires from { is_participant settings.now passing.from ≡ true }
     ensures text { OnOk result (out.new.items
         ≡ out.old.items
-        ++ members_line (passing_rows settings.now name.now passing.who passing.from passing.index)) }
+        ++ members_line
+        (passing_rows settings.now name.now passing.who passing.from passing.index)) }
     ensures form { (has_code settings.now passing.who && has_code settings.now passing.from)
         ≡ true }
 {

@@ -13,7 +13,7 @@ use Rattle.inst_journal.proofs.Soundness.{sound_induction}
 use Rattle.inst_ledger.specs.declared.references.KeptFunding.{KeptFunding}
 use Rattle.inst_ledger.specs.Kept.{IsTable}
 use Rattle.inst_ledger.specs.Beside.{funding_of}
-use Rattle.inst_ledger.specs.inner.Beside.{is_funding_of}
+use Rattle.inst_ledger.specs.inner.Beside.{is_funding_of, is_funding_repeat}
 use Rattle.inst_ledger.proofs.Tables.{table_put}
 use Rattle.inst_statement.proofs.AmountAndTermsInHistory.{some_cond, none_of, any_first}
 
@@ -91,7 +91,7 @@ defund_this funding (Fetched count) = refl
 defund_this funding Opened = refl
 
 -- a fund or defund command is a repeat where its very funding is found
-pub fund_found : (s : HubSettings) (who : ℕ) (funding : Funding) (J : List Event) → IsSound s who J → is_fund_repeat funding J ≡ is_funding_of false funding.cents (first_some (funding_of funding.reference) J)
+fund_found : (s : HubSettings) (who : ℕ) (funding : Funding) (J : List Event) → IsSound s who J → is_fund_repeat funding J ≡ is_funding_of false funding.cents (first_some (funding_of funding.reference) J)
 fund_found s who funding = sound_induction s who (λ J. is_fund_repeat funding J ≡ is_funding_of false funding.cents (first_some (funding_of funding.reference) J)) refl
     (λ J event sound fits before.
     list_any_push (is_this_fund funding) J event ∙ ap (λ b. b || is_this_fund funding event) before
@@ -99,13 +99,17 @@ fund_found s who funding = sound_induction s who (λ J. is_fund_repeat funding J
     ∙ repeat_or false funding.cents (first_some (funding_of funding.reference) J) (funding_of funding.reference event) (once_new s who funding.reference J event fits)
     ∙ ap (is_funding_of false funding.cents) (sym (first_some_push (funding_of funding.reference) J event)))
 
-pub defund_found : (s : HubSettings) (who : ℕ) (funding : Funding) (J : List Event) → IsSound s who J → is_defund_repeat funding J ≡ is_funding_of true funding.cents (first_some (funding_of funding.reference) J)
+defund_found : (s : HubSettings) (who : ℕ) (funding : Funding) (J : List Event) → IsSound s who J → is_defund_repeat funding J ≡ is_funding_of true funding.cents (first_some (funding_of funding.reference) J)
 defund_found s who funding = sound_induction s who (λ J. is_defund_repeat funding J ≡ is_funding_of true funding.cents (first_some (funding_of funding.reference) J)) refl
     (λ J event sound fits before.
     list_any_push (is_this_defund funding) J event ∙ ap (λ b. b || is_this_defund funding event) before
     ∙ ap (λ b. is_funding_of true funding.cents (first_some (funding_of funding.reference) J) || b) (defund_this funding event)
     ∙ repeat_or true funding.cents (first_some (funding_of funding.reference) J) (funding_of funding.reference event) (once_new s who funding.reference J event fits)
     ∙ ap (is_funding_of true funding.cents) (sym (first_some_push (funding_of funding.reference) J event)))
+
+pub funding_found : (s : HubSettings) (who : ℕ) (is_defunding : Bool) (funding : Funding) (J : List Event) → IsSound s who J → is_funding_repeat is_defunding funding J ≡ is_funding_of is_defunding funding.cents (first_some (funding_of funding.reference) J)
+funding_found s who false funding J sound = fund_found s who funding J sound
+funding_found s who true funding J sound = defund_found s who funding J sound
 
 -- a funding of a new reference
 pub funded_put : (J : List Event) (funding : Funding) (old new : List ℕ → Option KeptFunding) → has_reference funding.reference J ≡ false → IsTable funding_of J old

@@ -54,7 +54,8 @@ submission_event x = Taken x.id x.to x.cents x.stamp
 -- or new
 abbrev pub submission_result : HubSettings → Submission → Result Bool Fault → Result Handled Fault
 submission_result s x (Err fault) = Err fault
-submission_result s x (Ok false) = reply_without_event (TakenReply x.id (deadline_of s.limit x.stamp))
+submission_result s x (Ok false) = reply_without_event
+    (TakenReply x.id (deadline_of s.limit x.stamp))
 submission_result s x (Ok true) =
     reply_with_event (submission_event x) (TakenReply x.id (deadline_of s.limit x.stamp))
 

@@ -9,8 +9,6 @@ mod reading;
 
 use crate::references::References;
 use crate::totals::Totals;
-use inst_base::mention;
-use inst_command::Outcome;
 use inst_journal::{Event, Journal};
 use inst_settings::Settings;
 use inst_statement::KeptStatement;
@@ -157,7 +155,6 @@ impl Ledger {
         ensures ok { OnOk result (self.new.book
             ≡ record self.old.book { events = journal.now.events }) }
     {
-        mention::<Outcome>();
         for event in journal.events() {
             self.keep(*event)?;
         }

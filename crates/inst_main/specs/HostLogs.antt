@@ -15,7 +15,8 @@ last_closed closed name =
 
 -- A file has what the disk of its log had when that was closed. One whose log wasn't closed has
 -- nothing, and a crash may leave anything of it.
-abbrev pub host_files : {D : Type 0} → Ghosts D → List (ClosedLog D) → Option (List ℕ) → Bool → Files
+abbrev pub host_files : {D : Type 0} → Ghosts D → List (ClosedLog D) → Option (List ℕ) → Bool →
+    Files
 host_files {D} disks closed out is_known =
     record {
       bytes = λ name. option_map_or disks.seen (last_closed closed name) [];

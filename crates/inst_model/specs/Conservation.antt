@@ -13,7 +13,8 @@ use Rattle.inst_journal.specs.Covered.{IsNeverOverdrawn}
 use Rattle.inst_model.specs.Interleaving.{IsInterleaving}
 use Rattle.inst_model.specs.Opening.{Opening, IsOpening}
 use Rattle.inst_model.specs.Hub.{outcome, history}
-use Rattle.inst_model.specs.Untold.{sum_over_participants, signed_total, if_untold, untold_by, untold}
+use Rattle.inst_model.specs.Untold.{sum_over_participants, signed_total, if_untold, untold_by}
+use Rattle.inst_model.specs.Untold.{untold}
 
 -- the originator of each decided transfer has booked it
 abbrev pub AllTold : HubSettings → Opening → List Step → Type 0
@@ -23,12 +24,14 @@ AllTold s O L =
 
 pub record IsConserved (s : HubSettings) (O : Opening) (L : List Step) : Type 0 where
   -- without a subtraction
-  pub sum : sum_over_participants s (λ p. position (history s O L p)) + sum_over_participants s (λ p. defunded (history s O L p))
+  pub sum : sum_over_participants s (λ p. position (history s O L p))
+      + sum_over_participants s (λ p. defunded (history s O L p))
       ≡ sum_over_participants s (λ p. funded (history s O L p)) + untold s O L
   pub signed_sum : pos (sum_over_participants s (λ p. position (history s O L p)))
       ≡ (signed_total s (λ p. net (history s O L p)) +ℤ pos (untold s O L))
   pub all_told : AllTold s O L →
-      pos (sum_over_participants s (λ p. position (history s O L p))) ≡ signed_total s (λ p. net (history s O L p))
+      pos (sum_over_participants s (λ p. position (history s O L p)))
+      ≡ signed_total s (λ p. net (history s O L p))
   pub untold_is_reserved : (p : ℕ) → untold_by s O L p ≤ reserved (history s O L p)
   pub each_untold_is_reserved : (p : ℕ) (id : List ℕ) (to cents stamp : ℕ) →
       Contains (history s O L p) (Taken id to cents stamp) →

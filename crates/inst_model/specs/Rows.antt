@@ -22,7 +22,8 @@ use Rattle.inst_journal.specs.declared.event.Event.{Event}
 pub use Rattle.inst_journal.specs.Rows.{settings, A, B, C}
 
 abbrev pub fund_step : ℕ → List ℕ → ℕ → ℕ → Step
-fund_step who reference cents at = asks who (Fund (record { reference = reference; cents = cents })) at
+fund_step who reference cents at = asks who
+    (Fund (record { reference = reference; cents = cents })) at
 
 abbrev pub submit_step : ℕ → List ℕ → ℕ → ℕ → ℕ → ℕ → Step
 submit_step who id to cents stamp at =
@@ -60,7 +61,8 @@ abbrev pub is_state : ℕ → List ℕ → StateValue → Answer
 is_state from id state = Reply (State from id state)
 
 abbrev pub is_position : ℕ → ℕ → ℕ → Answer
-is_position position_step reserved available = Reply (PositionReply position_step reserved available)
+is_position position reserved available = Reply
+    (PositionReply position reserved available)
 
 abbrev pub answer_of_fault : Fault → Answer
 answer_of_fault fault = Reply (Refused fault)
@@ -96,7 +98,8 @@ positions at = position_step A at ∷ position_step B at ∷ []
 
 abbrev pub confirm_before_expire : List Step
 confirm_before_expire =
-    delivered ++ confirm_step B A (codes "T1") 10999 ∷ expire A 0 11000 ∷ learn A A 0 ∷ positions 11000
+    delivered ++ confirm_step B A (codes "T1") 10999 ∷ expire A 0 11000 ∷ learn A A 0
+    ∷ positions 11000
 
 abbrev pub expire_before_confirm : List Step
 expire_before_confirm =
@@ -108,7 +111,8 @@ untold_yet = delivered ++ confirm_step B A (codes "T1") 2000 ∷ []
 
 abbrev pub untold_then_learnt : List Step
 untold_then_learnt =
-    untold_yet ++ position_step A 2000 ∷ position_step B 2000 ∷ learn A A 0 ∷ position_step A 2000 ∷ []
+    untold_yet ++ position_step A 2000 ∷ position_step B 2000 ∷ learn A A 0 ∷ position_step A 2000
+    ∷ []
 
 -- what B asks beside other traffic
 abbrev pub fetch_B : Step
@@ -118,7 +122,8 @@ abbrev pub statement_B : Step
 statement_B = asks B (Query (Statement 0 10)) 2100
 
 abbrev pub alone : List Step
-alone = delivered ++ fetch_B ∷ confirm_step B A (codes "T1") 2000 ∷ statement_B ∷ position_step B 2100 ∷ []
+alone = delivered ++ fetch_B ∷ confirm_step B A (codes "T1") 2000 ∷ statement_B
+    ∷ position_step B 2100 ∷ []
 
 abbrev pub among_others : List Step
 among_others =
@@ -142,12 +147,14 @@ confirmed_late = delivered ++ confirm_step B A (codes "T1") 11000 ∷ learn A A 
 
 abbrev pub confirmed_before_delivery : List Step
 confirmed_before_delivery =
-    submitted_steps ++ confirm_step B A (codes "T1") 2000 ∷ investigate_step A (codes "T1") 2000 ∷ deliver B A 0
+    submitted_steps ++ confirm_step B A (codes "T1") 2000 ∷ investigate_step A (codes "T1") 2000
+    ∷ deliver B A 0
     ∷ []
 
 abbrev pub expired_before_taken : List Step
 expired_before_taken =
-    fund_step A (codes "F1") 50000 0 ∷ expire A 0 11000 ∷ submit_step A (codes "T1") B 20000 1000 1000
+    fund_step A (codes "F1") 50000 0 ∷ expire A 0 11000
+    ∷ submit_step A (codes "T1") B 20000 1000 1000
     ∷ deliver B A 0 ∷ []
 
 abbrev pub one_of_two_expired : List Step

@@ -26,7 +26,8 @@ pub(crate) fn wish<'a>(
     options: &ArgMatches<'a>,
 ) -> Result<Invocation<'a>, Fault>
     ensures wish { IfOk result (IsWish name.now (rows_of (found_of options.now))) }
-    ensures fault { IfErr result (IsBeginRefusal (AskForNone name.now (rows_of (found_of options.now))
+    ensures fault { IfErr result
+        (IsBeginRefusal (AskForNone name.now (rows_of (found_of options.now))
         ⊎ AreOfNoLog (rows_of (found_of options.now)))) }
 {
     if name == "log" {
@@ -54,7 +55,8 @@ fn hub_wish<'a>(
 ) -> Result<Invocation<'a>, Fault>
     requires hub { HasAHub name.now }
     ensures wish { IfOk result (IsWish name.now (rows_of (found_of options.now))) }
-    ensures fault { IfErr result (IsBeginRefusal (AskForNone name.now (rows_of (found_of options.now))
+    ensures fault { IfErr result
+        (IsBeginRefusal (AskForNone name.now (rows_of (found_of options.now))
         ⊎ AreOfNoLog (rows_of (found_of options.now)))) }
 {
     if name == "drill" {
@@ -216,7 +218,8 @@ fn text_if_any<'a>(options: &ArgMatches<'a>, name: &str) -> &'a str
 /// The number of an option. The command line has read it as a whole number.
 pub(crate) fn whole(options: &ArgMatches<'_>, name: &str) -> Result<u64, Fault>
     ensures number { IfOk result (Gives (rows_of (found_of options.now)) name.now) }
-    ensures none { OnErr result (GivesNoneBelow (2 ^ 64) (rows_of (found_of options.now)) name.now) }
+    ensures none { OnErr result
+        (GivesNoneBelow (2 ^ 64) (rows_of (found_of options.now)) name.now) }
     ensures fault { IsOkUnless result Fault.BadSettings }
 {
     options.get_one::<u64>(name).ok_or(Fault::BadSettings)
@@ -224,7 +227,8 @@ pub(crate) fn whole(options: &ArgMatches<'_>, name: &str) -> Result<u64, Fault>
 
 fn medium(options: &ArgMatches<'_>, name: &str) -> Result<u32, Fault>
     ensures number { IfOk result (Gives (rows_of (found_of options.now)) name.now) }
-    ensures none { OnErr result (GivesNoneBelow (2 ^ 32) (rows_of (found_of options.now)) name.now) }
+    ensures none { OnErr result
+        (GivesNoneBelow (2 ^ 32) (rows_of (found_of options.now)) name.now) }
     ensures fault { IsOkUnless result Fault.BadSettings }
 {
     u32::try_from(whole(options, name)?).map_err(|_| Fault::BadSettings)
@@ -232,7 +236,8 @@ fn medium(options: &ArgMatches<'_>, name: &str) -> Result<u32, Fault>
 
 fn small(options: &ArgMatches<'_>, name: &str) -> Result<u16, Fault>
     ensures number { IfOk result (Gives (rows_of (found_of options.now)) name.now) }
-    ensures none { OnErr result (GivesNoneBelow (2 ^ 16) (rows_of (found_of options.now)) name.now) }
+    ensures none { OnErr result
+        (GivesNoneBelow (2 ^ 16) (rows_of (found_of options.now)) name.now) }
     ensures fault { IsOkUnless result Fault.BadSettings }
 {
     u16::try_from(whole(options, name)?).map_err(|_| Fault::BadSettings)

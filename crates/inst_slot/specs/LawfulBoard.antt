@@ -89,8 +89,8 @@ IsAdopted book from id =
 abbrev pub AllAreAdopted : Book → Type 0
 AllAreAdopted book = (x : Arrival) → Contains book.arrivals x → is_some x.index ≡ true
 
--- A call of a participant's slot leaves its books, and those of all others, as lawful over the board
--- as they were
+-- A call of a participant's slot leaves its books, and those of all others, as lawful over the
+-- board as they were
 -- lawful, others: what each book has to do with the board
 -- same: the book is of the same hub and participant
 -- adopted: if all places were found, they still are

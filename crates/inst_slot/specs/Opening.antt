@@ -128,6 +128,7 @@ arrival_found_at k t deadline arrival =
 -- the book after a look at the place
 abbrev pub with_found : Book → Place → Look → Book
 with_found book k (Pending t deadline) =
-    if t.to == book.who then record book { arrivals = map (arrival_found_at k t deadline) book.arrivals }
+    if t.to == book.who
+    then record book { arrivals = map (arrival_found_at k t deadline) book.arrivals }
     else book
 with_found book k _ = book

@@ -17,11 +17,11 @@ use crate::arrivals::{Spot, arrived_at};
 use crate::booking::book;
 use crate::finding::find;
 use crate::waiting::Waiting;
-use inst_base::{Fault, Ident, mention};
+use inst_base::{Fault, Ident};
 use inst_board::{Board, Wish};
-use inst_command::{Ask, Command, Outcome, Place, Reply, State};
+use inst_command::{Ask, Command, Place, Reply, State};
 use inst_ledger::Ledger;
-use inst_transfers::{Found, Side, Transfer};
+use inst_transfers::Found;
 
 /// What a command asks of the board: the transfer that was found, where it lies, and what is wished
 /// for it.
@@ -35,7 +35,8 @@ pub(crate) struct Request {
 /// The transfer that the command decides, its place, and what it wishes for it.
 pub(crate) fn request_of(ledger: &Ledger, arrivals: &[Spot], command: &Command) -> Option<Request>
     requires spots { AreSpots (rows_of ledger.now.book.who ledger.now.book.events) arrivals.now }
-    ensures { GivesRequest ledger.now (request (book_with_spots ledger.now.book arrivals.now) command.now)
+    ensures { GivesRequest ledger.now
+        (request (book_with_spots ledger.now.book arrivals.now) command.now)
         (decided_id command.now) result }
 {
     match command {
@@ -68,7 +69,6 @@ fn answer_to(
         (arrivals_of (rows_of ledger.now.book.who ledger.now.book.events) arrivals.now))) id.now
         result }
 {
-    mention::<(Side, Transfer, Outcome)>();
     let found = ledger.find(from, id)?;
     if found.transfer.outcome.is_some() {
         return None;
@@ -86,7 +86,6 @@ fn question_about(ledger: &Ledger, id: &Ident) -> Option<Request>
         (position (takes id.now) (live_taken ledger.now.book.who ledger.now.book.events))) id.now
         result }
 {
-    mention::<(Side, Transfer, Outcome)>();
     let owner = ledger.who();
     let found = ledger.find(owner, id)?;
     if found.transfer.outcome.is_some() {
@@ -141,7 +140,6 @@ pub(crate) fn settle<B: Board>(
     ensures spots { AreSpots (rows_of ledger.new.book.who ledger.new.book.events) arrivals.now }
     ensures stays { B.stays board.old board.new }
 {
-    mention::<(Side, Transfer, Outcome)>();
     let margin = ledger.settings().margin();
     let Found { from, id, .. } = asked.found;
     let decided = find(ledger, board, margin, asked.place, asked.wish, ask.at)?;

@@ -74,7 +74,6 @@ pub(crate) fn find_at(
         (arrivals_of (rows_of ledger.now.book.who ledger.now.book.events) spots.old.items) }
     ensures spots { AreSpots (rows_of ledger.now.book.who ledger.now.book.events) spots.new.items }
 {
-    mention::<(Side, Transfer, Outcome)>();
     let _ = ledger.transfers();
     let Some(found) = ledger.find(place.owner, &terms.id) else {
         return false;
@@ -111,7 +110,6 @@ pub(crate) fn carried_arrivals(alloc: Global, ledger: &Ledger) -> Result<Vec<Spo
     ensures spots { IfOk result (λ spots.
         AreSpots (rows_of ledger.now.book.who ledger.now.book.events) spots.items) }
 {
-    mention::<Outcome>();
     let mut spots = Vec::new(alloc);
     let mut position = 0;
     for event in ledger.journal().events() {

@@ -10,10 +10,9 @@ ghost use Rattle.inst_ledger.specs.Right.{own_ids};
 ghost use Rattle.inst_slot.specs.Waiting.{IsRightSlot};
 
 use crate::waiting::Waiting;
-use inst_base::mention;
 use inst_command::Outcome;
 use inst_ledger::Ledger;
-use inst_transfers::{Found, Side, Transfer};
+use inst_transfers::Found;
 use std::alloc::AllocError;
 
 /// Books the outcome of a transfer that was found and lies at this index: one of the participant's
@@ -33,13 +32,13 @@ pub(crate) fn book(
     requires right { IsRightSlot ledger.old.book.settings ledger.old.book.who ledger.old.book.events
         (own_ids ledger.old.book.who ledger.old.book.events) waiting.old }
     ensures ok { OnOk result (ledger.new.book
-        ≡ ledger_with_event ledger.old.book (Event.Booked found.now.from found.now.id outcome.now)) }
+        ≡ ledger_with_event ledger.old.book
+        (Event.Booked found.now.from found.now.id outcome.now)) }
     ensures err { OnErr result (ledger.new.book ≡ ledger.old.book) }
     ensures right { IsRightSlot ledger.new.book.settings ledger.new.book.who ledger.new.book.events
         (own_ids ledger.new.book.who ledger.new.book.events) waiting.new }
     ensures room { 0 < ledger.old.room → IsOk result }
 {
-    mention::<(Side, Transfer, Outcome)>();
     ledger.keep_found(found, outcome)?;
     if found.from == ledger.who() {
         waiting.take_out(index);

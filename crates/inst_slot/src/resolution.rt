@@ -9,11 +9,10 @@ ghost use Rattle.inst_slot.specs.Telling.{is_party, resolution};
 
 use crate::arrival::is_at;
 use crate::arrivals::{Spot, arrived_at};
-use inst_base::mention;
 use inst_board::Look;
 use inst_command::{Outcome, Place};
 use inst_ledger::Ledger;
-use inst_transfers::{Found, Side, Transfer};
+use inst_transfers::Found;
 
 /// A transfer of the participant's that was found with nothing booked, and its outcome.
 #[derive(Clone, Copy)]
@@ -44,7 +43,6 @@ pub(crate) fn resolution_of(
     ensures { GivesResolution ledger.now place
         (resolution (book_with_spots ledger.now.book spots.now) place look.now) result }
 {
-    mention::<(Side, Transfer, Outcome)>();
     let Look::Decided(terms, outcome) = look else {
         return None;
     };

@@ -59,7 +59,8 @@ impl Model for Slot {
           arrivals_of (rows_of slot.ledger.book.who slot.ledger.book.events) slot.arrivals.items;
     } };
 
-    ghost invariant = { λ slot. IsRightSlot slot.ledger.book.settings slot.ledger.book.who slot.ledger.book.events
+    ghost invariant = { λ slot. IsRightSlot slot.ledger.book.settings slot.ledger.book.who
+        slot.ledger.book.events
         (own_ids slot.ledger.book.who slot.ledger.book.events) slot.waiting
         × AreSpots (rows_of slot.ledger.book.who slot.ledger.book.events) slot.arrivals.items };
 }
@@ -114,8 +115,6 @@ impl Slot {
     fn own_index(&self, id: &Ident) -> Option<u16>
         ensures { result ≡ position (takes id.now) (live_taken self.now.who self.now.events) }
     {
-        // The invariant is known only where a field is used.
-        let _ = &self.alloc;
         self.ledger.own_index(id)
     }
 
@@ -124,7 +123,6 @@ impl Slot {
         ensures { result ≡ arrived_at from id.now self.now.arrivals }
     {
         mention::<(Side, Transfer, Outcome)>();
-        let _ = &self.alloc;
         let found = self.ledger.find(from, id)?;
         arrived_at(&self.ledger, self.arrivals.as_slice(), &found)
     }

@@ -5,8 +5,7 @@ ghost use Rattle.inst_due.specs.Due.{has, Adds, IsLeast, comes_after};
 ghost use Rattle.inst_journal.specs.Opened.{carried};
 ghost use Rattle.inst_slot.specs.Waiting.{IsWaiting};
 
-use inst_base::{Moment, mention};
-use inst_command::Outcome;
+use inst_base::Moment;
 use inst_due::Due;
 use inst_journal::Event;
 use inst_ledger::Ledger;
@@ -83,7 +82,6 @@ pub(crate) fn carried_waiting(alloc: Global, ledger: &Ledger) -> Result<Waiting,
     ensures ok { IfOk result (λ w.
         IsWaiting ledger.now.book.settings ledger.now.book.who ledger.now.book.events w) }
 {
-    mention::<Outcome>();
     let mut waiting = Waiting::new(alloc);
     for event in ledger.journal().events() {
         if let Event::Taken { id, stamp, .. } = event {

@@ -54,7 +54,8 @@ pub record MayAdd (before : Stated) (movement : Movement) : Type 0 where
   pub few : length before.lines + 1 < 2 ^ 32
 
 -- the movement leads on, and has the next line
-pub record AddsLine (before : Stated) (event : ℕ) (movement : Movement) (after : Stated) : Type 0 where
+pub record AddsLine (before : Stated) (event : ℕ) (movement : Movement)
+    (after : Stated) : Type 0 where
   pub begun : after.begun ≡ before.begun
   pub leads : LeadsOn (position_of before) movement (position_of after)
   pub line : after.lines ≡ before.lines ++ line_with event (position_of after) movement ∷ []

@@ -25,7 +25,8 @@ DifferentWordsHaveDifferentNumbers =
 -- a place has one decided word at most
 abbrev pub OneDecidedWord : Type 0
 OneDecidedWord =
-    (margin : ℕ) (words : List Word) → AreLawful margin words → (i j : ℕ) (o p : Outcome) (t u : ℕ) →
+    (margin : ℕ) (words : List Word) → AreLawful margin words →
+    (i j : ℕ) (o p : Outcome) (t u : ℕ) →
     slice_get words i ≡ Some (DecidedWord o t) → slice_get words j ≡ Some (DecidedWord p u) →
     DecidedWord o t ≡ DecidedWord p u
 

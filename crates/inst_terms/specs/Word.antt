@@ -41,6 +41,12 @@ IsOutcome Accepted = Unit {0}
 IsOutcome (Rejected reason) = IsTrue (is_reason reason)
 IsOutcome TimedOut = Unit {0}
 
+-- the moments of a word are moments, and its reason, if it has one, is one
+abbrev pub HasWordForm : Word → Type 0
+HasWordForm Unused = Unit {0}
+HasWordForm (Pending deadline) = IsTrue (is_moment deadline)
+HasWordForm (Decided outcome moment) = IsOutcome outcome × IsTrue (is_moment moment)
+
 -- what an outcome word can say: a deadline of at least 1, and moments
 abbrev pub IsWord : Word → Type 0
 IsWord Unused = Unit {0}

@@ -26,7 +26,8 @@ MovesWord margin Unused (Pending deadline) = 1 ≤ deadline
 MovesWord margin Unused (DecidedWord outcome moment) = ⊥
 MovesWord margin (Pending deadline) Unused = ⊥
 MovesWord margin (Pending deadline) (Pending other) = ⊥
-MovesWord margin (Pending deadline) (DecidedWord outcome moment) = InTime margin outcome deadline moment
+MovesWord margin (Pending deadline) (DecidedWord outcome moment) =
+    InTime margin outcome deadline moment
 MovesWord margin (DecidedWord outcome moment) word = ⊥
 
 -- the words that a place has one after another, after the word `before`: each is the one before it,

@@ -19,7 +19,8 @@ const LIMIT: u64 = 1 << 63;
 
 /// The four words of an identifier.
 pub(crate) fn pack_identifier(id: &Ident) -> [u64; 4]
-    ensures { result ≡ identifier_words id.now }
+    ensures words { result ≡ identifier_words id.now }
+    ensures form { IsTrue (is_identifier id.now) }
 {
     let text = id.text().as_bytes();
     let characters = padded(text);

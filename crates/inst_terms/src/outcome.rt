@@ -1,7 +1,8 @@
 ghost use Rattle.std.specs.Prelude.{◌≡◌, ◌<◌, Some, ◌↔◌, IsTrue};
 ghost use Rattle.inst_base.specs.Moment.{is_moment};
 ghost use Rattle.inst_terms.specs.declared.word.Word.{Word};
-ghost use Rattle.inst_terms.specs.Word.{IsWord, number, word_number, reason_room, kinds};
+ghost use Rattle.inst_terms.specs.Word.{IsWord, HasWordForm, number, word_number, reason_room};
+ghost use Rattle.inst_terms.specs.Word.{kinds};
 
 use crate::Word;
 use crate::reason::{pack_reason, read_reason};
@@ -25,7 +26,8 @@ const REASON_ROOM: u64 = 2_097_152;
 /// The outcome word, 0 where the place is unused. Different words have different numbers where a
 /// deadline is at least 1.
 pub fn pack_outcome(word: &Word) -> u64
-    ensures { result ≡ word_number word.now }
+    ensures number { result ≡ word_number word.now }
+    ensures form { HasWordForm word.now }
 {
     match word {
         Word::Unused => 0,

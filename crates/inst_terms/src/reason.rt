@@ -14,6 +14,7 @@ pub(crate) const REASONS: u64 = 1_679_616;
 pub(crate) fn pack_reason(reason: &Reason) -> u64
     ensures value { result ≡ reason_number reason.now }
     ensures below { result < REASONS }
+    ensures form { IsTrue (is_reason reason.now) }
 {
     match reason.text().as_bytes() {
         &[a, b, c, d] => ((digit_of(a) * 36 + digit_of(b)) * 36 + digit_of(c)) * 36 + digit_of(d),

@@ -27,7 +27,8 @@ pub struct Terms {
 /// The five terms words. Different terms have different words where the beneficiaries are below
 /// `BENEFICIARIES`.
 pub fn pack(terms: &Terms) -> [u64; 5]
-    ensures { result ≡ words_of terms.now }
+    ensures words { result ≡ words_of terms.now }
+    ensures form { IsTerms terms.now }
 {
     let &Terms { to, cents, id } = terms;
     let [first, second, third, fourth] = pack_identifier(&id);

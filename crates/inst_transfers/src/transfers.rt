@@ -86,7 +86,6 @@ impl Transfers {
     fn find_last(&self, from: u8, id: &Ident) -> Option<Found>
         ensures { IfSome result (λ found. IsLookedUp self.now from id.now (Some found)) }
     {
-        let _ = &self.own;
         let (key, transfer) = self.table.get_index(self.last)?;
         if key.0 != from || key.1 != *id {
             return None;
@@ -103,7 +102,6 @@ impl Transfers {
     fn find_by_key(&self, from: u8, id: &Ident) -> Option<Found>
         ensures { IsLookedUp self.now from id.now result }
     {
-        let _ = &self.own;
         let (position, _, transfer) = self.table.get_full(&(from, *id))?;
         Some(Found {
             from,
@@ -117,7 +115,6 @@ impl Transfers {
     pub fn at(&self, position: usize) -> Option<Found>
         ensures { FindsAt self.now position result }
     {
-        let _ = &self.own;
         let (key, transfer) = self.table.get_index(position)?;
         Some(Found {
             from: key.0,
@@ -132,7 +129,6 @@ impl Transfers {
         ensures count { result ≡ length self.now.entries }
         ensures apart { AreApart (rows_in self.now.entries) }
     {
-        let _ = &self.own;
         self.table.len()
     }
 

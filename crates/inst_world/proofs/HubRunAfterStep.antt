@@ -13,7 +13,7 @@ use Rattle.inst_model.specs.Interleaving.{IsInterleaving}
 use Rattle.inst_model.specs.Transfer.{at_place}
 use Rattle.inst_model.specs.Hub.{outcome, history}
 use Rattle.inst_slot.specs.Book.{Book, place_at}
-use Rattle.inst_world.specs.HasRun.{World, world_settings, IsBoardOf, HasRun, HasRunSomething, Runs, IsOfModel, IsAsBefore}
+use Rattle.inst_world.specs.HasRun.{World, world_settings, IsBoardOf, HasRun, HasRunSomething, Runs, IsOfModel, IsAsBefore, TakesMemory, IsUnrun}
 use Rattle.inst_world.specs.inner.Stepping.{RunsOrNeedsMemory}
 use Rattle.inst_world.proofs.PlaceOfKnownTransfer.{same_for}
 
@@ -51,6 +51,6 @@ of_model old new step (Ok answer) was lawful ran = record {
 }
 of_model old new step (Err fault) was lawful ran = tt
 
-pub unrun : (old new : World) (result : Result Answer AllocError) → OnErr result (IsAsBefore old new) → OnErr result ((O : Opening) (L : List Step) → HasRun O L old → HasRun O L new)
-unrun old new (Ok answer) refused = tt
-unrun old new (Err fault) refused = still_has_run old new refused
+pub unrun : (old new : World) (step : Step) (result : Result Answer AllocError) → OnErr result (IsAsBefore old new) → OnErr result (TakesMemory old step) → OnErr result (IsUnrun old new step)
+unrun old new step (Ok answer) refused memory = tt
+unrun old new step (Err fault) refused memory = record { as_before = refused; memory = memory; has_run = still_has_run old new refused }

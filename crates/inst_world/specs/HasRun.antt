@@ -122,3 +122,9 @@ pub record IsAsBefore (old new : World) : Type 0 where
   pub books_are : new.books ≡ old.books
   pub board_says : (place : Place) →
       SayTheSame (standing_at new.board place) (standing_at old.board place)
+
+-- the step was not run, since it needs memory: the world is as it was, and has run what it had
+pub record IsUnrun (old new : World) (step : Step) : Type 0 where
+  pub as_before : IsAsBefore old new
+  pub memory : TakesMemory old step
+  pub has_run : (O : Opening) (L : List Step) → HasRun O L old → HasRun O L new

@@ -27,7 +27,8 @@ use Rattle.inst_model.specs.Once.{IsSettledOnce}
 use Rattle.inst_model.specs.Opening.{Opening, IsOpening, beginning}
 use Rattle.inst_model.specs.Trace.{trace, own_answers}
 use Rattle.inst_model.specs.Transfer.{Transfer, transfer}
-use Rattle.inst_model.specs.Untold.{sum_over_participants, signed_total, if_untold, untold_by, untold}
+use Rattle.inst_model.specs.Untold.{sum_over_participants, signed_total, if_untold, untold_by}
+use Rattle.inst_model.specs.Untold.{untold}
 
 -- what a run was given, in order, and what it returned: the journal of each participant, and an
 -- answer to each step
@@ -121,7 +122,8 @@ pub record AddsUp (s : HubSettings) (run : Run) : Type 0 where
       ≡ (signed_total s (λ p.
       net (run.journals p)) +ℤ pos (untold s run.opening (reverse run.steps)))
   pub all_told : AllAreTold s run →
-      pos (sum_over_participants s (λ p. position (run.journals p))) ≡ signed_total s (λ p. net (run.journals p))
+      pos (sum_over_participants s (λ p. position (run.journals p)))
+      ≡ signed_total s (λ p. net (run.journals p))
   pub untold_is_reserved : (p : ℕ) → is_participant s p ≡ true →
       untold_by s run.opening (reverse run.steps) p ≤ reserved (run.journals p)
   pub each_untold_is_reserved : (p : ℕ) (id : List ℕ) (to cents stamp : ℕ) →

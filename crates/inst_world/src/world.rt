@@ -13,8 +13,8 @@ ghost use Rattle.inst_model.specs.Transfer.{Transfer, at_place, deadline};
 ghost use Rattle.inst_command.specs.declared.step.Step.{Step};
 ghost use Rattle.inst_model.specs.Hub.{history, outcome};
 ghost use Rattle.inst_slot.specs.Book.{place_at};
-ghost use Rattle.inst_world.specs.HasRun.{IsWorld, HasRun, Runs, IsOfModel, IsAsBefore};
-ghost use Rattle.inst_world.specs.HasRun.{TakesMemory, journal_of};
+ghost use Rattle.inst_world.specs.HasRun.{IsWorld, HasRun, Runs, IsOfModel, IsUnrun};
+ghost use Rattle.inst_world.specs.HasRun.{journal_of};
 ghost use Rattle.inst_world.specs.Places.{IsPendingAt, IsPlaceOf};
 ghost use Rattle.inst_world.specs.Headline.{run_of, KeepsTheHeadline};
 
@@ -145,10 +145,7 @@ impl World {
         requires fits { step_fits self.old.board.settings step.now ≡ true }
         ensures ok { IfOk result (λ answer. Runs self.old step.now answer self.new) }
         ensures model { IfOk result (λ answer. IsOfModel self.old.board.settings step.now answer) }
-        ensures err { OnErr result (IsAsBefore self.old self.new) }
-        ensures memory { OnErr result (TakesMemory self.old step.now) }
-        ensures unrun { OnErr result ((O : Opening) (L : List Step) → HasRun O L self.old →
-            HasRun O L self.new) }
+        ensures err { OnErr result (IsUnrun self.old self.new step.now) }
         ensures settings { self.new.board.settings ≡ self.old.board.settings }
     {
         // The invariant is known only where a field is used.

@@ -7,7 +7,8 @@ use Rattle.inst_agenda.specs.Agenda.{Agenda, is_same_place, is_entry, is_awaited
 
 -- whether one place comes before another: by originator, and of one originator by index
 abbrev pub place_comes_before : ℕ × ℕ → ℕ × ℕ → Bool
-place_comes_before one other = nat_lt one.0 other.0 || (nat_eq one.0 other.0 && nat_lt one.1 other.1)
+place_comes_before one other = nat_lt one.0 other.0
+    || (nat_eq one.0 other.0 && nat_lt one.1 other.1)
 
 -- the place is one of the next, and nothing else changed
 pub record Notes (old new : Agenda) (place : Place) : Type 0 where
@@ -21,7 +22,8 @@ pub record Waits (old new : Agenda) (moment : ℕ) (place : Place) : Type 0 wher
   pub next_is : new.next ≡ old.next
   pub waiting_are : (m owner index : ℕ) →
       is_awaited new m owner index
-      ≡ (is_awaited old m owner index || is_entry moment place.owner place.index (m, (owner, index)))
+      ≡ (is_awaited old m owner index
+      || is_entry moment place.owner place.index (m, (owner, index)))
 
 -- the first that waits is due and was taken out
 pub record TakesDue (old new : Agenda) (at moment : ℕ) (place : Place) : Type 0 where

@@ -15,7 +15,8 @@ pub record CanBeBook (s : HubSettings) (who : ℕ) (J : List Event) : Type 0 whe
   pub few : HasOpeningsLeft J
 
 -- the first of the journals can be books, and are kept by the ledgers
-pub record AreKeptJournals (s : HubSettings) (journals : List History) (ledgers : List BookAndRoom) : Type 0
+pub record AreKeptJournals (s : HubSettings) (journals : List History)
+    (ledgers : List BookAndRoom) : Type 0
   where
     pub can : (p : ℕ) → p < length ledgers → CanBeBook s p (books_of journals p)
     pub same : (p : ℕ) → p < length ledgers → ledger_histories ledgers p ≡ books_of journals p

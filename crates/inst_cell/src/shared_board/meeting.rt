@@ -1,7 +1,7 @@
 //! What holders at one table tell each other.
-ghost use Rattle.std.specs.Prelude.{◌≡◌, ◌⊎◌, ◌↔◌, ◌++◌, ℕ};
-ghost use Rattle.inst_cell.specs.Held.{view_of, roles_of, has_role, Stays, AtOneTable};
-ghost use Rattle.inst_cell.specs.Meeting.{KnowsBoth, KnowsTruth, Vouches};
+ghost use Rattle.std.specs.Prelude.{◌≡◌};
+ghost use Rattle.inst_cell.specs.Held.{view_of, Stays, AtOneTable};
+ghost use Rattle.inst_cell.specs.Meeting.{KnowsBoth, KnowsTruth, Vouches, HasRolesOfBoth};
 
 use super::SharedBoard;
 use crate::steps::{Tell, Unite, Vouching};
@@ -29,8 +29,7 @@ impl SharedBoard {
         ensures both { KnowsBoth self.old other self.new }
         ensures truly { KnowsTruth self.new }
         ensures vouches { Vouches self.old other × Vouches other self.old }
-        ensures roles { roles_of self.new ≡ roles_of self.old ++ roles_of other }
-        ensures role { (p : ℕ) → has_role self.new p ↔ (has_role self.old p ⊎ has_role other p) }
+        ensures roles { HasRolesOfBoth self.old other self.new }
         ensures one { AtOneTable self.old self.new }
     {
         let mut other = other;

@@ -1,16 +1,17 @@
 //! How the words of a hub are made, with a seat for each of its slots, and one for the sight of
 //! each teller.
 ghost use Rattle.std.specs.Prelude.{◌≡◌, ◌⊎◌, ◌↔◌, Err, IfOk, IfErr};
-ghost use Rattle.inst_cell.specs.View.{first_view, with_role, without_role, informed_view};
+ghost use Rattle.inst_cell.specs.View.{first_view};
 ghost use Rattle.inst_board.specs.declared.about.Fact.{Fact};
 ghost use Rattle.inst_cell.specs.Held.{settings_of, view_of, knows, AtOneTable};
 ghost use Rattle.inst_cell.specs.Opening.{HasAllRoles, IsWhole, AreDealt, AreAdmitted, AreOpened};
-ghost use Rattle.inst_cell.specs.Opening.{MayOpen};
+ghost use Rattle.inst_cell.specs.Opening.{MayOpen, CutsView};
 
 use super::SharedBoard;
 use crate::Sight;
 use crate::steps::{HandOver, Tell};
-use atomic_table::Table;
+use crate::view::View;
+use atomic_table::{Split, Table};
 use inst_base::Fault;
 use inst_settings::Settings;
 use std::alloc::{AllocError, Global};
@@ -21,33 +22,17 @@ use std::sync::Arc;
 pub const MOST_TELLERS: u8 = 16;
 
 impl SharedBoard {
-    /// A new board with the first of its roles, which knows as much.
-    fn hand_over(&mut self) -> Result<SharedBoard, AllocError>
+    /// A new board of the same table. The step says which roles and what knowledge each of the two
+    /// has.
+    fn beside<S: Split<View>>(&mut self) -> Result<SharedBoard, AllocError>
+        requires { CutsView S.Split.left S.Split.right }
         ensures new { IfOk result (λ b. AtOneTable self.old b
-            × (view_of b ≡ with_role (view_of self.old))) }
+            × (view_of b ≡ S.Split.right (view_of self.old))) }
         ensures old { IfOk result (λ b. AtOneTable self.old self.new
-            × (view_of self.new ≡ without_role (view_of self.old))) }
+            × (view_of self.new ≡ S.Split.left (view_of self.old))) }
     {
         let table = Arc::try_clone(&self.table)?;
-        let seat = self.table.shared.split_seat::<HandOver>(&mut self.seat);
-        Ok(SharedBoard {
-            table,
-            seat,
-            participants: self.participants,
-            places: self.places,
-            margin: self.margin,
-        })
-    }
-
-    /// A new board without roles, which knows as much.
-    fn copy(&mut self) -> Result<SharedBoard, AllocError>
-        ensures new { IfOk result (λ b. AtOneTable self.old b
-            × (view_of b ≡ informed_view (view_of self.old))) }
-        ensures old { IfOk result (λ b. AtOneTable self.old self.new
-            × (view_of self.new ≡ view_of self.old)) }
-    {
-        let table = Arc::try_clone(&self.table)?;
-        let seat = self.table.shared.split_seat::<Tell>(&mut self.seat);
+        let seat = self.table.shared.split_seat::<S>(&mut self.seat);
         Ok(SharedBoard {
             table,
             seat,
@@ -89,7 +74,7 @@ impl SharedBoard {
     {
         let mut all = Vec::new(alloc);
         for _next in 0..tellers {
-            let board = self.copy()?;
+            let board = self.beside::<Tell>()?;
             all.push(Sight::of(board))?;
         }
         Ok(all)
@@ -125,7 +110,7 @@ impl SharedBoard {
         let mut all = self;
         let mut boards = Vec::new(alloc);
         for _next in 0..all.participants {
-            let board = all.hand_over()?;
+            let board = all.beside::<HandOver>()?;
             boards.push(board)?;
         }
         Ok(boards)

@@ -35,8 +35,10 @@ impl Sight {
     /// Each then knows what either knew.
     pub fn meet(&mut self, other: &mut Sight)
         requires one { AtOneTable (board_of_sight self.old) (board_of_sight other.old) }
-        ensures mine { KnowsBoth (board_of_sight self.old) (board_of_sight other.old) (board_of_sight self.new) }
-        ensures yours { KnowsBoth (board_of_sight self.old) (board_of_sight other.old) (board_of_sight other.new) }
+        ensures mine { KnowsBoth (board_of_sight self.old) (board_of_sight other.old)
+            (board_of_sight self.new) }
+        ensures yours { KnowsBoth (board_of_sight self.old) (board_of_sight other.old)
+            (board_of_sight other.new) }
         ensures stays { Stays (board_of_sight self.old) (board_of_sight self.new)
             × Stays (board_of_sight other.old) (board_of_sight other.new) }
     {
@@ -46,7 +48,8 @@ impl Sight {
     /// One sight that knows what both knew.
     pub fn join(&mut self, other: Sight)
         requires one { AtOneTable (board_of_sight self.old) (board_of_sight other) }
-        ensures both { KnowsBoth (board_of_sight self.old) (board_of_sight other) (board_of_sight self.new) }
+        ensures both { KnowsBoth (board_of_sight self.old) (board_of_sight other)
+            (board_of_sight self.new) }
         ensures stays { Stays (board_of_sight self.old) (board_of_sight self.new) }
     {
         self.board.join(other.board);

@@ -19,7 +19,8 @@ impl SharedBoard {
         requires opened { knows self.old (about place Opened) }
         ensures told { KnowsBoth self.old (board_of_sight sight.old) (board_of_sight sight.new) }
         ensures same { (f : Fact) → knows self.new f ↔ knows self.old f }
-        ensures stays { Stays self.old self.new × Stays (board_of_sight sight.old) (board_of_sight sight.new) }
+        ensures stays { Stays self.old self.new
+            × Stays (board_of_sight sight.old) (board_of_sight sight.new) }
         ensures ticket { result ≡ place }
     {
         self.inform(&mut sight.board);

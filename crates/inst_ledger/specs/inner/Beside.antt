@@ -1,9 +1,15 @@
 -- How a ledger's fundings are found, and what a booked transfer adds to its statement.
 use Rattle.std.specs.Prelude.{◌≡◌, ℕ, ◌+◌, Option, Some, None, Bool, true, false, not, ◌&&◌, ◌==◌}
+use Rattle.std.specs.Prelude.{List, Result}
+use Rattle.inst_base.specs.declared.fault.Fault.{Fault}
+use Rattle.inst_settings.specs.Settings.{HubSettings}
 use Rattle.inst_command.specs.declared.funding.Funding.{Funding}
 use Rattle.inst_command.specs.declared.outcome.Outcome.{Outcome}
 use Rattle.inst_journal.specs.declared.event.Event.{Event}
 use Rattle.inst_journal.specs.declared.event.Event.TheVariants.{Funded, Defunded}
+use Rattle.inst_journal.specs.declared.handle.Handled.{Handled}
+use Rattle.inst_journal.specs.Keys.{is_fund_repeat, is_defund_repeat}
+use Rattle.inst_journal.specs.Reply.{fund, defund}
 use Rattle.inst_ledger.specs.declared.references.KeptFunding.{KeptFunding}
 use Rattle.inst_ledger.specs.declared.totals.Totals.{Totals}
 use Rattle.inst_transfers.specs.declared.transfer.Side.{Side}
@@ -39,6 +45,16 @@ abbrev pub is_funding_of : Bool → ℕ → Option KeptFunding → Bool
 is_funding_of is_defunding cents (Some funding) =
     same_kind funding.is_defunding is_defunding && (funding.cents == cents)
 is_funding_of is_defunding cents None = false
+
+-- whether this very funding, or this very defunding, is kept
+abbrev pub is_funding_repeat : Bool → Funding → List Event → Bool
+is_funding_repeat false funding J = is_fund_repeat funding J
+is_funding_repeat true funding J = is_defund_repeat funding J
+
+-- what a fund or a defund command is answered
+abbrev pub handle_funding : Bool → HubSettings → List Event → Funding → Result Handled Fault
+handle_funding false s J funding = fund s J funding
+handle_funding true s J funding = defund s J funding
 
 -- what an accepted transfer moves: the amount is paid to its beneficiary, or received from its
 -- originator

@@ -3,18 +3,20 @@ ghost use Rattle.std.specs.Prelude.{◌≡◌, ◌≤◌, true, false, take, dro
 ghost use Rattle.inst_base.specs.TimeLimit.{deadline_of};
 ghost use Rattle.inst_base.specs.Fault.{IsUnlessMemory};
 ghost use Rattle.inst_command.specs.Ask.{command_fits, is_count};
-ghost use Rattle.inst_journal.specs.Reply.{is_new_funding, fund, defund, submit, answer_forwarded};
+ghost use Rattle.inst_journal.specs.Reply.{is_new_funding, submit, answer_forwarded};
 ghost use Rattle.inst_journal.specs.Reply.{confirm, reject, investigate, unread, hand_out};
 ghost use Rattle.inst_journal.specs.Reply.{reply_without_event, copies};
 ghost use Rattle.inst_journal.specs.Statement.{statement_part};
 ghost use Rattle.inst_journal.specs.Sound.{Fits};
 ghost use Rattle.inst_ledger.specs.Book.{answer_to, submission_result, submission_event, MayKeep};
 ghost use Rattle.inst_ledger.specs.Inbox.{entries_at};
+ghost use Rattle.inst_ledger.specs.inner.Beside.{is_funding_repeat, handle_funding};
 ghost use Rattle.inst_transfers.specs.State.{rows_of};
 ghost use Rattle.inst_transfers.specs.Held.{AreWithin};
 ghost use Rattle.inst_journal.specs.Money.{reserved, position, available};
 
 use super::Ledger;
+use super::keeping::funding_event;
 use inst_base::{Fault, Ident, Moment, mention};
 use inst_command::{Command, Entries, Entry, Funding, Lines, Outcome, Query, Reply, Submission};
 use inst_journal::{Event, Handled, standing, still_pending};
@@ -23,14 +25,15 @@ use std::alloc::{AllocError, Global};
 
 impl Ledger {
     /// Whether a fund or defund command is new, and no repeat; `Duplicate` and `Full` come first.
-    fn is_new_funding(&self, reference: &Ident, is_repeat: bool) -> Result<bool, Fault>
-        ensures { result ≡ is_new_funding self.now.book.settings self.now.book.events reference.now
-            is_repeat }
+    fn is_new_funding(&self, is_defunding: bool, funding: &Funding) -> Result<bool, Fault>
+        ensures { result ≡ is_new_funding self.now.book.settings self.now.book.events
+            funding.now.reference
+            (is_funding_repeat is_defunding funding.now self.now.book.events) }
     {
-        if is_repeat {
+        if self.is_funding_repeat(is_defunding, funding) {
             return Ok(false);
         }
-        if self.has_reference(reference) {
+        if self.has_reference(&funding.reference) {
             return Err(Fault::Duplicate);
         }
         if self.fundings() >= usize::from(self.settings().fundings()) {
@@ -39,31 +42,18 @@ impl Ledger {
         Ok(true)
     }
 
-    /// Raises the net funding.
-    fn fund(&self, funding: &Funding) -> Result<Handled, Fault>
-        ensures { result ≡ fund self.now.book.settings self.now.book.events funding.now }
+    /// Raises the net funding, or lowers it: refused by `Duplicate` and `Full`, and a defunding by
+    /// `Shortage` above what is available.
+    fn change_funding(&self, is_defunding: bool, funding: &Funding) -> Result<Handled, Fault>
+        ensures { result ≡ handle_funding is_defunding self.now.book.settings self.now.book.events
+            funding.now }
     {
-        let is_repeat = self.is_fund_repeat(funding);
-        let is_new = self.is_new_funding(&funding.reference, is_repeat)?;
-        let event = Event::Funded(*funding);
-        Ok(Handled {
-            reply: Reply::Done {
-                reference: funding.reference,
-            },
-            kept: is_new.then_some(event),
-        })
-    }
-
-    /// Lowers the net funding: refused as `fund` is, and by `Shortage` above what is available.
-    fn defund(&self, funding: &Funding) -> Result<Handled, Fault>
-        ensures { result ≡ defund self.now.book.settings self.now.book.events funding.now }
-    {
-        let is_repeat = self.is_defund_repeat(funding);
-        let is_new = self.is_new_funding(&funding.reference, is_repeat)?;
-        if is_new && u128::from(funding.cents.get()) > self.available() {
+        let is_new = self.is_new_funding(is_defunding, funding)?;
+        let cents = u128::from(funding.cents.get());
+        if is_new && is_defunding && cents > self.available() {
             return Err(Fault::Shortage);
         }
-        let event = Event::Defunded(*funding);
+        let event = funding_event(is_defunding, *funding);
         Ok(Handled {
             reply: Reply::Done {
                 reference: funding.reference,
@@ -73,8 +63,8 @@ impl Ledger {
     }
 
     /// Whether a submission with this deadline is new, and no repeat. Refused, in this order, by
-    /// `SelfTransfer`, `Duplicate`, `StampAhead`, `Expired`, `Full` and `Shortage`. It looks once at
-    /// the table.
+    /// `SelfTransfer`, `Duplicate`, `StampAhead`, `Expired`, `Full` and `Shortage`. It looks once
+    /// at the table.
     pub fn is_new_submission(
         &self,
         at: Moment,
@@ -82,7 +72,8 @@ impl Ledger {
         deadline: Moment,
     ) -> Result<bool, Fault>
         requires fits { command_fits self.now.book.settings (Command.Submit submission.now) ≡ true }
-        requires deadline { deadline ≡ deadline_of self.now.book.settings.limit submission.now.stamp }
+        requires deadline { deadline
+            ≡ deadline_of self.now.book.settings.limit submission.now.stamp }
         ensures answer { submit self.now.book.settings self.now.book.who self.now.book.events at
             submission.now
             ≡ submission_result self.now.book.settings submission.now result }
@@ -295,7 +286,8 @@ impl Ledger {
     /// Answers a question for statement lines, or `Memory`.
     fn answer_statement(&self, alloc: Global, skip: u64, count: u32) -> Result<Handled, Fault>
         ensures { IsUnlessMemory result
-            (reply_without_event (Reply.Statement (statement_part self.now.book.events skip count))) }
+            (reply_without_event
+            (Reply.Statement (statement_part self.now.book.events skip count))) }
     {
         let lines = self.statement(alloc, skip, count)?;
         Ok(Handled {
@@ -318,8 +310,8 @@ impl Ledger {
             result ≡ answer_to self.now.book command.now at found }
     {
         match command {
-            Command::Fund(funding) => self.fund(funding),
-            Command::Defund(funding) => self.defund(funding),
+            Command::Fund(funding) => self.change_funding(false, funding),
+            Command::Defund(funding) => self.change_funding(true, funding),
             Command::Submit(submission) => self.submit(at, submission),
             Command::Confirm { from, id } => self.confirm(*from, *id, found),
             Command::Reject { from, id, .. } => self.reject(*from, *id, found),
@@ -353,8 +345,6 @@ impl Ledger {
             result ≡ answer_to self.now.book command.now at found }
         ensures kept { IfOk result (λ handled. MayKeep self.now.book handled.kept) }
     {
-        // The invariant is known only where a field is used.
-        let _ = &self.settings;
         self.answer(alloc, command, at, found)
     }
 }

@@ -58,7 +58,8 @@ impl Ledger {
         requires fits { Fits self.old.book.settings self.old.book.who self.old.book.events
             (Event.Taken id sending.to sending.cents sending.stamp) }
         ensures { self.new.book ≡
-            ledger_with_event self.old.book (Event.Taken id sending.to sending.cents sending.stamp) }
+            ledger_with_event self.old.book
+            (Event.Taken id sending.to sending.cents sending.stamp) }
     {
         let Sending { to, cents, stamp } = sending;
         let taken = Event::Taken {
@@ -74,8 +75,9 @@ impl Ledger {
         self.table.take(id, to, cents, stamp);
     }
 
-    /// Keeps a transfer that is forwarded to the participant.
-    fn keep_forwarded(&mut self, entry: Entry) -> Result<(), AllocError>
+    /// Keeps a transfer that is forwarded to the participant. Where memory is refused all is as it
+    /// was.
+    pub fn keep_forwarded(&mut self, entry: Entry) -> Result<(), AllocError>
         requires { Fits self.old.book.settings self.old.book.who self.old.book.events
             (Event.Forwarded entry.from entry.id entry.cents entry.deadline) }
         ensures ok { OnOk result (self.new.book ≡
@@ -128,7 +130,8 @@ impl Ledger {
         requires fits { Fits self.old.book.settings self.old.book.who self.old.book.events
             (Event.Booked found.now.from found.now.id outcome.now) }
         ensures ok { OnOk result (self.new.book ≡
-            ledger_with_event self.old.book (Event.Booked found.now.from found.now.id outcome.now)) }
+            ledger_with_event self.old.book
+            (Event.Booked found.now.from found.now.id outcome.now)) }
         ensures err { OnErr result (self.new.book ≡ self.old.book) }
         ensures room { 0 < self.old.room → IsOk result }
     {
@@ -161,11 +164,11 @@ impl Ledger {
     fn keep_fetched(&mut self, count: u32) -> Result<(), AllocError>
         requires { Fits self.old.book.settings self.old.book.who self.old.book.events
             (Event.Fetched count) }
-        ensures ok { OnOk result (self.new.book ≡ ledger_with_event self.old.book (Event.Fetched count)) }
+        ensures ok { OnOk result
+            (self.new.book ≡ ledger_with_event self.old.book (Event.Fetched count)) }
         ensures err { OnErr result (self.new.book ≡ self.old.book) }
         ensures room { 0 < self.old.room → IsOk result }
     {
-        let _ = self.journal.events().len();
         self.journal.push(Event::Fetched { count })?;
         self.read += count as usize;
         Ok(())
@@ -259,7 +262,7 @@ fn add_line(statement: &mut KeptStatement, event: u32, movement: Option<Movement
 }
 
 /// The event of a fund or defund command.
-fn funding_event(is_defunding: bool, funding: Funding) -> Event
+pub(super) fn funding_event(is_defunding: bool, funding: Funding) -> Event
     ensures { result ≡ funding_event is_defunding funding }
 {
     if is_defunding {

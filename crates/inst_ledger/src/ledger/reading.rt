@@ -3,14 +3,13 @@ ghost use Rattle.std.specs.Prelude.{◌≡◌, ℕ, ◌<◌, ◌^◌, length, sl
 ghost use Rattle.std.specs.Prelude.{IfNone};
 ghost use Rattle.inst_settings.specs.Lawful.{IsSettings};
 ghost use Rattle.inst_journal.specs.Booked.{first_some, is_taken, is_forwarded, booked};
-ghost use Rattle.inst_journal.specs.Keys.{fundings, is_submission_repeat, is_fund_repeat};
-ghost use Rattle.inst_journal.specs.Keys.{is_defund_repeat, has_reference};
+ghost use Rattle.inst_journal.specs.Keys.{fundings, is_submission_repeat, has_reference};
 ghost use Rattle.inst_journal.specs.Money.{reserved, position, available};
 ghost use Rattle.inst_journal.specs.Opened.{live_submissions};
 ghost use Rattle.inst_journal.specs.Sound.{IsSound};
 ghost use Rattle.inst_ledger.specs.Beneficiary.{beneficiary_of};
 ghost use Rattle.inst_ledger.specs.Beside.{funding_of};
-ghost use Rattle.inst_ledger.specs.inner.Beside.{is_funding_of};
+ghost use Rattle.inst_ledger.specs.inner.Beside.{is_funding_of, is_funding_repeat};
 ghost use Rattle.inst_ledger.specs.Right.{sending_in, forwarding_in, own_ids, IsRight};
 ghost use Rattle.inst_transfers.specs.Held.{IsLookedUp, FindsAt, IsFound, AreApart, found_at};
 ghost use Rattle.inst_transfers.specs.Held.{rows_in};
@@ -222,20 +221,12 @@ impl Ledger {
         self.funding(reference).is_some()
     }
 
-    /// Whether this very funding is kept.
-    pub(crate) fn is_fund_repeat(&self, funding: &Funding) -> bool
-        ensures { result ≡ is_fund_repeat funding.now self.now.book.events }
+    /// Whether this very funding, or this very defunding, is kept.
+    pub(crate) fn is_funding_repeat(&self, is_defunding: bool, funding: &Funding) -> bool
+        ensures { result ≡ is_funding_repeat is_defunding funding.now self.now.book.events }
     {
-        let _ = &self.settings;
-        is_funding_of(false, funding.cents, self.funding(&funding.reference))
-    }
-
-    /// Whether this very defunding is kept.
-    pub(crate) fn is_defund_repeat(&self, funding: &Funding) -> bool
-        ensures { result ≡ is_defund_repeat funding.now self.now.book.events }
-    {
-        let _ = &self.settings;
-        is_funding_of(true, funding.cents, self.funding(&funding.reference))
+        let kept = self.references.get(&funding.reference);
+        is_funding_of(is_defunding, funding.cents, kept)
     }
 
     /// How many of the participant's own transfers are live.

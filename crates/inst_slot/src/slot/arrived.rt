@@ -5,9 +5,7 @@ ghost use Rattle.inst_slot.specs.Spots.{rows_of, arrival_of};
 
 use super::Slot;
 use crate::arrivals::Spot;
-use inst_base::mention;
-use inst_command::{Outcome, Place};
-use inst_transfers::{Side, Transfer};
+use inst_command::Place;
 
 impl Slot {
     /// The place of the arrival at this spot, where nothing is booked of it and its place was
@@ -17,7 +15,6 @@ impl Slot {
         ensures { result ≡ unbooked_place self.now
             (arrival_of (rows_of self.now.who self.now.events) spot.now) }
     {
-        mention::<(Side, Transfer, Outcome)>();
         let found = self.ledger.at(spot.position)?;
         if found.transfer.outcome.is_some() {
             return None;

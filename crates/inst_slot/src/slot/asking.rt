@@ -93,9 +93,7 @@ impl Slot {
     {
         let id = submission.id;
         let deadline = submission.stamp.deadline(self.ledger.settings().limit());
-        let is_new = self
-            .ledger
-            .is_new_submission(ask.at, submission, deadline)?;
+        let is_new = self.ledger.is_new_submission(ask.at, submission, deadline)?;
         if is_new {
             self.take(board, submission, deadline)?;
         }
@@ -128,7 +126,8 @@ impl Slot {
         Ok(reply)
     }
 
-    /// Answers a query, and keeps nothing. A position needs none of the room that other replies take.
+    /// Answers a query, and keeps nothing. A position needs none of the room that other replies
+    /// take.
     fn answer_query(&mut self, ask: &Ask, query: &Query) -> Result<Reply, Fault>
         requires own { ask.now.who ≡ self.old.who }
         requires fits { ask_fits self.old.settings ask.now ≡ true }
@@ -167,8 +166,8 @@ impl Slot {
         requires fits { ask_fits self.old.settings ask.now ≡ true }
         requires lawful { IsLawfulBoard B.settings B.knows B.has_role board.old self.old }
         requires adopted { AsksAdopted self.old ask.now.command }
-        ensures applies { AnswersAsk (B.settings board.old).margin B.knows B.has_role B.stood B.stays
-            board.old self.old ask.now result board.new self.new }
+        ensures applies { AnswersAsk (B.settings board.old).margin B.knows B.has_role
+            B.stood B.stays board.old self.old ask.now result board.new self.new }
         ensures law { KeepsLawful B.settings B.knows B.has_role B.stays board.old self.old
             board.new self.new }
     {

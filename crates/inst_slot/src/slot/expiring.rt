@@ -13,11 +13,11 @@ use crate::arrivals::Spot;
 use crate::booking::book;
 use crate::finding::find;
 use crate::waiting::Waiting;
-use inst_base::{Moment, mention};
+use inst_base::Moment;
 use inst_board::{Board, Wish};
-use inst_command::{Outcome, Place};
+use inst_command::Place;
 use inst_ledger::Ledger;
-use inst_transfers::{Found, Side, Transfer};
+use inst_transfers::Found;
 use std::alloc::AllocError;
 
 impl Slot {
@@ -65,7 +65,6 @@ impl Slot {
 pub(super) fn unbooked_at(ledger: &Ledger, index: u16) -> Option<Found>
     ensures { FindsUnbooked ledger.now index result }
 {
-    mention::<(Side, Transfer, Outcome)>();
     let found = ledger.own_found(index)?;
     if found.transfer.outcome.is_some() {
         return None;
@@ -99,7 +98,6 @@ fn let_expire<B: Board>(
     ensures spots { AreSpots (rows_of ledger.new.book.who ledger.new.book.events) arrivals.now }
     ensures stays { B.stays board.old board.new }
 {
-    mention::<(Side, Transfer, Outcome)>();
     let place = Place {
         owner: ledger.who(),
         index,

@@ -17,11 +17,10 @@ use crate::arrivals::Spot;
 use crate::booking::book;
 use crate::resolution::{Resolution, resolution_of};
 use crate::waiting::Waiting;
-use inst_base::mention;
 use inst_board::{Board, PlaceState};
-use inst_command::{Outcome, Place};
+use inst_command::Place;
 use inst_ledger::Ledger;
-use inst_transfers::{Found, Side, Transfer};
+use inst_transfers::Found;
 use std::alloc::AllocError;
 
 impl Slot {
@@ -81,7 +80,6 @@ fn own_unbooked(ledger: &Ledger, place: Place) -> Option<Found>
     ensures owner { IfSome result (λ found. place.owner ≡ ledger.now.book.who) }
     ensures unbooked { IfSome result (λ found. IsUnbooked ledger.now place.index found) }
 {
-    mention::<(Side, Transfer, Outcome)>();
     if place.owner != ledger.who() {
         return None;
     }
@@ -115,7 +113,6 @@ fn learn_own<B: Board>(
     ensures spots { AreSpots (rows_of ledger.new.book.who ledger.new.book.events) arrivals.now }
     ensures stays { B.stays board.old board.new }
 {
-    mention::<(Side, Transfer, Outcome)>();
     match board.place_state(place) {
         PlaceState::Decided(outcome) => {
             book(ledger, waiting, found, place.index, &outcome)?;

@@ -167,8 +167,6 @@ impl Slot {
         ensures kept { self.new ≡ with_found self.old place look.now }
         ensures sound { IsSound self.old.settings self.old.who self.old.events }
     {
-        // The invariant is known only where a field is used.
-        let _ = &self.alloc;
         match look {
             Look::Pending(terms, deadline) => {
                 terms.to == self.who()

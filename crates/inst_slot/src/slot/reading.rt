@@ -5,9 +5,7 @@ ghost use Rattle.inst_journal.specs.Statement.{statement_part};
 ghost use Rattle.inst_slot.specs.OwnState.{own_state};
 
 use super::Slot;
-use inst_base::mention;
-use inst_command::{Lines, Outcome, State};
-use inst_transfers::{Side, Transfer};
+use inst_command::{Lines, State};
 use std::alloc::{AllocError, Global};
 
 impl Slot {
@@ -16,7 +14,6 @@ impl Slot {
     pub fn own_state(&self, index: u16) -> State
         ensures { result ≡ own_state self.now.who self.now.events index }
     {
-        mention::<(Side, Transfer, Outcome)>();
         let Some(found) = self.ledger.own_found(index) else {
             return State::Unused;
         };

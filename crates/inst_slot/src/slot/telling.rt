@@ -3,15 +3,14 @@ ghost use Rattle.std.specs.Prelude.{◌≡◌, true, is_some, OnErr, OnOk, Some}
 ghost use Rattle.inst_board.specs.declared.look.Look.{Look};
 ghost use Rattle.inst_board.specs.Learning.{Looks};
 ghost use Rattle.inst_journal.specs.Sound.{IsSound, Fits};
+ghost use Rattle.inst_journal.specs.declared.event.Event.{Event};
 ghost use Rattle.inst_slot.specs.LawfulBoard.{IsLawfulBoard, KeepsLawful, AllAreAdopted};
 ghost use Rattle.inst_slot.specs.Telling.{delivery, with_delivery, Keeps};
 
 use super::Slot;
 use crate::arrivals::Spot;
-use inst_base::mention;
 use inst_board::{Board, Look};
-use inst_command::{Entry, Outcome, Place};
-use inst_journal::Event;
+use inst_command::{Entry, Place};
 use std::alloc::AllocError;
 
 impl Slot {
@@ -45,23 +44,10 @@ impl Slot {
         ensures ok { OnOk result (self.new ≡ with_delivery self.old place (Some entry)) }
         ensures err { OnErr result (self.new ≡ self.old) }
     {
-        mention::<Outcome>();
-        let Entry {
-            from,
-            id,
-            cents,
-            deadline,
-        } = entry;
-        let event = Event::Forwarded {
-            from,
-            id,
-            cents,
-            deadline,
-        };
         let index = Some(place.index);
         let position = self.ledger.transfers();
         self.arrivals.try_reserve(1)?;
-        self.ledger.keep(event)?;
+        self.ledger.keep_forwarded(entry)?;
         self.arrivals.push_reserved(Spot { position, index });
         Ok(())
     }

@@ -79,7 +79,8 @@ impl Model for Reopened {
 
     ghost view = { λ opened. record { books = opened.slots.items; board = opened.board } };
 
-    ghost invariant = { λ opened. IsCarryingWorld (record { books = opened.slots.items; board = opened.board }) };
+    ghost invariant = { λ opened. IsCarryingWorld
+        (record { books = opened.slots.items; board = opened.board }) };
 }
 
 impl Reopened {

@@ -30,7 +30,7 @@ loop-board-preserved c =
       (
         i.0 ++ c.in-Some-board.board ∷ [],
         more_so_far c.args.settings.now c.args.slots.now c.args.boards.items i.0 (into_iter_items c.loop-board.board-iterator) (into_iter_items c.next-in-loop-board.new.self) c.loop-board.whole c.in-Some-board.board c.join.new.self
-            c.in-Some-board.ensures.steps.0 i.1 j.both j.truly j.vouches j.role j.one,
+            c.in-Some-board.ensures.steps.0 i.1 j.both j.truly j.vouches j.roles.role j.one,
       ),
     )
 

@@ -49,10 +49,7 @@ pub returns-clause-roles : goal.returns-clause-roles
 returns-clause-roles c =
     let m = c.meet.ensures in
     let e = ap view_in c.load.ensures.2.1 ∙ ap view_in c.join_seat.ensures.2 in
-    joined_roles c.args.self.now c.args.other c.meet.new.self c.meet.new.other c.requires.one m.stays.0 m.stays.1 c.load.new.seat.me.0 e
-
-pub returns-clause-role : goal.returns-clause-role
-returns-clause-role c =
-    let m = c.meet.ensures in
-    let e = ap view_in c.load.ensures.2.1 ∙ ap view_in c.join_seat.ensures.2 in
-    joined_role c.args.self.now c.args.other c.meet.new.self c.meet.new.other c.requires.one m.stays.0 m.stays.1 c.load.new.seat.me.0 e
+    record {
+      roles = joined_roles c.args.self.now c.args.other c.meet.new.self c.meet.new.other c.requires.one m.stays.0 m.stays.1 c.load.new.seat.me.0 e;
+      role = joined_role c.args.self.now c.args.other c.meet.new.self c.meet.new.other c.requires.one m.stays.0 m.stays.1 c.load.new.seat.me.0 e;
+    }

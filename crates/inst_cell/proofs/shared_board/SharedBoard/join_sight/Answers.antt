@@ -6,4 +6,4 @@ use Rattle.inst_cell.proofs.shared_board.SharedBoard.join_sight.Goals as goal
 pub returns-clause-stays : goal.returns-clause-stays
 returns-clause-stays c =
     let e = c.join.ensures in
-    record { settings = e.one.1; table = e.one.0; roles = e.roles ∙ no_roles_more (roles_of c.args.self.now) _ c.args.sight.nobody }
+    record { settings = e.one.1; table = e.one.0; roles = e.roles.roles ∙ no_roles_more (roles_of c.args.self.now) _ c.args.sight.nobody }

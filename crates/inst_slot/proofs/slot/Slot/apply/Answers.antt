@@ -70,7 +70,7 @@ returns-in-None-clause-applies g c = record {
       let b = g.B.Board in
       asks_where_it_decides b.settings b.knows b.has_role c.args.board.now c.args.self.now c.args.ask.now.command c.requires.lawful c.requires.adopted;
   left = enters_left (g.B.Board.settings c.args.board.now).margin g.B.Board.knows c.args.board.now c.enter.new.board c.args.self.now c.args.ask.now c.enter.result c.enter.new.self c.enter.ensures.enters;
-  unknown = 
+  unknown =
       let b = g.B.Board in
       on_error (λ (fault : Fault). fault ≢ Memory → KnowTheSame b.knows c.args.board.now c.enter.new.board) c.enter.result
       (λ fault is_err other. enters_unknown (g.B.Board.settings c.args.board.now).margin g.B.Board.knows c.args.board.now c.enter.new.board c.args.self.now c.args.ask.now c.enter.result c.enter.new.self fault c.enter.ensures.enters is_err other);
@@ -102,13 +102,13 @@ returns-in-Some-clause-law g c = record {
       others_settle b.settings b.knows b.has_role (b.settings c.args.board.now).margin b.stood b.stays (λ x y. g.met.B.Board.stays_settings x y) (λ x y p. g.met.B.Board.stays_roles x y p) (λ x k t o. g.met.B.Board.stood_seldom x k t o)
       c.args.board.now c.settle.new.board c.settle.ensures.stays refl book c.args.ask.now (r.place, r.wish) c.settle.result new c.requires.lawful
       is settles;
-  same = 
+  same =
       let b = g.B.Board in
       let old = c.self.inside.ledger.book in
       let seen = subst (λ (S : List Spot). Settles (b.settings c.args.board.now).margin b.knows b.has_role b.stood b.stays c.args.board.now (book_with_spots old S) c.args.ask.now c.in-Some.request.place c.in-Some.request.wish c.settle.result c.settle.new.board (book_with_spots c.settle.new.ledger.book S)) c.as_slice-spots.ensures.value c.settle.ensures.settles in
       let settles = subst (λ (x : Book). Settles (b.settings c.args.board.now).margin b.knows b.has_role b.stood b.stays c.args.board.now x c.args.ask.now c.in-Some.request.place c.in-Some.request.wish c.settle.result c.settle.new.board (book_with_spots c.settle.new.ledger.book c.self.inside.arrivals.items)) c.self.view_is seen in
       (settles_same (b.settings c.args.board.now).margin b.knows b.has_role b.stood b.stays c.args.board.now c.settle.new.board c.args.self.now (book_with_spots c.settle.new.ledger.book c.self.inside.arrivals.items) c.args.ask.now c.in-Some.request.place c.in-Some.request.wish c.settle.result settles).same;
-  adopted = 
+  adopted =
       let b = g.B.Board in
       let old = c.self.inside.ledger.book in
       let seen = subst (λ (S : List Spot). Settles (b.settings c.args.board.now).margin b.knows b.has_role b.stood b.stays c.args.board.now (book_with_spots old S) c.args.ask.now c.in-Some.request.place c.in-Some.request.wish c.settle.result c.settle.new.board (book_with_spots c.settle.new.ledger.book S)) c.as_slice-spots.ensures.value c.settle.ensures.settles in

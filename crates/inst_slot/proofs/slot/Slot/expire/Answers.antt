@@ -52,14 +52,14 @@ returns-in-Some-clause-law g c = record {
       ap (λ (x : Book). unbooked_at x c.args.index) (sym c.self.view_is) ∙ c.in-Some.ensures.is (arrivals_of (rows_of c.self.inside.ledger.book.who c.self.inside.ledger.book.events) S) in
       others_expire b.settings b.knows b.has_role (b.settings c.args.board.now).margin b.stood b.stays (λ x y. g.met.B.Board.stays_settings x y) (λ x y p. g.met.B.Board.stays_roles x y p) (λ x k t o. g.met.B.Board.stood_seldom x k t o)
       c.args.board.now c.let_expire.new.board c.let_expire.ensures.stays refl book c.args.index c.args.at c.in-Some.found.id c.let_expire.result (book_with_spots c.let_expire.new.ledger.book S) c.requires.lawful is expires;
-  same = 
+  same =
       let b = g.B.Board in
       let book : Book = c.args.self.now in
       let S = c.self.inside.arrivals.items in
       let told = subst (λ (l : List Spot). ExpiresFor (b.settings c.args.board.now).margin b.knows b.has_role b.stood b.stays c.args.board.now (book_with_spots c.self.inside.ledger.book l) c.args.index c.args.at (Some c.in-Some.found.id) c.let_expire.result c.let_expire.new.board (book_with_spots c.let_expire.new.ledger.book l)) c.as_slice.ensures.value c.let_expire.ensures.expires in
       let expires = subst (λ (x : Book). ExpiresFor (b.settings c.args.board.now).margin b.knows b.has_role b.stood b.stays c.args.board.now x c.args.index c.args.at (Some c.in-Some.found.id) c.let_expire.result c.let_expire.new.board (book_with_spots c.let_expire.new.ledger.book S)) c.self.view_is told in
       (expires_same (b.settings c.args.board.now).margin b.knows b.has_role b.stood b.stays c.args.board.now c.let_expire.new.board book (book_with_spots c.let_expire.new.ledger.book S) c.args.index c.args.at (Some c.in-Some.found.id) c.let_expire.result expires).same;
-  adopted = 
+  adopted =
       let b = g.B.Board in
       let book : Book = c.args.self.now in
       let S = c.self.inside.arrivals.items in

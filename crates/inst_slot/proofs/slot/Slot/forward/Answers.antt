@@ -23,11 +23,11 @@ invariant_of-self-2 c =
     let s : Spot = record { position = c.transfers-position.result; index = Some c.args.place.index } in
     let at = c.transfers-position.ensures.count ∙ sym (length-map c.self.inside.ledger.table.entries row_in) ∙ ap length c.transfers-position.ensures.right.rows in
     let items = c.push_reserved.ensures.items ∙ ap (λ (l : List Spot). l ++ s ∷ []) c.in_ok-try_reserve.ensures.items in (
-      keeps_over old c.keep.new.self.book c.self.inside.waiting c.self.inside.waiting e c.self.invariant.0
-          (subst (λ (x : Book). Fits x.settings x.who x.events e) (sym c.self.view_is) c.requires.fits) refl c.in_ok-keep.ensures.ok refl old.who refl
-          (books_nothing old.who e (own_ids c.keep.new.self.book.who c.keep.new.self.book.events) c.self.inside.waiting.pairs (λ from id outcome is. let no : ⊥ = cc in no)),
-      subst (λ (l : List Spot). AreSpots (rows_of c.keep.new.self.book.who c.keep.new.self.book.events) l) (sym items)
-          (spots_forwarded old c.keep.new.self.book entry c.self.inside.arrivals.items s c.in_ok-keep.ensures.ok at c.self.invariant.1),
+      keeps_over old c.keep_forwarded.new.self.book c.self.inside.waiting c.self.inside.waiting e c.self.invariant.0
+          (subst (λ (x : Book). Fits x.settings x.who x.events e) (sym c.self.view_is) c.requires.fits) refl c.in_ok-keep_forwarded.ensures.ok refl old.who refl
+          (books_nothing old.who e (own_ids c.keep_forwarded.new.self.book.who c.keep_forwarded.new.self.book.events) c.self.inside.waiting.pairs (λ from id outcome is. let no : ⊥ = cc in no)),
+      subst (λ (l : List Spot). AreSpots (rows_of c.keep_forwarded.new.self.book.who c.keep_forwarded.new.self.book.events) l) (sym items)
+          (spots_forwarded old c.keep_forwarded.new.self.book entry c.self.inside.arrivals.items s c.in_ok-keep_forwarded.ensures.ok at c.self.invariant.1),
     )
 
 pub returns-clause-ok : goal.returns-clause-ok
@@ -37,7 +37,7 @@ returns-clause-ok c =
     let s : Spot = record { position = c.transfers-position.result; index = Some c.args.place.index } in
     let at = c.transfers-position.ensures.count ∙ sym (length-map c.self.inside.ledger.table.entries row_in) ∙ ap length c.transfers-position.ensures.right.rows in
     let items = c.push_reserved.ensures.items ∙ ap (λ (l : List Spot). l ++ s ∷ []) c.in_ok-try_reserve.ensures.items in
-    ap (book_with_spots c.keep.new.self.book) items ∙ over_forwarded old c.keep.new.self.book entry c.self.inside.arrivals.items s c.in_ok-keep.ensures.ok at c.self.invariant.1
+    ap (book_with_spots c.keep_forwarded.new.self.book) items ∙ over_forwarded old c.keep_forwarded.new.self.book entry c.self.inside.arrivals.items s c.in_ok-keep_forwarded.ensures.ok at c.self.invariant.1
     ∙ ap (λ (x : Book). with_delivery x c.args.place (Some entry)) c.self.view_is
 
 pub invariant_of-self : goal.invariant_of-self

@@ -123,7 +123,7 @@ returns-in_ok-book-in-Some-clause-law g c = record {
       let b = g.B.Board in
       others_look b.settings b.knows b.has_role (b.settings c.args.board.now).margin b.stood b.stays (λ x y. g.met.B.Board.stays_settings x y) (λ x y p. g.met.B.Board.stays_roles x y p) (λ x k t o. g.met.B.Board.stood_seldom x k t o)
       c.args.board.now c.look-look.new.self c.look-look.ensures.stays refl c.args.place c.look-look.result c.args.self.now.who c.look-look.ensures.look;
-  same = 
+  same =
       let event : Event = Booked c.in-Some.field-0.found.from c.in-Some.field-0.found.id c.in-Some.field-0.outcome in
       let new = over_after c.self.inside.ledger.book c.book.new.ledger.book event c.self.inside.arrivals.items c.in_ok-book-in-Some.ensures.ok c.self.invariant.1 ∙ ap (λ (x : Book). with_event x (Some event)) c.self.view_is in
       (ap (λ (x : Book). x.settings) new, ap (λ (x : Book). x.who) new);

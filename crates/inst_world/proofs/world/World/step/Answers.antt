@@ -9,5 +9,5 @@ returns-clause-model c =
     of_model _ _ _ _ (subst HasRunSomething c.self.view_is c.self.invariant.3)
     (subst (λ (w : World). IsSettings (world_settings w)) c.self.view_is c.self.invariant.2) c.run_by_slot.ensures.ok
 
-pub returns-clause-unrun : goal.returns-clause-unrun
-returns-clause-unrun c = unrun _ _ _ c.run_by_slot.ensures.err
+pub returns-clause-err : goal.returns-clause-err
+returns-clause-err c = unrun _ _ _ _ c.run_by_slot.ensures.err c.run_by_slot.ensures.memory

@@ -25,8 +25,8 @@ pub loop-index-init : goal.loop-index-init
 loop-index-init c = record { settings = refl; ran = λ O L run. run; told = told_none _ _ (λ O L run. run) }
 
 pub returns-in_err-step-clause-told : goal.returns-in_err-step-clause-told
-returns-in_err-step-clause-told c = told_more _ _ _ c.loop-index.invariant.told (told_none _ _ c.in_err-step.ensures.unrun)
+returns-in_err-step-clause-told c = told_more _ _ _ c.loop-index.invariant.told (told_none _ _ c.in_err-step.ensures.err.has_run)
 
 pub returns-in_err-step-2-clause-told : goal.returns-in_err-step-2-clause-told
 returns-in_err-step-2-clause-told c =
-    told_more _ _ _ c.loop-index.invariant.told (told_more _ _ _ (told_one _ _ _ _ refl c.in_ok-step.ensures.ok) (told_none _ _ c.in_err-step-2.ensures.unrun))
+    told_more _ _ _ c.loop-index.invariant.told (told_more _ _ _ (told_one _ _ _ _ refl c.in_ok-step.ensures.ok) (told_none _ _ c.in_err-step-2.ensures.err.has_run))
