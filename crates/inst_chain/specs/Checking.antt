@@ -46,7 +46,8 @@ pub record IsWrongAt (checker : Checker) (bytes : List ℕ) (right : Prefix) : T
   pub line : List ℕ
   pub rest : List (List ℕ)
   pub split : recovered_lines bytes ≡ done ++ line ∷ rest
-  pub stands : (lines : List (List ℕ)) → HasGoneThrough checker lines → HasGoneThrough mid (lines ++ done)
+  pub stands : (lines : List (List ℕ)) → HasGoneThrough checker lines
+      → HasGoneThrough mid (lines ++ done)
   pub mark : is_mark line ≡ true
   pub wrong : (lines : List (List ℕ)) → (s : HasGoneThrough mid lines) →
       line ≡ mark_of (front_of s.older ++ blocks s.part) → ⊥

@@ -39,7 +39,8 @@ impl Checker {
         ensures right { result ≡ true → (lines : List (List ℕ)) → HasGoneThrough self.old lines →
             HasGoneThrough self.new (lines ++ line.now ∷ []) }
         ensures mark { result ≡ false → is_mark line.now ≡ true }
-        ensures wrong { result ≡ false → (lines : List (List ℕ)) → (s : HasGoneThrough self.old lines)
+        ensures wrong { result ≡ false → (lines : List (List ℕ))
+            → (s : HasGoneThrough self.old lines)
             → line.now ≡ mark_of (front_of s.older ++ blocks s.part) → ⊥ }
     {
         self.came.add(line);

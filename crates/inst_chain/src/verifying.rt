@@ -1,6 +1,7 @@
 //! The marks of a file are verified, and nothing of it is changed.
 ghost use Rattle.std.specs.Prelude.{◌≡◌, ◌++◌, List, ℕ, IsTrue, IfOk, IfErr, MatchResult, ⊤};
 ghost use Rattle.sqlite_disk.specs.Disk.{MoreFaults};
+ghost use Rattle.inst_log.specs.Disks.{HasKeptFaith, IsOnlyRead};
 ghost use Rattle.inst_log.specs.Layout.{recovered_lines};
 ghost use Rattle.inst_chain.specs.Chain.{has_wanted};
 ghost use Rattle.inst_chain.specs.Verifying.{IsFoundVerified, Unverified};
@@ -40,17 +41,14 @@ pub fn verify<D: Disk>(
     wanted: Option<Digest>,
 ) -> Result<Verified, ChainError>
     requires usable { IsTrue (D.Disk.is_usable disk.old) }
-    ensures found { IfOk result (λ verified. IsTrue (D.Disk.is_clean disk.new) →
+    ensures found { IfOk result (λ verified. HasKeptFaith D.Disk disk.new →
         IsFoundVerified (D.Disk.seen disk.old) verified) }
-    ensures wanted { IfOk result (λ verified. IsTrue (D.Disk.is_clean disk.new)
+    ensures wanted { IfOk result (λ verified. HasKeptFaith D.Disk disk.new
         → verified.has_wanted ≡ has_wanted wanted (recovered_lines (D.Disk.seen disk.old))) }
     ensures cause { MatchResult result (λ _. D.Disk.faults disk.new ≡ D.Disk.faults disk.old)
-        (Unverified (D.Disk.seen disk.old) (IsTrue (D.Disk.is_clean disk.new))
+        (Unverified (D.Disk.seen disk.old) (HasKeptFaith D.Disk disk.new)
         (MoreFaults (D.Disk.faults disk.old) (D.Disk.faults disk.new))) }
-    ensures seen { D.Disk.seen disk.new ≡ D.Disk.seen disk.old }
-    ensures crash { (c : List ℕ) → D.Disk.may_leave disk.new c → D.Disk.may_leave disk.old c }
-    ensures usable { IsTrue (D.Disk.is_usable disk.new) }
-    ensures clean { IsTrue (D.Disk.is_clean disk.new) → IsTrue (D.Disk.is_clean disk.old) }
+    ensures read { IsOnlyRead D.Disk disk.old disk.new }
 {
     let mut lines = FileLines::new(alloc, disk, 0)?;
     let mut checker = Checker::new();

@@ -10,7 +10,7 @@ use Rattle.inst_lines.specs.Limits.{most_bytes, most_lines}
 use Rattle.inst_lines.specs.Answers.{Answerer, output, state_after, refusals}
 use Rattle.inst_lines.specs.LineBuffer.{unanswered_bytes}
 use Rattle.inst_lines.specs.Progress.{Progress, Finished}
-use Rattle.inst_lines.specs.Session.{Reached, IsReadyToRead, Turns, EndsInput, FailsRun, FailsAfter}
+use Rattle.inst_lines.specs.Session.{Reached, IsReadyToRead, Turns, EndsInput, FailsRun, CountsLines, FailsAfter}
 use Rattle.inst_base.proofs.Streams.{Consumes-append, Consumes-keeps, Keeps-same}
 use Rattle.inst_lines.proofs.ProgressOfRunSteps.{progress-start}
 
@@ -88,3 +88,9 @@ module _ {S W : Type 0} (a : Answerer S) (holds : S → W → Type 0) (start : S
     consumes = Consumes-append left left' left'' r.bytes f.read r.consumes f.consumes;
     leaves = f.leaves start before r.bytes r.reached;
   }
+
+-- what is said of both counts, where the bytes are known
+pub counts_of : {S : Type 0} (a : Answerer S) (start : S) (left : Option (List ℕ)) (counts : Counts) → IfSome left (λ bytes. counts.lines ≡ length (lines_of bytes)) → IfSome left (λ bytes. counts.refused ≡ refusals a start (lines_of bytes))
+    → IfSome left (λ bytes. CountsLines a start bytes counts)
+counts_of a start None counts lines refused = tt
+counts_of a start (Some bytes) counts lines refused = record { lines = lines; refused = refused }

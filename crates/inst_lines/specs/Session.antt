@@ -1,5 +1,5 @@
 -- How far a session has come, at any world that holds a state by which lines are answered.
-use Rattle.std.specs.Prelude.{◌≡◌, ℕ, ◌<◌, ◌≤◌, false, List, [], ◌++◌, length, Option}
+use Rattle.std.specs.Prelude.{◌≡◌, ℕ, ◌<◌, ◌≤◌, false, List, [], ◌++◌, length, Option, IfSome}
 use Rattle.std.specs.Io.KnownBytes.{Consumes, IsAtEnd}
 use Rattle.inst_base.specs.declared.fault.Fault.{Fault}
 use Rattle.inst_base.specs.declared.fault.Fault.TheVariants.{Memory, ReadFault, WriteFault}
@@ -7,7 +7,8 @@ use Rattle.inst_lines.specs.declared.session.Session.{Session}
 use Rattle.inst_lines.specs.declared.session.Counts.{Counts}
 use Rattle.inst_base.specs.Newline.{NoNewline}
 use Rattle.inst_lines.specs.Limits.{most_lines, most_line_bytes}
-use Rattle.inst_lines.specs.Answers.{Answerer}
+use Rattle.inst_lines.specs.Lines.{lines_of, IsWithinLimits}
+use Rattle.inst_lines.specs.Answers.{Answerer, refusals}
 use Rattle.inst_lines.specs.LineBuffer.{unanswered_bytes}
 use Rattle.inst_lines.specs.Progress.{Progress, Stopped, Finished, CutOff}
 
@@ -80,6 +81,17 @@ pub record FailsRun {S W : Type 0} (a : Answerer S) (holds : S → W →
   pub leaves : (start : S) (before : Option (List ℕ)) (bytes : List ℕ) →
       Reached a holds start before bytes now old old_world →
       Leaves a start before (bytes ++ read) now' fault
+
+-- so many lines these bytes have, and so many of them are answered by a refusal
+pub record CountsLines {S : Type 0} (a : Answerer S) (start : S) (bytes : List ℕ)
+    (counts : Counts) : Type 0 where
+  pub lines : counts.lines ≡ length (lines_of bytes)
+  pub refused : counts.refused ≡ refusals a start (lines_of bytes)
+
+-- all that a reader had left was read, and it is no more than a run may have
+pub record IsReadToEnd (left left' : Option (List ℕ)) : Type 0 where
+  pub at_end : IsAtEnd left'
+  pub limits : IfSome left IsWithinLimits
 
 -- what a fault leaves after a whole run
 pub record FailsAfter {S : Type 0} (a : Answerer S) (start : S) (before now : Option (List ℕ))

@@ -29,27 +29,40 @@ pub fn answer_line(
     line: &[u8],
     out: &mut Vec<u8>,
 ) -> Result<bool, AllocError>
-    ensures { IfOk result (λ refused. AnswersLine (hub_answerer mode) (IsRunnerAt mode) false line.now
+    ensures { IfOk result (λ refused.
+        AnswersLine (hub_answerer mode) (IsRunnerAt mode) false line.now
         runner.old runner.new out.old.items out.new.items refused) }
 {
-    answer_part(reader, mode, runner, false, line, out)
+    let line = HeldLine {
+        is_long: false,
+        part: line,
+    };
+    answer_part(reader, mode, runner, line, out)
 }
 
-/// Appends the answer to a line, and a newline, to `out`, and says whether it is a refusal. This
-/// part of the line is held, and where it is long a front of it was let go.
+/// A line as it is held.
+#[derive(Clone, Copy)]
+pub(crate) struct HeldLine<'a> {
+    /// Whether a front of it was let go, since it is too long.
+    pub(crate) is_long: bool,
+    /// What is held of it.
+    pub(crate) part: &'a [u8],
+}
+
+/// Appends the answer to a line that is held so, and a newline, to `out`, and says whether it is a
+/// refusal.
 pub(crate) fn answer_part(
     reader: &mut LineReader,
     mode: Mode,
     runner: &mut Runner,
-    is_long: bool,
-    part: &[u8],
+    line: HeldLine<'_>,
     out: &mut Vec<u8>,
 ) -> Result<bool, AllocError>
     ensures ok { IfOk result (λ refused.
-        AnswersLine (hub_answerer mode) (IsRunnerAt mode) is_long part.now
+        AnswersLine (hub_answerer mode) (IsRunnerAt mode) line.entry.is_long line.entry.part.now
         runner.old runner.new out.old.items out.new.items refused) }
 {
-    let answer = answer_to(reader, mode, runner, is_long, part)?;
+    let answer = answer_to(reader, mode, runner, line)?;
     append_answer(runner.settings(), &answer, out)
 }
 
@@ -58,12 +71,12 @@ fn answer_to(
     reader: &mut LineReader,
     mode: Mode,
     runner: &mut Runner,
-    is_long: bool,
-    part: &[u8],
+    line: HeldLine<'_>,
 ) -> Result<Answer, AllocError>
     ensures ok { IfOk result (λ answer.
-        RepliesToLine mode is_long part.now runner.old runner.new answer) }
+        RepliesToLine mode line.entry.is_long line.entry.part.now runner.old runner.new answer) }
 {
+    let HeldLine { is_long, part } = line;
     if is_too_long(is_long, part.len()) {
         return Ok(Answer::Reply(Reply::Refused(Fault::LineTooLong)));
     }

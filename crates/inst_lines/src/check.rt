@@ -29,7 +29,8 @@ pub fn check_lines<R: Read, W: Write>(
 ) -> Result<(), Fault>
     ensures end { OnOk result (IsAtEnd (R.remaining reader.new)) }
     ensures told { OnOk result (IfSome (R.remaining reader.old) (λ bytes.
-        Appends (W.contents writer.old) (W.contents writer.new) (check_report settings.now bytes))) }
+        Appends (W.contents writer.old) (W.contents writer.new)
+        (check_report settings.now bytes))) }
     ensures err { OnErr result (IfSome (R.remaining reader.old) (λ bytes.
         TellsPart settings.now bytes (W.contents writer.old) (W.contents writer.new))) }
     ensures only { IfErr result (λ fault. (fault ≡ Fault.Memory)

@@ -3,9 +3,9 @@ ghost use Rattle.std.specs.Prelude.{◌≡◌, OnOk, IfOk, IfErr, IfSome, length
 ghost use Rattle.std.specs.Io.KnownBytes.{Appends, IsAtEnd};
 ghost use Rattle.inst_lines.specs.Lines.{lines_of, IsWithinLimits};
 ghost use Rattle.inst_lines.specs.Answers.{output, refusals, state_after};
-ghost use Rattle.inst_lines.specs.Answering.{HubPast, IsRunnerAt, new_past, hub_answerer, run_answerer};
-ghost use Rattle.inst_lines.specs.Answering.{play_answerer};
-ghost use Rattle.inst_lines.specs.Session.{FailsAfter};
+ghost use Rattle.inst_lines.specs.Answering.{HubPast, IsRunnerAt, new_past, hub_answerer};
+ghost use Rattle.inst_lines.specs.Answering.{run_answerer, play_answerer};
+ghost use Rattle.inst_lines.specs.Session.{CountsLines, IsReadToEnd, FailsAfter};
 ghost use Rattle.inst_lines.specs.Headline.{LinesKeepTheHeadline};
 
 use crate::mode::Mode;
@@ -40,18 +40,16 @@ pub fn run_lines<R: Read, W: Write>(
     writer: &mut W,
 ) -> Result<Counts, Fault>
     // All that the reader has left is read and answered, where its bytes are known.
-    ensures end { OnOk result (IsAtEnd (R.remaining reader.new)) }
+    ensures end { OnOk result
+        (IsReadToEnd (R.remaining reader.old) (R.remaining reader.new)) }
     ensures output { OnOk result (IfSome (R.remaining reader.old) (λ bytes.
         Appends (W.contents writer.old) (W.contents writer.new)
         (output run_answerer (new_past settings.now) (lines_of bytes)))) }
     // The run that these lines stand for keeps the headline.
     ensures headline { OnOk result (IfSome (R.remaining reader.old) (λ bytes.
         LinesKeepTheHeadline run_answerer settings.now (lines_of bytes))) }
-    ensures lines { IfOk result (λ counts. IfSome (R.remaining reader.old) (λ bytes.
-        counts.lines ≡ length (lines_of bytes))) }
-    ensures refused { IfOk result (λ counts. IfSome (R.remaining reader.old) (λ bytes.
-        counts.refused ≡ refusals run_answerer (new_past settings.now) (lines_of bytes))) }
-    ensures limits { OnOk result (IfSome (R.remaining reader.old) IsWithinLimits) }
+    ensures counts { IfOk result (λ counts. IfSome (R.remaining reader.old) (λ bytes.
+        CountsLines run_answerer (new_past settings.now) bytes counts)) }
 
     // Some bytes were read: at `ReadFault` each line whose newline stands within the limits is
     // answered, and at another fault a front of the replies is written.
@@ -78,17 +76,15 @@ pub fn play_lines<R: Read, W: Write>(
     reader: &mut R,
     writer: &mut W,
 ) -> Result<Counts, Fault>
-    ensures end { OnOk result (IsAtEnd (R.remaining reader.new)) }
+    ensures end { OnOk result
+        (IsReadToEnd (R.remaining reader.old) (R.remaining reader.new)) }
     ensures output { OnOk result (IfSome (R.remaining reader.old) (λ bytes.
         Appends (W.contents writer.old) (W.contents writer.new)
         (output play_answerer (new_past settings.now) (lines_of bytes)))) }
     ensures headline { OnOk result (IfSome (R.remaining reader.old) (λ bytes.
         LinesKeepTheHeadline play_answerer settings.now (lines_of bytes))) }
-    ensures lines { IfOk result (λ counts. IfSome (R.remaining reader.old) (λ bytes.
-        counts.lines ≡ length (lines_of bytes))) }
-    ensures refused { IfOk result (λ counts. IfSome (R.remaining reader.old) (λ bytes.
-        counts.refused ≡ refusals play_answerer (new_past settings.now) (lines_of bytes))) }
-    ensures limits { OnOk result (IfSome (R.remaining reader.old) IsWithinLimits) }
+    ensures counts { IfOk result (λ counts. IfSome (R.remaining reader.old) (λ bytes.
+        CountsLines play_answerer (new_past settings.now) bytes counts)) }
     ensures err { IfErr result (FailsAfter play_answerer (new_past settings.now)
         (W.contents writer.old) (W.contents writer.new)
         (R.remaining reader.old) (R.remaining reader.new)) }
@@ -114,7 +110,8 @@ pub fn serve_lines<R: Read, W: Write>(
     reader: &mut R,
     writer: &mut W,
 ) -> Result<Served, Fault>
-    ensures end { OnOk result (IsAtEnd (R.remaining reader.new)) }
+    ensures end { OnOk result
+        (IsReadToEnd (R.remaining reader.old) (R.remaining reader.new)) }
     ensures output { OnOk result (IfSome (R.remaining reader.old) (λ bytes.
         Appends (W.contents writer.old) (W.contents writer.new)
         (output (hub_answerer mode) (new_past settings.now) (lines_of bytes)))) }
@@ -123,12 +120,8 @@ pub fn serve_lines<R: Read, W: Write>(
     ensures runner { IfOk result (λ served. IfSome (R.remaining reader.old) (λ bytes.
         IsRunnerAt mode (state_after (hub_answerer mode) (new_past settings.now) (lines_of bytes))
         served.runner)) }
-    ensures lines { IfOk result (λ served. IfSome (R.remaining reader.old) (λ bytes.
-        served.counts.lines ≡ length (lines_of bytes))) }
-    ensures refused { IfOk result (λ served. IfSome (R.remaining reader.old) (λ bytes.
-        served.counts.refused
-        ≡ refusals (hub_answerer mode) (new_past settings.now) (lines_of bytes))) }
-    ensures limits { OnOk result (IfSome (R.remaining reader.old) IsWithinLimits) }
+    ensures counts { IfOk result (λ served. IfSome (R.remaining reader.old) (λ bytes.
+        CountsLines (hub_answerer mode) (new_past settings.now) bytes served.counts)) }
     ensures err { IfErr result (FailsAfter (hub_answerer mode) (new_past settings.now)
         (W.contents writer.old) (W.contents writer.new)
         (R.remaining reader.old) (R.remaining reader.new)) }

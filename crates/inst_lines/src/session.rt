@@ -3,7 +3,7 @@ ghost use Rattle.inst_lines.specs.Limits.{most_lines};
 ghost use Rattle.std.specs.Prelude.{◌≡◌, ◌≤◌, ◌<◌, ◌⊎◌, [], OnOk, IfOk, OnErr, IfErr, MatchBool};
 ghost use Rattle.std.specs.Prelude.{false, length};
 
-use crate::answer::answer_part;
+use crate::answer::{HeldLine, answer_part};
 use crate::limits::MOST_LINES;
 use crate::line_buffer::LineBuffer;
 use crate::mode::Mode;
@@ -70,14 +70,18 @@ impl Session {
         requires within { len ≤ length (unanswered_bytes self.old.input) }
         requires room { self.old.counts.lines < most_lines }
         ensures ok { OnOk result
-            (TakesLine (hub_answerer mode) (IsRunnerAt mode) len self.old self.new runner.old runner.new) }
+            (TakesLine (hub_answerer mode) (IsRunnerAt mode) len
+            self.old self.new runner.old runner.new) }
     {
+        let line = HeldLine {
+            is_long: self.input.lacks_front(),
+            part: &self.input.as_slice()[..len],
+        };
         let is_refused = answer_part(
             &mut self.reader,
             mode,
             runner,
-            self.input.lacks_front(),
-            &self.input.as_slice()[..len],
+            line,
             &mut self.replies.bytes,
         )?;
         self.input.drop_line(len);
@@ -121,7 +125,8 @@ impl Session {
     fn answer_last(&mut self, mode: Mode, runner: &mut Runner) -> Result<(), AllocError>
         requires { IsAnswered self.old }
         ensures ok { OnOk result
-            (AnswersLast (hub_answerer mode) (IsRunnerAt mode) self.old self.new runner.old runner.new) }
+            (AnswersLast (hub_answerer mode) (IsRunnerAt mode)
+            self.old self.new runner.old runner.new) }
     {
         if !self.input.is_in_line() {
             return Ok(());
@@ -171,8 +176,8 @@ impl Session {
             (HasEnded (hub_answerer mode) (IsRunnerAt mode) before after (R.remaining reader.old)
             (R.remaining reader.new))) }
         ensures err { let before = stage self.old runner.old (W.contents writer.old) in
-            IfErr result (HasFailed (hub_answerer mode) (IsRunnerAt mode) before (W.contents writer.new)
-            (R.remaining reader.old) (R.remaining reader.new)) }
+            IfErr result (HasFailed (hub_answerer mode) (IsRunnerAt mode) before
+            (W.contents writer.new) (R.remaining reader.old) (R.remaining reader.new)) }
     {
         if self.input.fill(reader)? == 0 {
             self.finish(mode, runner, writer)?;

@@ -11,6 +11,11 @@ use Rattle.inst_log.specs.declared.error.LogError.TheVariants.{Disk, Memory, Ful
 pub err_passed : {T : Type 0} (P : LogError → Type 0) (r : Result T LogError) (f : LogError) → (x : LogError) × (r ≡ Err x) × (x ≡ f) → P f → IfErr r P
 err_passed P r f p h = subst (λ (q : _). IfErr q P) (sym p.1) (subst P (sym p.2) h)
 
+-- why an error came, beside what holds where none did
+pub with_calm : {T : Type 0} (calm : Type 0) (P : LogError → Type 0) (r : Result T LogError) → calm → IfErr r P → MatchResult r (λ _. calm) P
+with_calm calm P (Ok v) is why = is
+with_calm calm P (Err error) is why = why
+
 -- the disk failed where more is known
 cause_so : (failed fails : Type 0) (error : LogError) → (failed → fails) → HasCause failed ⊤ ⊥ error → HasCause fails ⊤ ⊥ error
 cause_so failed fails (Disk error) so cause = so cause

@@ -1,7 +1,9 @@
 -- A file that is read in pieces, and how far its lines go.
 use Rattle.std.specs.Prelude.{◌≡◌, ◌≢◌, ◌⊎◌, ◌<◌, ◌≤◌, ◌+◌, ◌&&◌, ◌==◌, not, nat_lt, ℕ, Bool, false}
 use Rattle.std.specs.Prelude.{List, [], ◌∷◌, ◌++◌, length, take, drop, slice_index, MatchBool}
-use Rattle.inst_log.specs.Layout.{gate, recovered_lines, blocks}
+use Rattle.sqlite_disk.specs.declared.Disk.{Ghosts}
+use Rattle.inst_log.specs.Disks.{HasKeptFaith}
+use Rattle.inst_log.specs.Layout.{gate, recovered_lines, blocks, AreWholeLines}
 use Rattle.inst_log.specs.Opening.{Begins, IsNewFile}
 use Rattle.inst_log.specs.declared.line_cutter.LineCutter.{LineCutter}
 use Rattle.inst_log.specs.declared.file_lines.FileLines.{FileLines}
@@ -40,6 +42,17 @@ pub record IsReading (file : List ℕ) (lines : FileLines) (done : List (List �
 abbrev pub has_more : FileLines → Bool
 has_more lines = nat_lt lines.cutter.at lines.len && not (stops lines.cutter)
 
+-- More of the disk's file was read, and these are the lines that end there, whole ones.
+pub record ReadsOn {D : Type 0} (disks : Ghosts D) (old new : D) (before after : FileLines)
+    (lines : List ℕ) : Type 0 where
+  pub whole : AreWholeLines lines
+  pub reading : HasKeptFaith disks new → (done : List (List ℕ))
+      → IsReading (disks.seen old) before done
+      → IsReading (disks.seen old) after (done ++ recovered_lines lines)
+  pub on : before.cutter.at < after.cutter.at
+  pub within : after.cutter.at ≤ after.len
+  pub len : after.len ≡ before.len
+
 -- So many bytes the file has, and there its lines end. The closed byte is there, or another line
 -- may begin.
 pub record IsExtent (file : List ℕ) (extent : Extent) : Type 0 where
@@ -60,3 +73,8 @@ Starts settings file start.Log = Begins settings file
 Starts settings file (start.New is_blank) =
     IsNewFile settings file × (recovered_lines file ≡ [])
     × MatchBool is_blank (take 1 file ≡ 0 ∷ []) (take 1 file ≢ 0 ∷ [])
+
+-- a file whose lines go so far is a log of these settings or a new file
+pub record IsFoundAs (settings file : List ℕ) (extent : Extent) (start : Start) : Type 0 where
+  pub goes : IsExtent file extent
+  pub starts : Starts settings file start

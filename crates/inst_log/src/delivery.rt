@@ -11,7 +11,8 @@ use std::io::Write;
 pub fn deliver<W: Write>(writer: &mut W, bytes: &[u8]) -> Result<(), LogError>
     ensures ok { OnOk result
         (Appends (W.Write.contents writer.old) (W.Write.contents writer.new) bytes.now) }
-    ensures part { WritesPart (W.Write.contents writer.old) (W.Write.contents writer.new) bytes.now }
+    ensures part { WritesPart (W.Write.contents writer.old) (W.Write.contents writer.new)
+        bytes.now }
     ensures only { IsOkUnless result LogError.Write }
 {
     write_bytes(writer, bytes).map_err(|_| LogError::Write)?;

@@ -1,10 +1,11 @@
 //! A file is read piece by piece, and nothing of it is changed.
 ghost use Rattle.std.specs.Prelude.{◌≡◌, ◌≤◌, ◌<◌, ◌+◌, ◌^◌, ◌++◌, [], List, ℕ, length, take, drop};
-ghost use Rattle.std.specs.Prelude.{true, false, IsTrue, MatchBool, IfOk, IfErr, OnOk, ⊤};
+ghost use Rattle.std.specs.Prelude.{true, false, IsTrue, MatchBool, MatchResult, IfOk, ⊤};
 ghost use Rattle.sqlite_disk.specs.Disk.{Holds, MoreFaults};
-ghost use Rattle.inst_log.specs.Layout.{recovered_lines, blocks, AreWholeLines, IsShut};
+ghost use Rattle.inst_log.specs.Disks.{HasKeptFaith, IsOnlyRead};
+ghost use Rattle.inst_log.specs.Layout.{recovered_lines, blocks, IsShut};
 ghost use Rattle.inst_log.specs.Log.{HasCause};
-ghost use Rattle.inst_log.specs.Pieces.{IsReading, IsExtent, has_more};
+ghost use Rattle.inst_log.specs.Pieces.{IsReading, ReadsOn, IsExtent, has_more};
 
 use crate::LogError;
 use crate::extent::Extent;
@@ -29,19 +30,15 @@ impl FileLines {
     /// Begins at this byte of the disk's file, at which a line begins.
     pub fn new<D: Disk>(alloc: Global, disk: &mut D, at: usize) -> Result<FileLines, LogError>
         requires usable { IsTrue (D.Disk.is_usable disk.old) }
-        ensures reading { IfOk result (λ lines. IsTrue (D.Disk.is_clean disk.new) →
+        ensures reading { IfOk result (λ lines. HasKeptFaith D.Disk disk.new →
             (done : List (List ℕ)) (rest : List ℕ)
             → D.Disk.seen disk.old ≡ blocks done ++ rest → recovered_lines (blocks done) ≡ done →
             at ≡ length (blocks done)
             → IsReading (D.Disk.seen disk.old) lines done) }
         ensures fits { IfOk result (λ lines. lines.len < 2 ^ 64) }
-        ensures seen { D.Disk.seen disk.new ≡ D.Disk.seen disk.old }
-        ensures crash { (c : List ℕ) → D.Disk.may_leave disk.new c → D.Disk.may_leave disk.old c }
-        ensures cause { IfErr result
+        ensures cause { MatchResult result (λ _. D.Disk.faults disk.new ≡ D.Disk.faults disk.old)
             (HasCause (MoreFaults (D.Disk.faults disk.old) (D.Disk.faults disk.new)) ⊤ ⊥) }
-        ensures calm { OnOk result (D.Disk.faults disk.new ≡ D.Disk.faults disk.old) }
-        ensures usable { IsTrue (D.Disk.is_usable disk.new) }
-        ensures clean { IsTrue (D.Disk.is_clean disk.new) → IsTrue (D.Disk.is_clean disk.old) }
+        ensures read { IsOnlyRead D.Disk disk.old disk.new }
     {
         let len = disk.len()?;
         Ok(FileLines {
@@ -62,22 +59,13 @@ impl FileLines {
     pub fn next<D: Disk>(&mut self, disk: &mut D) -> Result<Vec<u8>, LogError>
         requires more { has_more self.old ≡ true }
         requires usable { IsTrue (D.Disk.is_usable disk.old) }
-        ensures whole { IfOk result (λ lines. AreWholeLines lines.items) }
-        ensures reading { IfOk result (λ lines. IsTrue (D.Disk.is_clean disk.new) →
-            (done : List (List ℕ))
-            → IsReading (D.Disk.seen disk.old) self.old done
-            → IsReading (D.Disk.seen disk.old) self.new (done ++ recovered_lines lines.items)) }
-        ensures on { OnOk result (self.old.cutter.at < self.new.cutter.at) }
-        ensures within { OnOk result (self.new.cutter.at ≤ self.new.len) }
-        ensures len { OnOk result (self.new.len ≡ self.old.len) }
-        ensures seen { D.Disk.seen disk.new ≡ D.Disk.seen disk.old }
-        ensures crash { (c : List ℕ) → D.Disk.may_leave disk.new c → D.Disk.may_leave disk.old c }
-        ensures cause { IfErr result (HasCause (IsTrue (D.Disk.is_clean disk.new)
+        ensures lines { IfOk result (λ lines.
+            ReadsOn D.Disk disk.old disk.new self.old self.new lines.items) }
+        ensures cause { MatchResult result (λ _. D.Disk.faults disk.new ≡ D.Disk.faults disk.old)
+            (HasCause (HasKeptFaith D.Disk disk.new
             → (done : List (List ℕ)) → IsReading (D.Disk.seen disk.old) self.old done
             → MoreFaults (D.Disk.faults disk.old) (D.Disk.faults disk.new)) ⊤ ⊥) }
-        ensures calm { OnOk result (D.Disk.faults disk.new ≡ D.Disk.faults disk.old) }
-        ensures usable { IsTrue (D.Disk.is_usable disk.new) }
-        ensures clean { IsTrue (D.Disk.is_clean disk.new) → IsTrue (D.Disk.is_clean disk.old) }
+        ensures read { IsOnlyRead D.Disk disk.old disk.new }
     {
         let at = self.cutter.at();
         let piece = read_piece(self.alloc, disk, at, (self.len - at).min(PIECE))?;
@@ -117,16 +105,12 @@ fn read_piece<D: Disk>(
     requires usable { IsTrue (D.Disk.is_usable disk.old) }
     requires some { 0 < len }
     ensures len { IfOk result (λ piece. length piece.items ≡ len) }
-    ensures piece { IfOk result (λ piece. IsTrue (D.Disk.is_clean disk.new) →
+    ensures piece { IfOk result (λ piece. HasKeptFaith D.Disk disk.new →
         Holds (D.Disk.seen disk.old) at piece.items) }
-    ensures seen { D.Disk.seen disk.new ≡ D.Disk.seen disk.old }
-    ensures crash { (c : List ℕ) → D.Disk.may_leave disk.new c → D.Disk.may_leave disk.old c }
-    ensures cause { IfErr result (HasCause (IsTrue (D.Disk.is_clean disk.new) →
-        at + len ≤ length (D.Disk.seen disk.old)
+    ensures cause { MatchResult result (λ _. D.Disk.faults disk.new ≡ D.Disk.faults disk.old)
+        (HasCause (HasKeptFaith D.Disk disk.new → at + len ≤ length (D.Disk.seen disk.old)
         → MoreFaults (D.Disk.faults disk.old) (D.Disk.faults disk.new)) ⊤ ⊥) }
-    ensures calm { OnOk result (D.Disk.faults disk.new ≡ D.Disk.faults disk.old) }
-    ensures usable { IsTrue (D.Disk.is_usable disk.new) }
-    ensures clean { IsTrue (D.Disk.is_clean disk.new) → IsTrue (D.Disk.is_clean disk.old) }
+    ensures read { IsOnlyRead D.Disk disk.old disk.new }
 {
     let mut bytes = vec![in alloc; 0; len]?;
     disk.read_at(at, &mut bytes)?;

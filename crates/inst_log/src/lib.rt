@@ -33,6 +33,6 @@ pub use opening::read_file;
 pub use reading::{count_lines, lines_len, read_lines};
 pub use recorder::Recorder;
 pub use responder::Responder;
-pub use restart::{Twice, run_twice};
+pub use restart::{LogRun, Machine, Twice, run_twice};
 pub use start::Start;
 pub use surveying::survey;

@@ -1,8 +1,9 @@
 //! Whole lines and a closed byte. It is closed on the disk before anything is written behind it.
-ghost use Rattle.std.specs.Prelude.{◌≡◌, ◌≤◌, ◌+◌, ◌^◌, ◌++◌, List, ℕ, length, IsTrue, IfErr, OnOk};
+ghost use Rattle.std.specs.Prelude.{◌≤◌, ◌^◌, List, ℕ, IfErr, OnOk, ⊤};
 ghost use Rattle.sqlite_disk.specs.Disk.{MoreFaults};
-ghost use Rattle.inst_log.specs.Layout.{recovered_lines, blocks, IsBatch, IsShut};
-ghost use Rattle.inst_log.specs.Log.{IsSettled, IsBeforeOrAfter, IsAtStage, HasCause};
+ghost use Rattle.inst_log.specs.Disks.{HasKeptFaith};
+ghost use Rattle.inst_log.specs.Layout.{recovered_lines, IsBatch};
+ghost use Rattle.inst_log.specs.Log.{IsOpenLog, HasGained, StandsWhole, IsAtStage, HasCause};
 
 use crate::LogError;
 use crate::synced::write_synced;
@@ -22,42 +23,17 @@ impl<D: Disk> Log<D> {
     /// Adds the lines of a batch. At `Ok` they are acknowledged: from then on each crash leaves a
     /// file that has them. At `Err`, open the log again.
     pub fn append(&mut self, batch: &[u8]) -> Result<(), LogError>
-        requires usable { IsTrue (D.Disk.is_usable self.old.disk) }
-        requires settled { IsTrue (D.Disk.is_clean self.old.disk) →
-            IsSettled D.Disk.seen D.Disk.may_leave self.old }
+        requires open { IsOpenLog D.Disk self.old }
         requires batch { IsBatch batch.now }
-
-        ensures acknowledged { OnOk result (IsTrue (D.Disk.is_clean self.new.disk) →
-            IsSettled D.Disk.seen D.Disk.may_leave self.new
-            × (recovered_lines (D.Disk.seen self.new.disk)
-            ≡ recovered_lines (D.Disk.seen self.old.disk) ++ recovered_lines batch.now)) }
-
+        ensures ok { OnOk result
+            (HasGained D.Disk (recovered_lines batch.now) ⊤ self.old self.new) }
         // A crash at any moment of the call leaves the lines from before it, with the batch or
         // without.
-        ensures any_moment { IsTrue (D.Disk.is_clean self.new.disk) → (c : List ℕ) →
-            D.Disk.may_leave self.new.disk c
-            → IsBeforeOrAfter (recovered_lines (D.Disk.seen self.old.disk))
-            (recovered_lines batch.now) c }
-        ensures stages { IsTrue (D.Disk.is_clean self.new.disk) → (c : List ℕ) →
+        ensures any_moment { StandsWhole D.Disk (recovered_lines batch.now) self.old.disk
+            self.new.disk }
+        ensures stages { HasKeptFaith D.Disk self.new.disk → (c : List ℕ) →
             D.Disk.may_leave self.new.disk c
             → IsAtStage (D.Disk.seen self.old.disk) self.old.end batch.now c }
-
-        // Where the disk leaves each byte of a write old or new, a file that ends by the closed
-        // byte 0 does so at any moment.
-        ensures shut { ((d : D) → IsTrue (D.Disk.is_mixing d)) →
-            IsTrue (D.Disk.is_clean self.new.disk)
-            → IsShut (D.Disk.seen self.old.disk) → (c : List ℕ) → D.Disk.may_leave self.new.disk c →
-            IsShut c }
-
-        ensures shut_now { OnOk result (IsTrue (D.Disk.is_clean self.new.disk) →
-            IsShut (D.Disk.seen self.new.disk)) }
-
-        ensures usable { OnOk result (IsTrue (D.Disk.is_usable self.new.disk)) }
-        ensures clean { D.Disk.is_clean self.new.disk ≡ D.Disk.is_clean self.old.disk }
-        ensures calm { OnOk result (D.Disk.faults self.new.disk ≡ D.Disk.faults self.old.disk) }
-        ensures end { OnOk result (self.new.end
-            ≡ self.old.end + length (blocks (recovered_lines batch.now))) }
-
         // It doesn't give up by itself.
         ensures cause { IfErr result
             (HasCause (MoreFaults (D.Disk.faults self.old.disk) (D.Disk.faults self.new.disk)) ⊥

@@ -1,13 +1,14 @@
 //! A log is opened with the settings that it begins with, or made with them. Any other file is left
 //! as it is.
-ghost use Rattle.std.specs.Prelude.{◌≡◌, ◌≢◌, ◌⊎◌, ◌≤◌, ◌+◌, ◌++◌, [], ◌∷◌, List, ℕ, length, take};
-ghost use Rattle.std.specs.Prelude.{IsTrue, IfOk, IfErr, OnOk, MatchBool, ⊤};
-ghost use Rattle.sqlite_disk.specs.Disk.{Only, MoreFaults, CountsFault};
+ghost use Rattle.std.specs.Prelude.{◌≡◌, ◌≢◌, ◌⊎◌, ◌≤◌, ◌++◌, [], ◌∷◌, List, ℕ, length, take};
+ghost use Rattle.std.specs.Prelude.{IsTrue, IfOk, IfErr, OnOk, MatchBool, MatchResult, ⊤};
+ghost use Rattle.sqlite_disk.specs.Disk.{MoreFaults, CountsFault};
+ghost use Rattle.inst_log.specs.Disks.{HasKeptFaith, IsOnlyRead, IsJustOpened};
 ghost use Rattle.inst_log.specs.Layout.{recovered_lines, blocks, IsBatch, IsShut, EndsWell};
-ghost use Rattle.inst_log.specs.Log.{IsSettled, HasCause};
-ghost use Rattle.inst_log.specs.Opening.{lines_after_settings, Begins, IsNewFile, OpensLog, OpensAlike, IsSameOrBegun};
-ghost use Rattle.inst_log.specs.Opening.{Unopened};
-ghost use Rattle.inst_log.specs.Pieces.{IsExtent, IsFrontFor, Starts};
+ghost use Rattle.inst_log.specs.Log.{HasLines, HasCause};
+ghost use Rattle.inst_log.specs.Opening.{lines_after_settings, Begins, IsNewFile, OpensLog};
+ghost use Rattle.inst_log.specs.Opening.{SparesLines, IsLogText, Unopened};
+ghost use Rattle.inst_log.specs.Pieces.{IsExtent, IsFrontFor, IsFoundAs, Starts};
 ghost use Rattle.inst_log.specs.declared.start.Start.TheVariants as start;
 ghost use Rattle.inst_log.specs.declared.error.LogError.TheVariants.{OtherSettings, NoLog};
 ghost use Rattle.inst_log.specs.inner.Opening.{IsBlanked, IsBlanking};
@@ -28,51 +29,22 @@ impl<D: Disk> Log<D> {
     /// may crash too. `OtherSettings` and `NoLog` leave the file as it is; after any other error,
     /// open it again. Reads the whole file into memory.
     pub fn open(&mut self, alloc: Global, settings: &[u8]) -> Result<Vec<u8>, LogError>
-        requires usable { IsTrue (D.Disk.is_usable self.old.disk) }
         // After a restart, what is read is what is on the disk.
-        requires known { IsTrue (D.Disk.is_clean self.old.disk) →
-            Only (D.Disk.seen self.old.disk) (D.Disk.may_leave self.old.disk) }
+        requires ready { IsJustOpened D.Disk self.old.disk }
         requires settings { IsBatch settings.now }
-
-        ensures settled { OnOk result (IsTrue (D.Disk.is_clean self.new.disk) →
-            IsSettled D.Disk.seen D.Disk.may_leave self.new
-            × (recovered_lines (D.Disk.seen self.new.disk)
-            ≡ recovered_lines settings.now ++ lines_after_settings settings.now (D.Disk.seen self.old.disk))) }
-        ensures text { IfOk result (λ text. IsTrue (D.Disk.is_clean self.new.disk)
-            → text.items
-            ≡ blocks (recovered_lines settings.now
-            ++ lines_after_settings settings.now (D.Disk.seen self.old.disk))) }
-        ensures front { IfOk result (λ text. length settings.now ≤ length text.items + 1) }
-        ensures opens { OnOk result (IsTrue (D.Disk.is_clean self.new.disk) →
-            OpensLog settings.now (D.Disk.seen self.old.disk)) }
-
+        ensures log { OnOk result (HasLines D.Disk (recovered_lines settings.now
+            ++ lines_after_settings settings.now (D.Disk.seen self.old.disk))
+            (EndsWell (D.Disk.seen self.old.disk)) self.old self.new) }
+        ensures text { IfOk result (λ text.
+            IsLogText D.Disk settings.now self.old.disk self.new.disk text.items) }
         // A crash at any moment of the call leaves the same lines, in a file that opens again.
-        ensures any_moment { IsTrue (D.Disk.is_clean self.new.disk) → (c : List ℕ) →
-            D.Disk.may_leave self.new.disk c
-            → OpensAlike settings.now (D.Disk.seen self.old.disk) c }
-        ensures stands { IsTrue (D.Disk.is_clean self.new.disk) → (c : List ℕ) →
-            D.Disk.may_leave self.new.disk c
-            → IsSameOrBegun settings.now (D.Disk.seen self.old.disk) c }
-
-        ensures shut_now { OnOk result (IsTrue (D.Disk.is_clean self.new.disk)
-            → EndsWell (D.Disk.seen self.old.disk) → IsShut (D.Disk.seen self.new.disk)) }
-        // Where the disk leaves each byte of a write old or new, lines end by the closed byte 0 if
-        // they did.
-        ensures shut { ((d : D) → IsTrue (D.Disk.is_mixing d)) →
-            IsTrue (D.Disk.is_clean self.new.disk)
-            → EndsWell (D.Disk.seen self.old.disk) → (c : List ℕ) →
-            D.Disk.may_leave self.new.disk c → EndsWell c }
-
+        ensures any_moment { SparesLines D.Disk settings.now self.old.disk self.new.disk }
         ensures cause { IfErr result (λ error.
             Unopened settings.now (D.Disk.seen self.old.disk)
-            (IsTrue (D.Disk.is_clean self.new.disk))
+            (HasKeptFaith D.Disk self.new.disk)
             (D.Disk.seen self.new.disk ≡ D.Disk.seen self.old.disk)
-            (IsTrue (D.Disk.is_clean self.new.disk) →
+            (HasKeptFaith D.Disk self.new.disk →
             MoreFaults (D.Disk.faults self.old.disk) (D.Disk.faults self.new.disk)) error) }
-        ensures calm { OnOk result (D.Disk.faults self.new.disk ≡ D.Disk.faults self.old.disk) }
-        ensures usable { OnOk result (IsTrue (D.Disk.is_usable self.new.disk)) }
-        ensures clean { IsTrue (D.Disk.is_clean self.new.disk) →
-            IsTrue (D.Disk.is_clean self.old.disk) }
     {
         let text = read_file(alloc, &mut self.disk)?;
         let extent = Extent::of(&text);
@@ -96,24 +68,19 @@ impl<D: Disk> Log<D> {
     ) -> Result<Start, LogError>
         requires usable { IsTrue (D.Disk.is_usable self.old.disk) }
         requires settings { IsBatch settings.now }
-        requires extent { IsTrue (D.Disk.is_clean self.old.disk) →
+        requires extent { HasKeptFaith D.Disk self.old.disk →
             IsExtent (D.Disk.seen self.old.disk) extent.now }
-        ensures start { IfOk result (λ start. IsTrue (D.Disk.is_clean self.new.disk)
+        ensures start { IfOk result (λ start. HasKeptFaith D.Disk self.new.disk
             → Starts settings.now (D.Disk.seen self.old.disk) start) }
-        ensures same { (D.Disk.seen self.new.disk ≡ D.Disk.seen self.old.disk)
-            × (self.new.end ≡ self.old.end) }
-        ensures crash { (c : List ℕ) → D.Disk.may_leave self.new.disk c →
-            D.Disk.may_leave self.old.disk c }
-        ensures cause { IfErr result (λ error.
+        ensures cause { MatchResult result (λ _.
+            D.Disk.faults self.new.disk ≡ D.Disk.faults self.old.disk) (λ error.
             Unopened settings.now (D.Disk.seen self.old.disk)
-            (IsTrue (D.Disk.is_clean self.new.disk))
+            (HasKeptFaith D.Disk self.new.disk)
             (D.Disk.seen self.new.disk ≡ D.Disk.seen self.old.disk)
-            (IsTrue (D.Disk.is_clean self.new.disk) →
+            (HasKeptFaith D.Disk self.new.disk →
             MoreFaults (D.Disk.faults self.old.disk) (D.Disk.faults self.new.disk)) error) }
-        ensures calm { OnOk result (D.Disk.faults self.new.disk ≡ D.Disk.faults self.old.disk) }
-        ensures usable { IsTrue (D.Disk.is_usable self.new.disk) }
-        ensures clean { IsTrue (D.Disk.is_clean self.new.disk) →
-            IsTrue (D.Disk.is_clean self.old.disk) }
+        ensures read { IsOnlyRead D.Disk self.old.disk self.new.disk
+            × (self.new.end ≡ self.old.end) }
     {
         let front = read_front(alloc, &mut self.disk, extent.len.min(settings.len() + 1))?;
         start_of(&front, settings, extent)
@@ -127,39 +94,18 @@ impl<D: Disk> Log<D> {
         extent: &Extent,
         start: Start,
     ) -> Result<(), LogError>
-        requires usable { IsTrue (D.Disk.is_usable self.old.disk) }
-        requires known { IsTrue (D.Disk.is_clean self.old.disk) →
-            Only (D.Disk.seen self.old.disk) (D.Disk.may_leave self.old.disk) }
+        requires ready { IsJustOpened D.Disk self.old.disk }
         requires settings { IsBatch settings.now }
-        requires extent { IsTrue (D.Disk.is_clean self.old.disk) →
-            IsExtent (D.Disk.seen self.old.disk) extent.now }
-        requires start { IsTrue (D.Disk.is_clean self.old.disk) →
-            Starts settings.now (D.Disk.seen self.old.disk) start }
-        ensures settled { OnOk result (IsTrue (D.Disk.is_clean self.new.disk) →
-            IsSettled D.Disk.seen D.Disk.may_leave self.new
-            × (recovered_lines (D.Disk.seen self.new.disk)
-            ≡ recovered_lines settings.now ++ lines_after_settings settings.now (D.Disk.seen self.old.disk))) }
+        requires found { HasKeptFaith D.Disk self.old.disk →
+            IsFoundAs settings.now (D.Disk.seen self.old.disk) extent.now start }
+        ensures log { OnOk result (HasLines D.Disk (recovered_lines settings.now
+            ++ lines_after_settings settings.now (D.Disk.seen self.old.disk))
+            (EndsWell (D.Disk.seen self.old.disk)) self.old self.new) }
         // A crash at any moment of the call leaves the same lines, in a file that opens again.
-        ensures any_moment { IsTrue (D.Disk.is_clean self.new.disk) → (c : List ℕ) →
-            D.Disk.may_leave self.new.disk c
-            → OpensAlike settings.now (D.Disk.seen self.old.disk) c }
-        ensures stands { IsTrue (D.Disk.is_clean self.new.disk) → (c : List ℕ) →
-            D.Disk.may_leave self.new.disk c
-            → IsSameOrBegun settings.now (D.Disk.seen self.old.disk) c }
-        ensures shut_now { OnOk result (IsTrue (D.Disk.is_clean self.new.disk)
-            → EndsWell (D.Disk.seen self.old.disk) → IsShut (D.Disk.seen self.new.disk)) }
-        // Where the disk leaves each byte of a write old or new, lines end by the closed byte 0 if
-        // they did.
-        ensures shut { ((d : D) → IsTrue (D.Disk.is_mixing d)) →
-            IsTrue (D.Disk.is_clean self.new.disk)
-            → EndsWell (D.Disk.seen self.old.disk) → (c : List ℕ) →
-            D.Disk.may_leave self.new.disk c → EndsWell c }
+        ensures any_moment { SparesLines D.Disk settings.now self.old.disk self.new.disk }
         ensures cause { IfErr result
-            (HasCause (MoreFaults (D.Disk.faults self.old.disk) (D.Disk.faults self.new.disk)) ⊥ ⊥) }
-        ensures calm { OnOk result (D.Disk.faults self.new.disk ≡ D.Disk.faults self.old.disk) }
-        ensures usable { OnOk result (IsTrue (D.Disk.is_usable self.new.disk)) }
-        ensures clean { IsTrue (D.Disk.is_clean self.new.disk) →
-            IsTrue (D.Disk.is_clean self.old.disk) }
+            (HasCause (MoreFaults (D.Disk.faults self.old.disk) (D.Disk.faults self.new.disk))
+            ⊥ ⊥) }
     {
         match start {
             Start::Log => self.go_on(extent),
@@ -169,28 +115,20 @@ impl<D: Disk> Log<D> {
 
     /// Opens a log whose lines go so far.
     fn go_on(&mut self, extent: &Extent) -> Result<(), LogError>
-        requires usable { IsTrue (D.Disk.is_usable self.old.disk) }
-        requires extent { IsTrue (D.Disk.is_clean self.old.disk) →
+        requires ready { IsJustOpened D.Disk self.old.disk }
+        requires extent { HasKeptFaith D.Disk self.old.disk →
             IsExtent (D.Disk.seen self.old.disk) extent.now }
-        requires known { IsTrue (D.Disk.is_clean self.old.disk) →
-            Only (D.Disk.seen self.old.disk) (D.Disk.may_leave self.old.disk) }
-        ensures settled { OnOk result (IsTrue (D.Disk.is_clean self.new.disk) →
-            IsSettled D.Disk.seen D.Disk.may_leave self.new
-            × (recovered_lines (D.Disk.seen self.new.disk)
-            ≡ recovered_lines (D.Disk.seen self.old.disk))) }
-        ensures any_moment { IsTrue (D.Disk.is_clean self.new.disk) → (c : List ℕ) →
+        ensures log { OnOk result (HasLines D.Disk (recovered_lines (D.Disk.seen self.old.disk))
+            (IsShut (D.Disk.seen self.old.disk)) self.old self.new) }
+        ensures any_moment { HasKeptFaith D.Disk self.new.disk → (c : List ℕ) →
             D.Disk.may_leave self.new.disk c
             → recovered_lines c ≡ recovered_lines (D.Disk.seen self.old.disk) }
-        ensures shut_now { OnOk result (IsTrue (D.Disk.is_clean self.new.disk)
-            → IsShut (D.Disk.seen self.old.disk) → IsShut (D.Disk.seen self.new.disk)) }
-        ensures shut { IsTrue (D.Disk.is_clean self.new.disk) → IsShut (D.Disk.seen self.old.disk)
+        ensures shut { HasKeptFaith D.Disk self.new.disk → IsShut (D.Disk.seen self.old.disk)
             → (c : List ℕ) → D.Disk.may_leave self.new.disk c → IsShut c }
+        ensures clean { HasKeptFaith D.Disk self.new.disk → HasKeptFaith D.Disk self.old.disk }
         ensures cause { IfErr result
-            (HasCause (MoreFaults (D.Disk.faults self.old.disk) (D.Disk.faults self.new.disk)) ⊥ ⊥) }
-        ensures calm { OnOk result (D.Disk.faults self.new.disk ≡ D.Disk.faults self.old.disk) }
-        ensures usable { OnOk result (IsTrue (D.Disk.is_usable self.new.disk)) }
-        ensures clean { IsTrue (D.Disk.is_clean self.new.disk) →
-            IsTrue (D.Disk.is_clean self.old.disk) }
+            (HasCause (MoreFaults (D.Disk.faults self.old.disk) (D.Disk.faults self.new.disk))
+            ⊥ ⊥) }
     {
         repair(&mut self.disk, extent)?;
         self.end = extent.end;
@@ -199,31 +137,24 @@ impl<D: Disk> Log<D> {
 
     /// Makes a log of a new file.
     fn begin(&mut self, is_blank: bool, settings: &[u8]) -> Result<(), LogError>
-        requires usable { IsTrue (D.Disk.is_usable self.old.disk) }
-        requires known { IsTrue (D.Disk.is_clean self.old.disk) →
-            Only (D.Disk.seen self.old.disk) (D.Disk.may_leave self.old.disk) }
+        requires ready { IsJustOpened D.Disk self.old.disk }
         requires settings { IsBatch settings.now }
-        requires new { IsTrue (D.Disk.is_clean self.old.disk) →
+        requires new { HasKeptFaith D.Disk self.old.disk →
             Starts settings.now (D.Disk.seen self.old.disk) (start.New is_blank) }
-        ensures settled { OnOk result (IsTrue (D.Disk.is_clean self.new.disk) →
-            IsSettled D.Disk.seen D.Disk.may_leave self.new
-            × (recovered_lines (D.Disk.seen self.new.disk) ≡ recovered_lines settings.now)) }
-        ensures any_moment { IsTrue (D.Disk.is_clean self.new.disk) → (c : List ℕ) →
+        ensures log { OnOk result
+            (HasLines D.Disk (recovered_lines settings.now) ⊤ self.old self.new) }
+        ensures any_moment { HasKeptFaith D.Disk self.new.disk → (c : List ℕ) →
             D.Disk.may_leave self.new.disk c
             → OpensLog settings.now c × (lines_after_settings settings.now c ≡ []) }
-        ensures stands { IsTrue (D.Disk.is_clean self.new.disk) → (c : List ℕ) →
+        ensures stands { HasKeptFaith D.Disk self.new.disk → (c : List ℕ) →
             D.Disk.may_leave self.new.disk c
             → (recovered_lines c ≡ []) ⊎ (recovered_lines c ≡ recovered_lines settings.now) }
-        ensures shut_now { OnOk result (IsTrue (D.Disk.is_clean self.new.disk) →
-            IsShut (D.Disk.seen self.new.disk)) }
-        ensures shut { ((d : D) → IsTrue (D.Disk.is_mixing d)) →
-            IsTrue (D.Disk.is_clean self.new.disk)
+        ensures shut { ((d : D) → IsTrue (D.Disk.is_mixing d)) → HasKeptFaith D.Disk self.new.disk
             → (c : List ℕ) → D.Disk.may_leave self.new.disk c → EndsWell c }
-        ensures cause { IfErr result
-            (HasCause (MoreFaults (D.Disk.faults self.old.disk) (D.Disk.faults self.new.disk)) ⊥ ⊥) }
-        ensures calm { OnOk result (D.Disk.faults self.new.disk ≡ D.Disk.faults self.old.disk) }
-        ensures usable { OnOk result (IsTrue (D.Disk.is_usable self.new.disk)) }
         ensures clean { D.Disk.is_clean self.new.disk ≡ D.Disk.is_clean self.old.disk }
+        ensures cause { IfErr result
+            (HasCause (MoreFaults (D.Disk.faults self.old.disk) (D.Disk.faults self.new.disk))
+            ⊥ ⊥) }
     {
         blank(&mut self.disk, is_blank)?;
         self.end = 0;
@@ -233,20 +164,16 @@ impl<D: Disk> Log<D> {
 
 /// Writes the closed byte to the beginning of a file, unless it is there.
 fn blank<D: Disk>(disk: &mut D, is_blank: bool) -> io::Result<()>
-    requires usable { IsTrue (D.Disk.is_usable disk.old) }
-    requires is_blank { IsTrue (D.Disk.is_clean disk.old)
+    requires ready { IsJustOpened D.Disk disk.old }
+    requires is_blank { HasKeptFaith D.Disk disk.old
         → MatchBool is_blank (take 1 (D.Disk.seen disk.old) ≡ 0 ∷ []) (take 1 (D.Disk.seen disk.old)
         ≢ 0 ∷ []) }
-    requires known { IsTrue (D.Disk.is_clean disk.old) →
-        Only (D.Disk.seen disk.old) (D.Disk.may_leave disk.old) }
-    ensures written { OnOk result (IsTrue (D.Disk.is_clean disk.new) →
+    ensures written { OnOk result (HasKeptFaith D.Disk disk.new →
         IsBlanked (D.Disk.seen disk.old) (D.Disk.seen disk.new)) }
-    ensures durable { OnOk result (IsTrue (D.Disk.is_clean disk.new) →
-        Only (D.Disk.seen disk.new) (D.Disk.may_leave disk.new)) }
-    ensures any_moment { IsTrue (D.Disk.is_clean disk.new) → (c : List ℕ) →
+    ensures ready { OnOk result (IsJustOpened D.Disk disk.new) }
+    ensures any_moment { HasKeptFaith D.Disk disk.new → (c : List ℕ) →
         D.Disk.may_leave disk.new c
         → IsBlanking (D.Disk.seen disk.old) c }
-    ensures usable { OnOk result (IsTrue (D.Disk.is_usable disk.new)) }
     ensures clean { D.Disk.is_clean disk.new ≡ D.Disk.is_clean disk.old }
     ensures cause { CountsFault result (D.Disk.faults disk.old) (D.Disk.faults disk.new) }
 {
@@ -259,15 +186,12 @@ fn blank<D: Disk>(disk: &mut D, is_blank: bool) -> io::Result<()>
 /// All the bytes of a file. `Disk` where the disk fails, `Memory` where there is no room for them.
 pub fn read_file<D: Disk>(alloc: Global, disk: &mut D) -> Result<Vec<u8>, LogError>
     requires usable { IsTrue (D.Disk.is_usable disk.old) }
-    ensures bytes { IfOk result (λ bytes. IsTrue (D.Disk.is_clean disk.new) →
+    ensures bytes { IfOk result (λ bytes. HasKeptFaith D.Disk disk.new →
         bytes.items ≡ D.Disk.seen disk.old) }
-    ensures seen { D.Disk.seen disk.new ≡ D.Disk.seen disk.old }
-    ensures crash { (c : List ℕ) → D.Disk.may_leave disk.new c → D.Disk.may_leave disk.old c }
-    ensures cause { IfErr result (HasCause (IsTrue (D.Disk.is_clean disk.new)
+    ensures cause { MatchResult result (λ _. D.Disk.faults disk.new ≡ D.Disk.faults disk.old)
+        (HasCause (HasKeptFaith D.Disk disk.new
         → MoreFaults (D.Disk.faults disk.old) (D.Disk.faults disk.new)) ⊤ ⊥) }
-    ensures calm { OnOk result (D.Disk.faults disk.new ≡ D.Disk.faults disk.old) }
-    ensures usable { IsTrue (D.Disk.is_usable disk.new) }
-    ensures clean { IsTrue (D.Disk.is_clean disk.new) → IsTrue (D.Disk.is_clean disk.old) }
+    ensures read { IsOnlyRead D.Disk disk.old disk.new }
 {
     let len = disk.len()?;
     let mut bytes = vec![in alloc; 0; len]?;
@@ -286,7 +210,9 @@ fn lines_of(
     requires extent { IsExtent bytes.items extent.now }
     requires start { Starts settings.now bytes.items start }
     ensures { IfOk result (λ text.
-        text.items ≡ blocks (recovered_lines settings.now ++ lines_after_settings settings.now bytes.items)) }
+        text.items
+        ≡ blocks (recovered_lines settings.now
+        ++ lines_after_settings settings.now bytes.items)) }
 {
     match start {
         Start::Log => bytes.truncate(extent.end),
@@ -301,16 +227,13 @@ fn lines_of(
 /// The first bytes of a file, so many.
 fn read_front<D: Disk>(alloc: Global, disk: &mut D, len: usize) -> Result<Vec<u8>, LogError>
     requires usable { IsTrue (D.Disk.is_usable disk.old) }
-    requires within { IsTrue (D.Disk.is_clean disk.old) → len ≤ length (D.Disk.seen disk.old) }
-    ensures front { IfOk result (λ front. IsTrue (D.Disk.is_clean disk.new) →
+    requires within { HasKeptFaith D.Disk disk.old → len ≤ length (D.Disk.seen disk.old) }
+    ensures front { IfOk result (λ front. HasKeptFaith D.Disk disk.new →
         front.items ≡ take len (D.Disk.seen disk.old)) }
-    ensures seen { D.Disk.seen disk.new ≡ D.Disk.seen disk.old }
-    ensures crash { (c : List ℕ) → D.Disk.may_leave disk.new c → D.Disk.may_leave disk.old c }
-    ensures cause { IfErr result (HasCause (IsTrue (D.Disk.is_clean disk.new)
+    ensures cause { MatchResult result (λ _. D.Disk.faults disk.new ≡ D.Disk.faults disk.old)
+        (HasCause (HasKeptFaith D.Disk disk.new
         → MoreFaults (D.Disk.faults disk.old) (D.Disk.faults disk.new)) ⊤ ⊥) }
-    ensures calm { OnOk result (D.Disk.faults disk.new ≡ D.Disk.faults disk.old) }
-    ensures usable { IsTrue (D.Disk.is_usable disk.new) }
-    ensures clean { IsTrue (D.Disk.is_clean disk.new) → IsTrue (D.Disk.is_clean disk.old) }
+    ensures read { IsOnlyRead D.Disk disk.old disk.new }
 {
     let mut bytes = vec![in alloc; 0; len]?;
     disk.read_at(0, &mut bytes)?;

@@ -1,5 +1,6 @@
 //! The first lines of a file are read, and nothing of it is changed.
-ghost use Rattle.std.specs.Prelude.{◌≡◌, ◌≤◌, List, ℕ, length, take, IsTrue, IfOk, MatchResult, ⊤};
+ghost use Rattle.std.specs.Prelude.{◌≡◌, ◌≤◌, length, take, IsTrue, IfOk, MatchResult, ⊤};
+ghost use Rattle.inst_log.specs.Disks.{HasKeptFaith, IsOnlyRead};
 ghost use Rattle.inst_log.specs.Layout.{recovered_lines, blocks};
 ghost use Rattle.sqlite_disk.specs.Disk.{MoreFaults};
 ghost use Rattle.inst_log.specs.Log.{HasCause};
@@ -14,16 +15,12 @@ use std::alloc::Global;
 /// has fewer. Reads no further than the piece of 64 KiB in which they end.
 pub fn read_lines<D: Disk>(alloc: Global, disk: &mut D, count: u64) -> Result<Vec<u8>, LogError>
     requires usable { IsTrue (D.Disk.is_usable disk.old) }
-    ensures lines { IfOk result (λ text. IsTrue (D.Disk.is_clean disk.new)
+    ensures lines { IfOk result (λ text. HasKeptFaith D.Disk disk.new
         → text.items ≡ blocks (take count (recovered_lines (D.Disk.seen disk.old)))) }
-    ensures seen { D.Disk.seen disk.new ≡ D.Disk.seen disk.old }
-    ensures crash { (c : List ℕ) → D.Disk.may_leave disk.new c → D.Disk.may_leave disk.old c }
-    ensures cause { MatchResult result (λ _.
-        D.Disk.faults disk.new
-        ≡ D.Disk.faults disk.old) (HasCause (IsTrue (D.Disk.is_clean disk.new)
+    ensures cause { MatchResult result (λ _. D.Disk.faults disk.new ≡ D.Disk.faults disk.old)
+        (HasCause (HasKeptFaith D.Disk disk.new
         → MoreFaults (D.Disk.faults disk.old) (D.Disk.faults disk.new)) ⊤ ⊥) }
-    ensures usable { IsTrue (D.Disk.is_usable disk.new) }
-    ensures clean { IsTrue (D.Disk.is_clean disk.new) → IsTrue (D.Disk.is_clean disk.old) }
+    ensures read { IsOnlyRead D.Disk disk.old disk.new }
 {
     let mut lines = FileLines::new(alloc, disk, 0)?;
     let mut text = Vec::new(alloc);

@@ -1,6 +1,7 @@
 //! How far the lines of a disk's file go.
-ghost use Rattle.std.specs.Prelude.{◌≡◌, List, ℕ, IsTrue, IfOk, MatchResult, ⊤};
+ghost use Rattle.std.specs.Prelude.{◌≡◌, IsTrue, IfOk, MatchResult, ⊤};
 ghost use Rattle.sqlite_disk.specs.Disk.{MoreFaults};
+ghost use Rattle.inst_log.specs.Disks.{HasKeptFaith, IsOnlyRead};
 ghost use Rattle.inst_log.specs.Log.{HasCause};
 ghost use Rattle.inst_log.specs.Pieces.{IsExtent};
 
@@ -14,16 +15,12 @@ use std::alloc::Global;
 /// the memory of a piece of 64 KiB and of the longest line.
 pub fn survey<D: Disk>(alloc: Global, disk: &mut D) -> Result<Extent, LogError>
     requires usable { IsTrue (D.Disk.is_usable disk.old) }
-    ensures extent { IfOk result (λ extent. IsTrue (D.Disk.is_clean disk.new) →
+    ensures extent { IfOk result (λ extent. HasKeptFaith D.Disk disk.new →
         IsExtent (D.Disk.seen disk.old) extent) }
-    ensures seen { D.Disk.seen disk.new ≡ D.Disk.seen disk.old }
-    ensures crash { (c : List ℕ) → D.Disk.may_leave disk.new c → D.Disk.may_leave disk.old c }
-    ensures cause { MatchResult result (λ _.
-        D.Disk.faults disk.new
-        ≡ D.Disk.faults disk.old) (HasCause (IsTrue (D.Disk.is_clean disk.new)
+    ensures cause { MatchResult result (λ _. D.Disk.faults disk.new ≡ D.Disk.faults disk.old)
+        (HasCause (HasKeptFaith D.Disk disk.new
         → MoreFaults (D.Disk.faults disk.old) (D.Disk.faults disk.new)) ⊤ ⊥) }
-    ensures usable { IsTrue (D.Disk.is_usable disk.new) }
-    ensures clean { IsTrue (D.Disk.is_clean disk.new) → IsTrue (D.Disk.is_clean disk.old) }
+    ensures read { IsOnlyRead D.Disk disk.old disk.new }
 {
     let mut lines = FileLines::new(alloc, disk, 0)?;
     while lines.has_more() {

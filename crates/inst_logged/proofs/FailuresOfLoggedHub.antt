@@ -1,5 +1,5 @@
 -- How a hub with a log fails.
-use Rattle.std.proofs.Common.{◌≡◌, inl, inr, ℕ, ◌≤◌, List, length, length-append, Result, Ok, Err, IfErr, sym, ap, subst, arith}
+use Rattle.std.proofs.Common.{◌≡◌, inl, inr, ℕ, ◌≤◌, List, length, length-append, Result, Ok, Err, IfErr, OnOk, sym, ap, subst, arith}
 use Rattle.std.specs.Prelude.{MatchResult, ⊤, IsTrue}
 use Rattle.sqlite_disk.specs.Disk.{MoreFaults}
 use Rattle.sqlite_disk.specs.declared.Disk.{Ghosts}
@@ -13,9 +13,9 @@ use Rattle.inst_log.specs.declared.error.LogError.TheVariants.{Disk, Memory, Ful
 use Rattle.inst_chain.specs.Verifying.{Unverified}
 use Rattle.inst_chain.specs.declared.error.ChainError.{ChainError}
 use Rattle.inst_chain.specs.declared.error.ChainError.TheVariants as chain
-use Rattle.inst_logged.specs.Refused.{HasLogFailed}
+use Rattle.inst_logged.specs.Refused.{HasLogFailed, IsRefused}
 use Rattle.inst_logged.specs.inner.Errors.{of_chain}
-use Rattle.inst_logged.specs.inner.Failing.{FailsAtLog, FailsBy}
+use Rattle.inst_logged.specs.inner.Failing.{FailsAtLog, FailsBy, FailsUnrefused}
 use Rattle.inst_logged.specs.declared.error.LoggedError.{LoggedError}
 use Rattle.inst_logged.specs.declared.error.LoggedError.TheVariants.{Log, Read, Books, Damaged, OtherDigest, Changed}
 
@@ -93,6 +93,38 @@ pub fails_after : {D T : Type 0} (disks : Ghosts D) (old mid new : D) (no_room a
     → FailsBy disks old new no_room at_rest r
 fails_after disks old mid new no_room at_rest r calm by =
     subst (λ (n : ℕ). MatchResult r (λ _. disks.faults new ≡ n) (λ e. IsTrue (disks.is_clean new) → FailsAtLog (MoreFaults n (disks.faults new)) no_room at_rest e)) calm by
+
+-- the log alone doesn't refuse itself
+pub log_unrefused : (failed no_memory no_room : Type 0) (e : LogError) → HasCause failed no_memory no_room e → IsRefused (Log e) → ⊥
+log_unrefused failed no_memory no_room (Disk error) cause is = is
+log_unrefused failed no_memory no_room Memory cause is = is
+log_unrefused failed no_memory no_room Full cause is = is
+log_unrefused failed no_memory no_room Write cause is = cause
+log_unrefused failed no_memory no_room Told cause is = cause
+log_unrefused failed no_memory no_room OtherSettings cause is = cause
+log_unrefused failed no_memory no_room NoLog cause is = cause
+
+pub unanswered_unrefused : (failed no_room at_rest : Type 0) (e : LogError) → Unanswered (HasCause failed ⊤ ⊥) no_room ⊥ at_rest e → IsRefused (Log e) → ⊥
+unanswered_unrefused failed no_room at_rest (Disk error) u is = is
+unanswered_unrefused failed no_room at_rest Memory u is = is
+unanswered_unrefused failed no_room at_rest Full u is = is
+unanswered_unrefused failed no_room at_rest Write u is = is
+unanswered_unrefused failed no_room at_rest Told u is = u
+unanswered_unrefused failed no_room at_rest OtherSettings u is = u
+unanswered_unrefused failed no_room at_rest NoLog u is = u
+
+-- an error that is handed on
+pub unrefused_fails : {D T : Type 0} (disks : Ghosts D) (old new : D) (no_room at_rest : Type 0) (r : Result T LoggedError) (f : LoggedError) → (x : LoggedError) × (r ≡ Err x) × (x ≡ f) → (IsRefused f → ⊥)
+    → (IsTrue (disks.is_clean new) → FailsAtLog (MoreFaults (disks.faults old) (disks.faults new)) no_room at_rest f) → FailsUnrefused disks old new no_room at_rest r
+unrefused_fails disks old new no_room at_rest r f p unrefused fails = record {
+  unrefused = subst (λ (q : _). IfErr q (λ e. IsRefused e → ⊥)) (sym p.1) (subst (λ (e : LoggedError). IsRefused e → ⊥) (sym p.2) unrefused);
+  failure = fails_passed _ _ r f p fails;
+}
+
+-- no fault was counted where the call is done
+pub on_ok_calm : {D T : Type 0} (disks : Ghosts D) (old new : D) (no_room at_rest : Type 0) (r : Result T LoggedError) (P : Type 0) → FailsBy disks old new no_room at_rest r → (disks.faults new ≡ disks.faults old → P) → OnOk r P
+on_ok_calm disks old new no_room at_rest (Ok v) P calm is = is calm
+on_ok_calm disks old new no_room at_rest (Err e) P calm is = tt
 
 -- a log whose lines have so many bytes has no fewer later
 pub no_room_now : (file new : List ℕ) (batch : List (List ℕ)) (most end : ℕ) → end ≡ length (blocks (recovered_lines file)) → most ≤ end → IsBeforeOrAfter (recovered_lines file) batch new

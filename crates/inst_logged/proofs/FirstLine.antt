@@ -32,7 +32,7 @@ use Rattle.inst_json.proofs.LineAsJson.{json_of-value}
 use Rattle.inst_json.proofs.TextsWithoutEscapes.{escape-code}
 use Rattle.inst_json.proofs.ReplyReadsBack.{ReadsBack, from_parts}
 use Rattle.inst_base.specs.Newline.{newline, NoNewline}
-use Rattle.inst_books.specs.Laws.{is_printable}
+use Rattle.inst_json.specs.Members.{is_printable}
 use Rattle.inst_books.proofs.EventLineIsPrintable.{Printable, joined}
 use Rattle.inst_books.proofs.WrittenEventReadsBack.{quiet}
 use Rattle.inst_lines.specs.declared.mode.Mode.{Mode}

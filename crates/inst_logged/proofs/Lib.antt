@@ -14,6 +14,7 @@ mod Headings
 mod HubOpenedFromJournals
 mod BatchAfterRead
 mod DiskThatWasOnlyRead
+mod BatchThatIsAnswered
 mod WholeRunOfLoggedHub
 mod HeadersTellSettings
 mod ReadBehindPartOfLine

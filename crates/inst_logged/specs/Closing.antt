@@ -31,10 +31,11 @@ pub record ClosesWith {D : Type 0} (disks : Ghosts D) (wanted : Option Digest)
     (old new : LoggedHub D) (books : Option (Vec History Global)) : Type 0 where
   pub taken : Takes disks old None wanted
   pub lines : recovered_lines (file_of disks new)
-      ≡ recovered_lines old.header.items ++ lines_after_settings old.header.items (file_of disks old)
+      ≡ recovered_lines old.header.items
+      ++ lines_after_settings old.header.items (file_of disks old)
   pub are : IfSome books (λ journals. (past : HubPast) → HasGone old past
-      → AreBooksAfter old.recorder.answers.mode past (lines_after_settings old.header.items (file_of disks old))
-      journals.items)
+      → AreBooksAfter old.recorder.answers.mode past
+      (lines_after_settings old.header.items (file_of disks old)) journals.items)
   pub settings : (past : HubPast) → HasGone old past
       → world_settings new.recorder.answers.runner.world
       ≡ (past_after old.recorder.answers.mode past

@@ -62,9 +62,11 @@ version_word Two = codes "\"version\":2}"
 -- their bytes
 abbrev pub header_line : Version → Mode → HubSettings → Option ℕ → List ℕ
 header_line version mode s books =
-    header_field (codes "{\"ahead\":") s.ahead ++ header_field (codes ",\"base\":") s.base ++ books_field books
+    header_field (codes "{\"ahead\":") s.ahead ++ header_field (codes ",\"base\":") s.base
+    ++ books_field books
     ++ header_field (codes ",\"ceiling\":") s.ceiling
-    ++ header_field (codes ",\"fundings\":") s.fundings ++ header_field (codes ",\"limit\":") s.limit
+    ++ header_field (codes ",\"fundings\":") s.fundings
+    ++ header_field (codes ",\"limit\":") s.limit
     ++ mode_field mode
     ++ header_field (codes ",\"margin\":") s.margin ++ participants_field s.codes
     ++ header_field (codes ",\"places\":") s.places

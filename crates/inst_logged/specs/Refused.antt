@@ -26,8 +26,8 @@ HasWanted Two wanted file = has_wanted wanted (recovered_lines file) ≡ true
 
 -- The log is taken: its marks are right, it opens with the header, has as many lines behind it as
 -- have been told, and the mark that was asked for.
-pub record IsLogTaken (version : Version) (header : List ℕ) (told : Option ℕ) (wanted : Option Digest)
-    (file : List ℕ) : Type 0 where
+pub record IsLogTaken (version : Version) (header : List ℕ) (told : Option ℕ)
+    (wanted : Option Digest) (file : List ℕ) : Type 0 where
   pub intact : IsIntact version file
   pub opens : OpensAs header file
   pub enough : told_count told (kept_said header file) ≤ length (kept_said header file)

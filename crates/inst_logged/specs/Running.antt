@@ -5,9 +5,11 @@ use Rattle.std.specs.Io.KnownBytes.{Consumes}
 use Rattle.sqlite_disk.specs.Disk.{Only, MoreFaults}
 use Rattle.sqlite_disk.specs.declared.Disk.{Ghosts}
 use Rattle.inst_lines.specs.Answering.{HubPast, IsRunnerAt}
+use Rattle.inst_log.specs.Disks.{HasKeptFaith, HasSameFile}
 use Rattle.inst_log.specs.Layout.{recovered_lines, blocks}
 use Rattle.inst_log.specs.Log.{IsSettled}
-use Rattle.inst_log.specs.Opening.{lines_after_settings, Begins, OpensLog, OpensAlike, IsSameOrBegun}
+use Rattle.inst_log.specs.Opening.{lines_after_settings, Begins, OpensLog, OpensAlike}
+use Rattle.inst_log.specs.Opening.{IsSameOrBegun}
 use Rattle.inst_chain.specs.declared.digest.Digest.{Digest}
 use Rattle.inst_logged.specs.Answering.{past_after}
 use Rattle.inst_logged.specs.Logged.{HasLogged, IsUnbegun, SurvivesACrash}
@@ -16,28 +18,6 @@ use Rattle.inst_logged.specs.Refused.{IsCause, IsRefused, IsLogTaken, HasLogFail
 use Rattle.inst_logged.specs.Streams.{Streams}
 use Rattle.inst_logged.specs.declared.error.LoggedError.{LoggedError}
 use Rattle.inst_logged.specs.declared.hub.LoggedHub.{LoggedHub}
-
--- a disk has kept faith
-abbrev pub HasKeptFaith : {D : Type 0} → Ghosts D → D → Type 0
-HasKeptFaith disks disk = IsTrue (disks.is_clean disk)
-
--- a disk's file is as it was, and a crash leaves nothing of it that it couldn't leave before
-pub record HasSameFile {D : Type 0} (disks : Ghosts D) (old new : D) : Type 0 where
-  pub same : disks.seen new ≡ disks.seen old
-  pub crash : (c : List ℕ) → disks.may_leave new c → disks.may_leave old c
-
--- A disk was only read: its file is as it was, it can be used on, and if it has kept faith it had
--- before.
-pub record IsOnlyRead {D : Type 0} (disks : Ghosts D) (old new : D) : Type 0 where
-  pub left : HasSameFile disks old new
-  pub usable : IsTrue (disks.is_usable new)
-  pub clean : HasKeptFaith disks new → HasKeptFaith disks old
-
--- a disk as a log is opened on it: it can be used, and what is read of it is what is on it, as
--- after a restart
-pub record IsJustOpened {D : Type 0} (disks : Ghosts D) (disk : D) : Type 0 where
-  pub usable : IsTrue (disks.is_usable disk)
-  pub known : HasKeptFaith disks disk → Only (disks.seen disk) (disks.may_leave disk)
 
 -- the disk of a hub's log, and what is read of it
 abbrev pub disk_of : {D : Type 0} → LoggedHub D → D
@@ -59,7 +39,8 @@ pub record IsReadyHub {D : Type 0} (disks : Ghosts D) (hub : LoggedHub D) : Type
 
 -- its log is one that it takes
 abbrev pub Takes : {D : Type 0} → Ghosts D → LoggedHub D → Option ℕ → Option Digest → Type 0
-Takes disks hub told wanted = IsLogTaken hub.version hub.header.items told wanted (file_of disks hub)
+Takes disks hub told wanted =
+    IsLogTaken hub.version hub.header.items told wanted (file_of disks hub)
 
 -- It took the log, and answered all that the reader had left. All is synced, and the log's marks
 -- are right.
@@ -128,9 +109,11 @@ pub record OpensAgain {D : Type 0} (disks : Ghosts D) (wanted : Option Digest)
   pub taken : Takes disks old None wanted
   pub state : (past : HubPast) → HasGone old past
       → IsRunnerAt old.recorder.answers.mode
-      (past_after old.recorder.answers.mode past (lines_after_settings old.header.items (file_of disks old)))
+      (past_after old.recorder.answers.mode past
+      (lines_after_settings old.header.items (file_of disks old)))
       new.recorder.answers.runner
   pub settled : IsSettled disks.seen disks.may_leave new.recorder.log
   pub lines : recovered_lines (file_of disks new)
-      ≡ recovered_lines old.header.items ++ lines_after_settings old.header.items (file_of disks old)
+      ≡ recovered_lines old.header.items
+      ++ lines_after_settings old.header.items (file_of disks old)
   pub intact : IsIntact old.version (file_of disks new)

@@ -9,3 +9,4 @@ pub mod Intake
 pub mod Logged
 pub mod Reopening
 pub mod Replaying
+pub mod Serving

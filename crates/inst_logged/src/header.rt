@@ -11,8 +11,8 @@ ghost use Rattle.inst_chain.specs.Chain.{HasNoMark};
 ghost use Rattle.inst_logged.specs.Marking.{BeginsWithMarker};
 ghost use Rattle.inst_logged.specs.Header.{lines_and_mark, header, header_from, CanBeginFrom};
 ghost use Rattle.inst_logged.specs.Header.{header_line};
-ghost use Rattle.inst_logged.specs.Header.{books_field, header_field, mode_field, participants_field};
-ghost use Rattle.inst_logged.specs.Header.{mode_word, version_word, quoted_codes, comma_if, quoted};
+ghost use Rattle.inst_logged.specs.Header.{books_field, header_field, mode_field};
+ghost use Rattle.inst_logged.specs.Header.{participants_field, mode_word, version_word, quoted_codes, comma_if, quoted};
 
 use crate::Version;
 use inst_base::find_newline;
@@ -43,7 +43,8 @@ pub fn first_batch(
     ensures batch { IfOk result (λ heading. IsBatch heading.batch.items) }
     ensures items { IfOk result (λ heading.
         heading.batch.items ≡ header version mode settings.now) }
-    ensures marker { IfOk result (λ heading. BeginsWithMarker version heading.batch.items heading.marker) }
+    ensures marker { IfOk result (λ heading.
+        BeginsWithMarker version heading.batch.items heading.marker) }
 {
     let lines = settings_line(alloc, version, mode, settings, None)?;
     close_heading(version, lines)
@@ -62,7 +63,8 @@ pub fn first_batch_from(
     ensures batch { IfOk result (λ heading. IsBatch heading.batch.items) }
     ensures items { IfOk result (λ heading.
         heading.batch.items ≡ header_from version mode settings.now journals.now) }
-    ensures marker { IfOk result (λ heading. BeginsWithMarker version heading.batch.items heading.marker) }
+    ensures marker { IfOk result (λ heading.
+        BeginsWithMarker version heading.batch.items heading.marker) }
     // So a start finds the log again.
     ensures again { IfOk result (λ _. IsSettings settings.now →
         CanBeginFrom settings.now journals.now) }
@@ -87,7 +89,8 @@ fn close_heading(version: Version, mut lines: Vec<u8>) -> Result<Heading, AllocE
     ensures batch { IfOk result (λ heading. IsBatch heading.batch.items) }
     ensures items { IfOk result (λ heading.
         heading.batch.items ≡ at_rest (lines_and_mark version (recovered_lines lines.items))) }
-    ensures marker { IfOk result (λ heading. BeginsWithMarker version heading.batch.items heading.marker) }
+    ensures marker { IfOk result (λ heading.
+        BeginsWithMarker version heading.batch.items heading.marker) }
 {
     // No line of settings or of books is a mark: this is never reached.
     if has_mark(&lines) {
@@ -196,7 +199,8 @@ fn push_header(
 
 /// Puts a name and a number at the end of a text.
 fn push_field(text: &mut String, name: &str, number: u64) -> Result<(), AllocError>
-    ensures { OnOk result (string_bytes text.new ≡ string_bytes text.old ++ header_field name.now number) }
+    ensures { OnOk result
+        (string_bytes text.new ≡ string_bytes text.old ++ header_field name.now number) }
 {
     text.push_str(name)?;
     let digits = number.to_string(*text.allocator())?;

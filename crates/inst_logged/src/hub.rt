@@ -2,7 +2,7 @@
 ghost use Rattle.std.specs.Prelude.{◌≡◌, ◌≤◌, ◌^◌, [], List, ℕ, length, IsTrue, IfOk, IfErr, OnOk};
 ghost use Rattle.std.specs.Prelude.{MatchBool};
 ghost use Rattle.std.specs.Io.KnownBytes.{IsAtEnd};
-ghost use Rattle.inst_base.specs.Newline.{NoNewline};
+ghost use Rattle.inst_log.specs.Disks.{HasKeptFaith};
 ghost use Rattle.inst_log.specs.Layout.{recovered_lines, blocks};
 ghost use Rattle.inst_log.specs.Log.{IsSettled};
 ghost use Rattle.inst_log.specs.inner.Serving.{TellsFront};
@@ -13,16 +13,16 @@ ghost use Rattle.inst_logged.specs.Input.{shortened_line};
 ghost use Rattle.inst_logged.specs.Intake.{line_part};
 ghost use Rattle.inst_logged.specs.Answering.{SaysLines, told_count};
 ghost use Rattle.inst_logged.specs.Marking.{IsIntact, IsIntactBy};
-ghost use Rattle.inst_logged.specs.Refused.{IsRefused};
-ghost use Rattle.inst_logged.specs.Running.{disk_of, file_of, StopsBy, HasGone, HasKeptFaith};
+ghost use Rattle.inst_logged.specs.Running.{disk_of, file_of, StopsBy, HasGone};
 ghost use Rattle.inst_logged.specs.Running.{HasNoRoom, SurvivesEachCrash, IsReadyHub, RunsThrough};
 ghost use Rattle.inst_logged.specs.Running.{StaysAlike};
 ghost use Rattle.inst_logged.specs.Streams.{streams};
 ghost use Rattle.inst_logged.specs.Logged.{AreReplies, unsent_replies_at};
-ghost use Rattle.inst_logged.specs.inner.Failing.{FailsBy};
+ghost use Rattle.inst_logged.specs.inner.Failing.{FailsUnrefused};
 ghost use Rattle.inst_logged.specs.inner.Logged.{Turned, Ended, Came, IsInput, CameIn, ServedOn};
 ghost use Rattle.inst_logged.specs.inner.Logged.{KeptOn};
 ghost use Rattle.inst_logged.specs.inner.Reopening.{Reopens};
+ghost use Rattle.inst_logged.specs.inner.Serving.{IsServing};
 
 mod closing;
 mod examining;
@@ -34,7 +34,7 @@ mod replaying;
 use crate::intake::Intake;
 use crate::marking::mark_batch;
 use crate::{LineAnswers, LoggedError, Version};
-use examining::{Found, examine};
+use examining::{LogFindings, examine};
 use inst_agenda::Runner;
 use inst_chain::{Digest, Marker};
 use inst_log::{Log, LogError, Recorder};
@@ -43,7 +43,6 @@ use measuring::{open_measured, serve_measured};
 pub use new_hub::NewHub;
 use replaying::start_again;
 use sqlite_disk::Disk;
-use std::alloc::Global;
 use std::io::{Read, Write};
 
 /// A hub in one thread that keeps each line before it hands out a byte of its reply.
@@ -94,7 +93,6 @@ impl<D: Disk + Drop> LoggedHub<D> {
     /// to it since the last write. After any other error, open the log again by another hub.
     pub fn run<R: Read, W: Write>(
         &mut self,
-        alloc: Global,
         told: Option<u64>,
         wanted: Option<Digest>,
         reader: &mut R,
@@ -115,7 +113,7 @@ impl<D: Disk + Drop> LoggedHub<D> {
         ensures clean { HasKeptFaith D.Disk (disk_of self.new) →
             HasKeptFaith D.Disk (disk_of self.old) }
     {
-        self.reopen(alloc, told, wanted, writer)?;
+        self.reopen(told, wanted, writer)?;
         self.serve_all(reader, writer)
     }
 
@@ -123,7 +121,6 @@ impl<D: Disk + Drop> LoggedHub<D> {
     /// the first `told`.
     fn reopen<W: Write>(
         &mut self,
-        alloc: Global,
         told: Option<u64>,
         wanted: Option<Digest>,
         writer: &mut W,
@@ -149,12 +146,13 @@ impl<D: Disk + Drop> LoggedHub<D> {
         ensures clean { HasKeptFaith D.Disk (disk_of self.new) →
             HasKeptFaith D.Disk (disk_of self.old) }
     {
+        let alloc = *self.batch.allocator();
         let recorder = &mut self.recorder;
         let header = self.header.as_slice();
         let found = examine(alloc, self.version, &mut recorder.log.disk, wanted)?;
-        let Found { extent, marker } = found;
+        let LogFindings { extent, marker } = found;
         let start = recorder.log.inspect(alloc, header, &extent)?;
-        start_again(alloc, recorder, header, start, told, writer)?;
+        start_again(recorder, header, start, told, writer)?;
         self.size = open_measured(&mut recorder.log, header, &extent, start)?;
         match marker {
             Some(marker) => {
@@ -171,38 +169,29 @@ impl<D: Disk + Drop> LoggedHub<D> {
         reader: &mut R,
         writer: &mut W,
     ) -> Result<(), LoggedError>
-        requires usable { IsTrue (D.Disk.is_usable self.old.recorder.log.disk) }
-        requires settled { IsTrue (D.Disk.is_clean self.old.recorder.log.disk)
-            → IsSettled D.Disk.seen D.Disk.may_leave self.old.recorder.log }
+        requires ready { IsServing D.Disk self.old }
         requires nothing { line_part self.old.intake ≡ [] }
-        requires intact { IsTrue (D.Disk.is_clean self.old.recorder.log.disk)
-            → IsIntactBy self.old.version (D.Disk.seen self.old.recorder.log.disk) self.old.marker }
-        requires size { IsTrue (D.Disk.is_clean self.old.recorder.log.disk)
-            → self.old.size ≡ length (D.Disk.seen self.old.recorder.log.disk) }
         ensures ok { OnOk result
-            (ServedOn D.Disk.seen D.Disk.may_leave
-            (IsTrue (D.Disk.is_clean self.new.recorder.log.disk))
+            (ServedOn D.Disk.seen D.Disk.may_leave (HasKeptFaith D.Disk (disk_of self.new))
             (IsInput (R.remaining reader.old) (R.remaining reader.new))
             self.old.recorder self.new.recorder (W.contents writer.old) (W.contents writer.new)) }
-        ensures any_moment { IsTrue (D.Disk.is_clean self.new.recorder.log.disk)
-            → KeptOn (D.Disk.may_leave self.new.recorder.log.disk)
+        ensures any_moment { HasKeptFaith D.Disk (disk_of self.new)
+            → KeptOn (D.Disk.may_leave (disk_of self.new))
             (CameIn (R.remaining reader.old) (R.remaining reader.new))
             (SaysLines self.old.recorder.answers.mode self.old.recorder.answers.runner)
-            (recovered_lines (D.Disk.seen self.old.recorder.log.disk)) (W.contents writer.old)
+            (recovered_lines (file_of D.Disk self.old)) (W.contents writer.old)
             (W.contents writer.new) }
         ensures intact { ((d : D) → IsTrue (D.Disk.is_mixing d)) →
-            IsTrue (D.Disk.is_clean self.new.recorder.log.disk)
-            → (c : List ℕ) → D.Disk.may_leave self.new.recorder.log.disk c →
+            HasKeptFaith D.Disk (disk_of self.new)
+            → (c : List ℕ) → D.Disk.may_leave (disk_of self.new) c →
             IsIntact self.old.version c }
-        ensures intact_now { OnOk result (IsTrue (D.Disk.is_clean self.new.recorder.log.disk)
-            → IsIntactBy self.old.version (D.Disk.seen self.new.recorder.log.disk) self.new.marker) }
-        ensures end { OnOk result (IsAtEnd (R.remaining reader.new)) }
-        ensures unrefused { IfErr result (λ error. ¬ IsRefused error) }
-        ensures failure { FailsBy D.Disk self.old.recorder.log.disk self.new.recorder.log.disk
+        ensures intact_now { OnOk result (HasKeptFaith D.Disk (disk_of self.new)
+            → IsIntactBy self.old.version (file_of D.Disk self.new) self.new.marker) }
+        ensures failure { FailsUnrefused D.Disk (disk_of self.old) (disk_of self.new)
             (HasNoRoom D.Disk self.new (R.remaining reader.old) (R.remaining reader.new))
             (IsSettled D.Disk.seen D.Disk.may_leave self.new.recorder.log) result }
-        ensures clean { IsTrue (D.Disk.is_clean self.new.recorder.log.disk) →
-            IsTrue (D.Disk.is_clean self.old.recorder.log.disk) }
+        ensures clean { HasKeptFaith D.Disk (disk_of self.new) →
+            HasKeptFaith D.Disk (disk_of self.old) }
     {
         for _ in 0..u64::MAX {
             if !self.turn(reader, writer)? {
@@ -219,48 +208,34 @@ impl<D: Disk + Drop> LoggedHub<D> {
         reader: &mut R,
         writer: &mut W,
     ) -> Result<bool, LoggedError>
-        requires usable { IsTrue (D.Disk.is_usable self.old.recorder.log.disk) }
-        requires settled { IsTrue (D.Disk.is_clean self.old.recorder.log.disk)
-            → IsSettled D.Disk.seen D.Disk.may_leave self.old.recorder.log }
-        requires part { NoNewline (line_part self.old.intake) }
-        requires intact { IsTrue (D.Disk.is_clean self.old.recorder.log.disk)
-            → IsIntactBy self.old.version (D.Disk.seen self.old.recorder.log.disk) self.old.marker }
-        requires size { IsTrue (D.Disk.is_clean self.old.recorder.log.disk)
-            → self.old.size ≡ length (D.Disk.seen self.old.recorder.log.disk) }
+        requires ready { IsServing D.Disk self.old }
         ensures ok { (part : List ℕ) → line_part self.old.intake ≡ shortened_line part →
             IfOk result (λ more.
-            ServedOn D.Disk.seen D.Disk.may_leave
-            (IsTrue (D.Disk.is_clean self.new.recorder.log.disk))
+            ServedOn D.Disk.seen D.Disk.may_leave (HasKeptFaith D.Disk (disk_of self.new))
             (λ lines.
             MatchBool more
             (Turned part self.new.intake lines (R.remaining reader.old)
             (R.remaining reader.new))
             (Ended part lines (R.remaining reader.old) (R.remaining reader.new)))
             self.old.recorder self.new.recorder (W.contents writer.old) (W.contents writer.new)) }
-        ensures any_moment { IsTrue (D.Disk.is_clean self.new.recorder.log.disk) → (part : List ℕ)
+        ensures ready { OnOk result (IsServing D.Disk self.new) }
+        ensures version { self.new.version ≡ self.old.version }
+        ensures any_moment { HasKeptFaith D.Disk (disk_of self.new) → (part : List ℕ)
             → line_part self.old.intake ≡ shortened_line part
-            → KeptOn (D.Disk.may_leave self.new.recorder.log.disk)
+            → KeptOn (D.Disk.may_leave (disk_of self.new))
             (λ lines. Came part lines (R.remaining reader.old) (R.remaining reader.new))
             (SaysLines self.old.recorder.answers.mode self.old.recorder.answers.runner)
-            (recovered_lines (D.Disk.seen self.old.recorder.log.disk)) (W.contents writer.old)
+            (recovered_lines (file_of D.Disk self.old)) (W.contents writer.old)
             (W.contents writer.new) }
         ensures intact { ((d : D) → IsTrue (D.Disk.is_mixing d)) →
-            IsTrue (D.Disk.is_clean self.new.recorder.log.disk)
-            → (c : List ℕ) → D.Disk.may_leave self.new.recorder.log.disk c →
+            HasKeptFaith D.Disk (disk_of self.new)
+            → (c : List ℕ) → D.Disk.may_leave (disk_of self.new) c →
             IsIntact self.old.version c }
-        ensures intact_now { OnOk result (IsTrue (D.Disk.is_clean self.new.recorder.log.disk)
-            → IsIntactBy self.old.version (D.Disk.seen self.new.recorder.log.disk) self.new.marker) }
-        ensures version { self.new.version ≡ self.old.version }
-        ensures part { OnOk result (NoNewline (line_part self.new.intake)) }
-        ensures unrefused { IfErr result (λ error. ¬ IsRefused error) }
-        ensures usable { OnOk result (IsTrue (D.Disk.is_usable self.new.recorder.log.disk)) }
-        ensures size { OnOk result (IsTrue (D.Disk.is_clean self.new.recorder.log.disk)
-            → self.new.size ≡ length (D.Disk.seen self.new.recorder.log.disk)) }
-        ensures failure { FailsBy D.Disk self.old.recorder.log.disk self.new.recorder.log.disk
-            (2 ^ 62 ≤ length (blocks (recovered_lines (D.Disk.seen self.new.recorder.log.disk))))
+        ensures failure { FailsUnrefused D.Disk (disk_of self.old) (disk_of self.new)
+            (2 ^ 62 ≤ length (blocks (recovered_lines (file_of D.Disk self.new))))
             (IsSettled D.Disk.seen D.Disk.may_leave self.new.recorder.log) result }
-        ensures clean { IsTrue (D.Disk.is_clean self.new.recorder.log.disk) →
-            IsTrue (D.Disk.is_clean self.old.recorder.log.disk) }
+        ensures clean { HasKeptFaith D.Disk (disk_of self.new) →
+            HasKeptFaith D.Disk (disk_of self.old) }
     {
         self.batch.clear();
         let more = self.intake.read(reader, &mut self.batch)?;

@@ -13,8 +13,8 @@ ghost use Rattle.inst_json.specs.Replies.{items};
 ghost use Rattle.inst_json.specs.Lines.{json_of};
 ghost use Rattle.inst_logged.specs.Header.{mode_word};
 ghost use Rattle.inst_logged.specs.LogHeader.{IsHeaderLine, beginning_with};
-ghost use Rattle.inst_logged.specs.inner.LogHeader.{HeaderSays, SaysSettings, number_in, header_text};
-ghost use Rattle.inst_logged.specs.inner.LogHeader.{list_in, version_number};
+ghost use Rattle.inst_logged.specs.inner.LogHeader.{HeaderSays, SaysSettings, number_in};
+ghost use Rattle.inst_logged.specs.inner.LogHeader.{header_text, list_in, version_number};
 ghost use Rattle.inst_logged.specs.declared.version.Version.TheVariants.{Two};
 
 use crate::Version;

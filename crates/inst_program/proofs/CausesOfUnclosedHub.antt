@@ -10,7 +10,7 @@ use Rattle.inst_logged.specs.LogHeader.{beginning_with}
 use Rattle.inst_logged.specs.Finding.{FindsLog}
 use Rattle.inst_logged.specs.Header.{AreFirstLines}
 use Rattle.inst_logged.specs.Refused.{IsCause, IsRefused, IsLogTaken}
-use Rattle.inst_logged.specs.Running.{HasKeptFaith}
+use Rattle.inst_log.specs.Disks.{HasKeptFaith}
 use Rattle.inst_logged.specs.declared.log_header.LogHeader.{LogHeader}
 use Rattle.inst_logged.specs.declared.error.LoggedError.{LoggedError}
 use Rattle.inst_logged.specs.declared.hub.new_hub.NewHub.{NewHub}

@@ -13,7 +13,7 @@ use Rattle.inst_model.specs.Opening.{Opening, First}
 use Rattle.inst_agenda.proofs.StepsAfterLine.{one_on}
 use Rattle.inst_drill.specs.Drilled.{AreDrilled, DrillOpening, HasDrilledAll}
 use Rattle.inst_drill.specs.declared.explaining.DrillResult.{DrillResult}
-use Rattle.inst_logged.specs.Running.{HasKeptFaith, HasSameFile, IsOnlyRead}
+use Rattle.inst_log.specs.Disks.{HasKeptFaith, HasSameFile, IsOnlyRead}
 use Rattle.inst_program.specs.Files.{Files, IfKept, IsAsItWas, change_of, change_on}
 use Rattle.inst_program.specs.Program.{Drills}
 use Rattle.inst_program.specs.Script.{IsWritten, script_of}

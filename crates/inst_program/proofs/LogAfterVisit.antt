@@ -4,7 +4,7 @@ use Rattle.sqlite_disk.specs.Disk.{Only}
 use Rattle.sqlite_disk.specs.declared.Disk.{Ghosts}
 use Rattle.inst_log.specs.Layout.{recovered_lines}
 use Rattle.inst_log.specs.Opening.{lines_after_settings}
-use Rattle.inst_logged.specs.Running.{HasKeptFaith, HasSameFile}
+use Rattle.inst_log.specs.Disks.{HasKeptFaith, HasSameFile}
 use Rattle.inst_logged.specs.Streams.{Streams}
 use Rattle.inst_program.specs.Files.{AllAreIn, Change, Files, IfKept, IsAsItWas, IsFileClosed, IsFileOpened, IsUntouched, MayBe, OthersStay, Stay, change_of, change_on}
 use Rattle.inst_program.specs.Keeping.{AnswersAFront, AnswersBehind, CarriesBooks, IsBegun, IsSafe, IsSparedLog, IsUntaken, KeepsLines, KeptRun}

@@ -26,7 +26,8 @@ use Rattle.inst_logged.specs.LineAnswers.{HasOpened}
 use Rattle.inst_logged.specs.Marking.{IsIntact}
 use Rattle.inst_logged.specs.Logged.{HasBegun, HasLogged, SurvivesACrash}
 use Rattle.inst_logged.specs.Refused.{IsCause, IsRefused, IsLogTaken}
-use Rattle.inst_logged.specs.Running.{disk_of, file_of, HasGone, HasKeptFaith, HasNoRoom, SurvivesEachCrash, HasSameFile, OpensAgain, RunsThrough, StaysAlike, StopsBy}
+use Rattle.inst_log.specs.Disks.{HasKeptFaith, HasSameFile}
+use Rattle.inst_logged.specs.Running.{disk_of, file_of, HasGone, HasNoRoom, SurvivesEachCrash, OpensAgain, RunsThrough, StaysAlike, StopsBy}
 use Rattle.inst_logged.specs.Streams.{Streams}
 use Rattle.inst_program.specs.Files.{Change, IsAsItWas, MayBe, change_on}
 use Rattle.inst_program.specs.Keeping.{AnswersAFront, AsksFor, CarriesBooks, HasNoOpeningLeft, IsAtMost, IsBeginning, IsBegun, IsLogOfAHub, IsSafe, IsSpared, IsSparedLog, IsTakenFor, IsUntaken, KeepsLines, KeptRun}

@@ -5,7 +5,7 @@ ghost use Rattle.inst_log.specs.Layout.{recovered_lines};
 ghost use Rattle.inst_world.specs.HasRun.{world_settings};
 ghost use Rattle.inst_world.specs.NextOpening.{CanOpenFrom};
 ghost use Rattle.inst_logged.specs.Header.{header_from};
-ghost use Rattle.inst_logged.specs.Running.{HasKeptFaith, IsJustOpened, IsOnlyRead};
+ghost use Rattle.inst_log.specs.Disks.{HasKeptFaith, IsJustOpened, IsOnlyRead};
 ghost use Rattle.inst_logged.specs.declared.version.Version.TheVariants.{Two};
 ghost use Rattle.inst_program.specs.Files.{AllAreIn, IfKept, change_of, change_on};
 ghost use Rattle.inst_program.specs.Keeping.{AsksFor, Carries, CarriesBooks, IsBegun, IsSafe};
@@ -145,7 +145,7 @@ fn close_hub<D: Disk + Drop, E: Write>(
         Err(error) => return (Err(told_ending(error, errors)), disk),
     };
     let mut hub = hub.with_disk(alloc, disk);
-    let books = hub.close(alloc, wanted);
+    let books = hub.close(wanted);
     let (runner, disk) = hub.into_parts();
     match books {
         Ok(Some(journals)) => (
@@ -215,7 +215,7 @@ fn begin_on<D: Disk + Drop>(
         return (Err(ExitReason::Fault(Fault::Memory)), disk);
     };
     let mut hub = hub.with_disk(alloc, disk);
-    let outcome = or_ending(hub.open(alloc, None));
+    let outcome = or_ending(hub.open(None));
     let (_, disk) = hub.into_parts();
     (outcome, disk)
 }

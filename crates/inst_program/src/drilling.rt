@@ -2,7 +2,7 @@
 ghost use Rattle.std.specs.Prelude.{◌≡◌, ◌≢◌, [], true, false, IfErr, IfOk, OnOk, IsTrue};
 ghost use Rattle.std.specs.Prelude.{option_map};
 ghost use Rattle.sqlite_disk.specs.Disk.{Only};
-ghost use Rattle.inst_logged.specs.Running.{HasKeptFaith, IsOnlyRead};
+ghost use Rattle.inst_log.specs.Disks.{HasKeptFaith, IsOnlyRead};
 ghost use Rattle.inst_model.specs.Interleaving.{IsInterleaving};
 ghost use Rattle.inst_drill.specs.Drilled.{HasDrilledAll};
 ghost use Rattle.inst_program.specs.Files.{AllAreIn};

@@ -5,7 +5,7 @@ ghost use Rattle.inst_log.specs.Layout.{recovered_lines};
 ghost use Rattle.inst_logged.specs.Header.{header};
 ghost use Rattle.inst_logged.specs.Logged.{HasBegun, IsUnbegun};
 ghost use Rattle.inst_logged.specs.Refused.{IsRefused};
-ghost use Rattle.inst_logged.specs.Running.{HasKeptFaith, IsJustOpened, HasSameFile, IsOnlyRead};
+ghost use Rattle.inst_log.specs.Disks.{HasKeptFaith, IsJustOpened, HasSameFile, IsOnlyRead};
 ghost use Rattle.inst_logged.specs.Streams.{streams};
 ghost use Rattle.inst_logged.specs.declared.version.Version.TheVariants.{Two};
 ghost use Rattle.inst_program.specs.Files.{AllAreIn, IfKept, IsUntouched, OthersStay, change_of};
@@ -139,7 +139,6 @@ fn keep_on<D: Disk + Drop, R: Read + Drop, W: Write + Drop, E: Write + Drop>(
     };
     let mut hub = hub.with_disk(alloc, disk);
     match hub.run(
-        alloc,
         log.told,
         wanted.digest,
         &mut console.reader,

@@ -1,7 +1,7 @@
 //! Logs whose batches end with marks, and files that are read in pieces.
 ghost use Rattle.std.specs.Prelude.{IsTrue};
-ghost use Rattle.sqlite_disk.specs.Disk.{Only};
 ghost use Rattle.inst_base.specs.Newline.{NoNewline};
+ghost use Rattle.inst_log.specs.Disks.{IsJustOpened};
 ghost use Rattle.inst_log.specs.Layout.{IsBatch};
 
 use inst_chain::{ChainError, Digest, Marker, mark_lines, verify};
@@ -26,7 +26,8 @@ pub fn verified<D: Disk>(alloc: Global, disk: &mut D, text: &str) -> Result<bool
     let Some(digest) = Digest::of(text) else {
         return Ok(false); // a digest has 64 hexadecimal digits
     };
-    let verified = verify(alloc, disk, Some(digest))?; // `Damaged` counts the lines up to the last mark that is right
+    // `Damaged` counts the lines up to the last mark that is right.
+    let verified = verify(alloc, disk, Some(digest))?;
     Ok(verified.has_wanted)
 }
 
@@ -43,9 +44,7 @@ pub fn first_piece<D: Disk>(alloc: Global, disk: &mut D) -> Result<Vec<u8>, LogE
 
 /// A log is opened in two steps.
 pub fn opened<D: Disk>(alloc: Global, log: &mut Log<D>, settings: &[u8]) -> Result<(), LogError>
-    requires usable { IsTrue (D.Disk.is_usable log.old.disk) }
-    requires known { IsTrue (D.Disk.is_clean log.old.disk) →
-        Only (D.Disk.seen log.old.disk) (D.Disk.may_leave log.old.disk) }
+    requires ready { IsJustOpened D.Disk log.old.disk }
     requires settings { IsBatch settings.now }
 {
     let extent = survey(alloc, &mut log.disk)?;

@@ -1,13 +1,12 @@
 //! Logs of lines over any disk.
-ghost use Rattle.std.specs.Prelude.{IsTrue};
-ghost use Rattle.sqlite_disk.specs.Disk.{Only};
 ghost use Rattle.inst_base.specs.Newline.{NoNewline};
+ghost use Rattle.inst_log.specs.Disks.{IsJustOpened};
 ghost use Rattle.inst_log.specs.Layout.{IsBatch};
-ghost use Rattle.inst_log.specs.Serving.{Replies, AllBatches};
-ghost use Rattle.inst_log.specs.Restart.{Begins};
+ghost use Rattle.inst_log.specs.Serving.{AllBatches};
+ghost use Rattle.inst_log.specs.Restart.{AnswersAlike};
 
 use inst_lines::Mode;
-use inst_log::{Log, LogError, Responder, close_batch, push_line, run_twice};
+use inst_log::{Log, LogError, LogRun, Machine, Responder, close_batch, push_line, run_twice};
 use inst_logged::{LoggedError, NewHub, Version};
 use inst_settings::Settings;
 use sqlite_disk::{Crash, Disk};
@@ -21,9 +20,7 @@ pub fn log<D: Disk>(
     settings: &[u8],
     line: &[u8],
 ) -> Result<Vec<u8>, LogError>
-    requires usable { IsTrue (D.Disk.is_usable log.old.disk) }
-    requires known { IsTrue (D.Disk.is_clean log.old.disk) →
-        Only (D.Disk.seen log.old.disk) (D.Disk.may_leave log.old.disk) }
+    requires ready { IsJustOpened D.Disk log.old.disk }
     requires settings { IsBatch settings.now }
     requires line { NoNewline line.now }
 {
@@ -40,23 +37,18 @@ pub fn restart<D: Crash + Drop, A: Responder + Drop>(
     alloc: Global,
     disk: D,
     settings: &[u8],
-    first: A,
-    again: A,
-    batches: &[Vec<u8>],
-    more: &[Vec<u8>],
+    first: LogRun<'_, A>,
+    again: LogRun<'_, A>,
 ) -> Result<Vec<u8>, LogError>
-    requires usable { IsTrue (D.Disk.is_usable disk) }
-    requires known { IsTrue (D.Disk.is_clean disk) →
-        Only (D.Disk.seen disk) (D.Disk.may_leave disk) }
-    requires same { (replies : Replies) → A.Responder.says first replies →
-        A.Responder.says again replies }
-    requires begins { (replies : Replies) → A.Responder.says first replies → Begins replies }
+    requires ready { IsJustOpened D.Disk disk }
+    requires answers { AnswersAlike (A.Responder.says first.answers)
+        (A.Responder.says again.answers) }
     requires settings { IsBatch settings.now }
-    requires batches { AllBatches batches.now }
-    requires more { AllBatches more.now }
+    requires batches { AllBatches first.batches.now }
+    requires more { AllBatches again.batches.now }
 {
-    // The machine stops after 7 calls of its disk, and comes back.
-    let twice = run_twice(alloc, disk, 7, settings, first, again, batches, more)?;
+    let machine = Machine { disk, calls: 7 }; // it stops after 7 calls of its disk, and comes back
+    let twice = run_twice(alloc, machine, settings, first, again)?;
     Ok(twice.told) // what the reader has of both runs
 }
 
@@ -68,11 +60,10 @@ pub fn logged<D: Disk + Drop, R: Read, W: Write>(
     reader: &mut R,
     writer: &mut W,
 ) -> Result<(), LoggedError>
-    requires usable { IsTrue (D.Disk.is_usable disk) }
-    requires known { IsTrue (D.Disk.is_clean disk) →
-        Only (D.Disk.seen disk) (D.Disk.may_leave disk) }
+    requires ready { IsJustOpened D.Disk disk }
 {
     let mut hub = NewHub::open(alloc, Version::Two, Mode::Run, settings)?.with_disk(alloc, disk);
-    hub.run(alloc, None, None, reader, writer)?; // all replies of the log were received, and it may have any digest
+    // All replies of the log were received, and it may have any digest.
+    hub.run(None, None, reader, writer)?;
     Ok(())
 }

@@ -3,7 +3,8 @@ use Rattle.std.proofs.Common.{◌≡◌, ◌∙◌, IsTrue, sym, subst}
 use Rattle.sqlite_disk.specs.Disk.{Only}
 use Rattle.sqlite_disk.specs.declared.Disk.{Ghosts}
 use Rattle.inst_logged.specs.Logged.{IsUnbegun}
-use Rattle.inst_logged.specs.Running.{disk_of, HasSameFile, IsReadyHub}
+use Rattle.inst_log.specs.Disks.{HasSameFile}
+use Rattle.inst_logged.specs.Running.{disk_of, IsReadyHub}
 use Rattle.inst_logged.specs.declared.hub.LoggedHub.{LoggedHub}
 
 module _ {D : Type 0} (disks : Ghosts D) where

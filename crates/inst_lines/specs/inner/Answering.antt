@@ -23,9 +23,11 @@ after_any_line mode past line = if is_too_long line then past else after_line mo
 -- a line is answered, of which this part is held and any front of it was let go
 pub record RepliesToLine (mode : Mode) (is_long : Bool) (part : List ℕ) (old new : Runner)
     (answer : Answer) : Type 0 where
-  pub told : (past : HubPast) → IsRunnerAt mode past old → (front : List ℕ) → IsFront is_long front →
+  pub told : (past : HubPast) → IsRunnerAt mode past old
+      → (front : List ℕ) → IsFront is_long front →
       answer ≡ any_line_answer mode past (front ++ part)
-  pub after : (past : HubPast) → IsRunnerAt mode past old → (front : List ℕ) → IsFront is_long front →
+  pub after : (past : HubPast) → IsRunnerAt mode past old
+      → (front : List ℕ) → IsFront is_long front →
       IsRunnerAt mode (after_any_line mode past (front ++ part)) new
   pub same_settings : world_settings new.world ≡ world_settings old.world
   pub can_be_written : answer_can_be_written (world_settings old.world) answer ≡ true

@@ -14,7 +14,8 @@ pub record AnswersLines (mode : Mode) (old new : Runner) (out_old out_new : List
     (lines : List (List ℕ)) : Type 0 where
   pub replies : (past : HubPast) → IsRunnerAt mode past old →
       out_new ≡ out_old ++ replies_at mode past lines
-  pub state : (past : HubPast) → IsRunnerAt mode past old → IsRunnerAt mode (past_after mode past lines) new
+  pub state : (past : HubPast) → IsRunnerAt mode past old
+      → IsRunnerAt mode (past_after mode past lines) new
 
 -- the first lines of a batch were answered, and the others are left
 pub record AnswersFront (mode : Mode) (old new : Runner) (out_old out_new batch rest : List ℕ) :
@@ -49,7 +50,8 @@ pub record AnswersFirst (mode : Mode) (old new : Runner) (out_old out_new lines 
 -- lines were answered again, and the replies to those that haven't been told were handed out
 pub record AnswersAgain (mode : Mode) (told left : Option ℕ) (old new : Runner)
     (lines : List (List ℕ)) (before after : Option (List ℕ)) : Type 0 where
-  pub state : (past : HubPast) → IsRunnerAt mode past old → IsRunnerAt mode (past_after mode past lines) new
+  pub state : (past : HubPast) → IsRunnerAt mode past old
+      → IsRunnerAt mode (past_after mode past lines) new
   pub left_is : left ≡ left_of told lines
   pub handed : (past : HubPast) → IsRunnerAt mode past old →
       Appends before after (debt mode past told lines)

@@ -1,15 +1,16 @@
 -- Why a call of a hub with a log ended by an error that is no refusal, and what it counts of the
 -- faults of the log's disk.
-use Rattle.std.specs.Prelude.{◌≡◌, ◌≢◌, Result, MatchResult, IsTrue}
+use Rattle.std.specs.Prelude.{◌≡◌, ◌≢◌, Result, MatchResult, IfErr, IsTrue}
 use Rattle.sqlite_disk.specs.Disk.{MoreFaults}
 use Rattle.sqlite_disk.specs.declared.Disk.{Ghosts}
-use Rattle.inst_logged.specs.Refused.{HasLogFailed}
+use Rattle.inst_logged.specs.Refused.{HasLogFailed, IsRefused}
 use Rattle.inst_logged.specs.declared.error.LoggedError.{LoggedError}
 use Rattle.inst_logged.specs.declared.error.LoggedError.TheVariants.{Changed}
 
 -- the log failed only where it may have, and nobody changed it
 abbrev pub FailsAtLog : Type 0 → Type 0 → Type 0 → LoggedError → Type 0
-FailsAtLog failed no_room at_rest error = (error ≢ Changed) × HasLogFailed failed no_room at_rest error
+FailsAtLog failed no_room at_rest error =
+    (error ≢ Changed) × HasLogFailed failed no_room at_rest error
 
 -- the disk counts no fault where the call is done; where the disk has kept faith, each of its
 -- errors is counted
@@ -19,3 +20,9 @@ FailsBy disks old new no_room at_rest result =
     MatchResult result (λ _. disks.faults new ≡ disks.faults old)
     (λ error. IsTrue (disks.is_clean new) →
     FailsAtLog (MoreFaults (disks.faults old) (disks.faults new)) no_room at_rest error)
+
+-- the same, and its error is no refusal
+pub record FailsUnrefused {D T : Type 0} (disks : Ghosts D) (old new : D) (no_room at_rest : Type 0)
+    (result : Result T LoggedError) : Type 0 where
+  pub unrefused : IfErr result (λ error. ¬ IsRefused error)
+  pub failure : FailsBy disks old new no_room at_rest result

@@ -7,7 +7,7 @@ use Rattle.inst_chain.specs.declared.digest.Digest.{Digest}
 use Rattle.inst_chain.specs.declared.marker.Marker.{Marker}
 use Rattle.sqlite_disk.specs.declared.Disk.{Ghosts}
 use Rattle.inst_logged.specs.Refused.{HasWanted, IsCause}
-use Rattle.inst_logged.specs.Running.{HasKeptFaith, IsOnlyRead}
+use Rattle.inst_log.specs.Disks.{HasKeptFaith, IsOnlyRead}
 use Rattle.inst_logged.specs.inner.Failing.{FailsBy}
 use Rattle.inst_logged.specs.declared.error.LoggedError.{LoggedError}
 use Rattle.inst_logged.specs.declared.version.Version.{Version}
@@ -21,8 +21,8 @@ IsVerified Two file found =
     MatchOption found (recovered_lines file ≡ []) (λ marker. SealedBy file marker)
 
 -- the file's lines go so far, its marks are right, and it has the mark that was asked for
-pub record FindsInFile (version : Version) (wanted : Option Digest) (file : List ℕ) (found : LogFindings) : Type
-    0 where
+pub record FindsInFile (version : Version) (wanted : Option Digest) (file : List ℕ)
+    (found : LogFindings) : Type 0 where
   pub extent : IsExtent file found.extent
   pub verified : IsVerified version file found.marker
   pub digest : HasWanted version wanted file

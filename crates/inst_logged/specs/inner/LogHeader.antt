@@ -38,8 +38,8 @@ pub record SaysSettings (s : HubSettings) (d : Data) : Type 0 where
   pub base : number_in (codes "base") d ≡ Some s.base
 
 -- all members have these values
-pub record HeaderSays (version : Version) (mode : Mode) (s : HubSettings) (books : Option ℕ) (d : Data) :
-    Type 0 where
+pub record HeaderSays (version : Version) (mode : Mode) (s : HubSettings) (books : Option ℕ)
+    (d : Data) : Type 0 where
   pub version_is : number_in (codes "version") d ≡ Some (version_number version)
   pub mode_is : header_text (codes "log") d ≡ Some (mode_word mode)
   pub books_are : number_in (codes "books") d ≡ books

@@ -19,7 +19,8 @@ pub record Reopens {D : Type 0} (disks : Ghosts D) (told : Option ℕ) (wanted :
   pub taken : Takes disks old told wanted
   pub settled : IsSettled disks.seen disks.may_leave new.recorder.log
   pub lines : recovered_lines (file_of disks new)
-      ≡ recovered_lines old.header.items ++ lines_after_settings old.header.items (file_of disks old)
+      ≡ recovered_lines old.header.items
+      ++ lines_after_settings old.header.items (file_of disks old)
   pub intact : IsIntactBy old.version (file_of disks new) new.marker
   pub replayed : IsReplayed old.recorder.answers.mode told old.recorder.answers.runner
       new.recorder.answers.runner

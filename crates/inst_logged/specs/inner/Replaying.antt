@@ -14,7 +14,7 @@ use Rattle.inst_chain.specs.Chain.{kept_said, said}
 use Rattle.inst_logged.specs.Answering.{SaysLines, past_after, told_count}
 use Rattle.inst_logged.specs.Logged.{AreReplies, unsent_replies_at}
 use Rattle.inst_logged.specs.Refused.{IsRefused}
-use Rattle.inst_logged.specs.Running.{HasKeptFaith, IsOnlyRead}
+use Rattle.inst_log.specs.Disks.{HasKeptFaith, IsOnlyRead}
 use Rattle.inst_logged.specs.inner.Failing.{FailsBy}
 use Rattle.inst_logged.specs.declared.error.LoggedError.{LoggedError}
 use Rattle.inst_logged.specs.declared.error.LoggedError.TheVariants.{Log}
@@ -24,7 +24,8 @@ use Rattle.inst_logged.specs.declared.line_answers.LineAnswers.{LineAnswers}
 pub record IsReplayed (mode : Mode) (told : Option ℕ) (old new : Runner) (lines : List (List ℕ))
     (before after : Option (List ℕ)) : Type 0 where
   pub enough : told_count told (said lines) ≤ length (said lines)
-  pub state : (past : HubPast) → IsRunnerAt mode past old → IsRunnerAt mode (past_after mode past lines) new
+  pub state : (past : HubPast) → IsRunnerAt mode past old
+      → IsRunnerAt mode (past_after mode past lines) new
   pub tells : (past : HubPast) → IsRunnerAt mode past old →
       Tells (AreReplies (unsent_replies_at mode past (said lines) (told_count told (said lines))))
       [] before after

@@ -4,7 +4,8 @@ ghost use Rattle.inst_lines.specs.Answering.{HubPast};
 ghost use Rattle.inst_world.specs.HasRun.{world_settings};
 ghost use Rattle.inst_world.specs.NextOpening.{CanOpenFrom};
 ghost use Rattle.inst_logged.specs.Closing.{ClosesWith};
-ghost use Rattle.inst_logged.specs.Running.{disk_of, StopsBy, HasKeptFaith, IsReadyHub, OpensAgain};
+ghost use Rattle.inst_log.specs.Disks.{HasKeptFaith};
+ghost use Rattle.inst_logged.specs.Running.{disk_of, StopsBy, IsReadyHub, OpensAgain};
 ghost use Rattle.inst_logged.specs.Running.{StaysAlike};
 
 use super::LoggedHub;
@@ -12,7 +13,6 @@ use crate::LoggedError;
 use inst_chain::Digest;
 use inst_journal::Journal;
 use sqlite_disk::Disk;
-use std::alloc::Global;
 
 impl<D: Disk + Drop> LoggedHub<D> {
     /// Opens the log, or makes it if the disk is empty, and answers its lines, of which nothing is
@@ -21,7 +21,7 @@ impl<D: Disk + Drop> LoggedHub<D> {
     /// # Errors
     ///
     /// As from `run`.
-    pub fn open(&mut self, alloc: Global, wanted: Option<Digest>) -> Result<(), LoggedError>
+    pub fn open(&mut self, wanted: Option<Digest>) -> Result<(), LoggedError>
         requires ready { IsReadyHub D.Disk self.old }
         ensures ok { OnOk result (HasKeptFaith D.Disk (disk_of self.new) →
             OpensAgain D.Disk wanted self.old self.new) }
@@ -31,7 +31,8 @@ impl<D: Disk + Drop> LoggedHub<D> {
         ensures clean { HasKeptFaith D.Disk (disk_of self.new) →
             HasKeptFaith D.Disk (disk_of self.old) }
     {
-        self.reopen(alloc, None, wanted, &mut Vec::new(alloc))
+        let alloc = *self.batch.allocator();
+        self.reopen(None, wanted, &mut Vec::new(alloc))
     }
 
     /// Opens the log, as `open` does, and closes the hub. Returns its books, for the next opening,
@@ -40,11 +41,7 @@ impl<D: Disk + Drop> LoggedHub<D> {
     /// # Errors
     ///
     /// As from `run`.
-    pub fn close(
-        &mut self,
-        alloc: Global,
-        wanted: Option<Digest>,
-    ) -> Result<Option<Vec<Journal>>, LoggedError>
+    pub fn close(&mut self, wanted: Option<Digest>) -> Result<Option<Vec<Journal>>, LoggedError>
         requires ready { IsReadyHub D.Disk self.old }
         ensures ok { IfOk result (λ books. HasKeptFaith D.Disk (disk_of self.new) →
             ClosesWith D.Disk wanted self.old self.new books) }
@@ -57,7 +54,8 @@ impl<D: Disk + Drop> LoggedHub<D> {
         ensures clean { HasKeptFaith D.Disk (disk_of self.new) →
             HasKeptFaith D.Disk (disk_of self.old) }
     {
-        self.open(alloc, wanted)?;
+        let alloc = *self.batch.allocator();
+        self.open(wanted)?;
         Ok(self.recorder.answers.runner.world.carry(alloc)?)
     }
 }

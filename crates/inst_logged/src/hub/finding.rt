@@ -11,7 +11,7 @@ ghost use Rattle.inst_logged.specs.Header.{header, lines_of_books, CanBeginFrom}
 ghost use Rattle.inst_logged.specs.Finding.{FindsLog, Unrefused};
 ghost use Rattle.inst_logged.specs.Logged.{IsUnbegun, HasBegun};
 ghost use Rattle.inst_logged.specs.Refused.{IsRefused};
-ghost use Rattle.inst_logged.specs.Running.{HasKeptFaith, IsOnlyRead};
+ghost use Rattle.inst_log.specs.Disks.{HasKeptFaith, IsOnlyRead};
 ghost use Rattle.inst_logged.specs.inner.Books.{HasBooks, FindsBooks};
 ghost use Rattle.inst_logged.specs.declared.version.Version.TheVariants.{Two};
 
@@ -60,32 +60,43 @@ impl NewHub {
         let Some(version) = version_of(alloc, &first)? else {
             return Err(LoggedError::Log(LogError::NoLog));
         };
-        match books_on(alloc, version, mode, settings, &first, disk)? {
+        let head = LogHead {
+            version,
+            line: &first,
+        };
+        match books_on(alloc, mode, settings, head, disk)? {
             Some(journals) => Ok(NewHub::open_from(alloc, version, mode, settings, &journals)?),
             None => Ok(NewHub::open(alloc, version, mode, settings)?),
         }
     }
 }
 
+/// The first line of a log, and the version that it tells.
+#[derive(Clone, Copy)]
+struct LogHead<'a> {
+    version: Version,
+    line: &'a [u8],
+}
+
 /// The journals of the books that follow the first line of the log on this disk, if any do.
 fn books_on<D: Disk>(
     alloc: Global,
-    version: Version,
     mode: Mode,
     settings: &Settings,
-    first: &[u8],
+    head: LogHead<'_>,
     disk: &mut D,
 ) -> Result<Option<Vec<Journal>>, LoggedError>
     requires usable { IsTrue (D.Disk.is_usable disk.old) }
     ensures journals { IfOk result (λ books.
         IfSome books (λ journals. CanOpenFrom settings.now journals.items)) }
-    ensures none { first.now ≡ [] → Unrefused (λ books. books ≡ None) result }
+    ensures none { head.entry.line.now ≡ [] → Unrefused (λ books. books ≡ None) result }
     ensures found { HasKeptFaith D.Disk disk.new →
-        FindsBooks (λ journals.
-        all_events journals.items) version mode settings.now first.now (D.Disk.seen disk.old) result }
+        FindsBooks (λ journals. all_events journals.items) head.entry.version mode settings.now
+        head.entry.line.now (D.Disk.seen disk.old) result }
     ensures read { IsOnlyRead D.Disk disk.old disk.new }
 {
-    let Some(count) = books_behind(alloc, version, mode, settings, first)? else {
+    let LogHead { version, line } = head;
+    let Some(count) = books_behind(alloc, version, mode, settings, line)? else {
         return Ok(None);
     };
     let text = read_lines(alloc, disk, count.saturating_add(2))?;

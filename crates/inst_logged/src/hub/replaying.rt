@@ -18,7 +18,6 @@ ghost use Rattle.inst_logged.specs.inner.Replaying.{IsOnlyAnswering, Replays};
 use crate::{LineAnswers, LoggedError};
 use inst_log::{FileLines, LogError, Recorder, Start, deliver};
 use sqlite_disk::Disk;
-use std::alloc::Global;
 use std::io::Write;
 
 /// Answers the lines that a log has behind its first ones, none if the file is new, and hands out
@@ -28,7 +27,6 @@ use std::io::Write;
 ///
 /// `Told` if the log has fewer lines; then nothing was handed out.
 pub(crate) fn start_again<D: Disk, W: Write>(
-    alloc: Global,
     recorder: &mut Recorder<D, LineAnswers>,
     header: &[u8],
     start: Start,
@@ -45,7 +43,7 @@ pub(crate) fn start_again<D: Disk, W: Write>(
     ensures same { IsOnlyAnswering D.Disk recorder.old recorder.new }
 {
     match start {
-        Start::Log => replay(alloc, recorder, header, told, writer),
+        Start::Log => replay(recorder, header, told, writer),
         Start::New(_) => require_none(told),
     }
 }
@@ -57,7 +55,6 @@ pub(crate) fn start_again<D: Disk, W: Write>(
 ///
 /// `Told` if the log has fewer lines; then nothing was handed out.
 fn replay<D: Disk, W: Write>(
-    alloc: Global,
     recorder: &mut Recorder<D, LineAnswers>,
     header: &[u8],
     told: Option<u64>,
@@ -72,6 +69,7 @@ fn replay<D: Disk, W: Write>(
         (writer.new ≡ writer.old) result }
     ensures same { IsOnlyAnswering D.Disk recorder.old recorder.new }
 {
+    let alloc = *recorder.out.allocator();
     let mut lines = FileLines::new(alloc, &mut recorder.log.disk, header.len() - 1)?;
     let mut left = told;
     while lines.has_more() {

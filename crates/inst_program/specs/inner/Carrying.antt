@@ -12,7 +12,7 @@ use Rattle.inst_chain.specs.declared.digest.Digest.{Digest}
 use Rattle.inst_logged.specs.LogHeader.{beginning_with}
 use Rattle.inst_logged.specs.Header.{AreFirstLines, header_from}
 use Rattle.inst_logged.specs.Refused.{IsLogTaken}
-use Rattle.inst_logged.specs.Running.{HasKeptFaith}
+use Rattle.inst_log.specs.Disks.{HasKeptFaith}
 use Rattle.inst_logged.specs.declared.log_header.LogHeader.{LogHeader}
 use Rattle.inst_logged.specs.declared.version.Version.{Version}
 use Rattle.inst_logged.specs.declared.version.Version.TheVariants.{Two}

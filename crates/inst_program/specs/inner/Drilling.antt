@@ -4,7 +4,7 @@ use Rattle.sqlite_disk.specs.declared.Disk.{Ghosts}
 use Rattle.inst_drill.specs.Drilled.{HasDrilledAll}
 use Rattle.inst_drill.specs.Plan.{MayDrill}
 use Rattle.inst_drill.specs.declared.explaining.DrillResult.{DrillResult}
-use Rattle.inst_logged.specs.Running.{HasKeptFaith, HasSameFile}
+use Rattle.inst_log.specs.Disks.{HasKeptFaith, HasSameFile}
 use Rattle.inst_program.specs.Files.{Files, Stay, change_on}
 use Rattle.inst_program.specs.Script.{CannotTakeTheScript, IsWritten, SparesTheScript, script_of}
 use Rattle.inst_program.specs.declared.drilling.DrillTask.{DrillTask}

@@ -1,7 +1,7 @@
 -- A log is opened, something is done with its disk, and it is closed.
 use Rattle.std.specs.Prelude.{◌≡◌, ℕ, List, IsTrue}
 use Rattle.sqlite_disk.specs.declared.Disk.{Ghosts}
-use Rattle.inst_logged.specs.Running.{HasKeptFaith}
+use Rattle.inst_log.specs.Disks.{HasKeptFaith}
 use Rattle.inst_program.specs.Files.{AllAreIn, Change, Files, IfKept, OthersStay, change_of}
 use Rattle.inst_program.specs.Files.{change_on}
 

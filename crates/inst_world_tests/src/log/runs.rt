@@ -8,7 +8,7 @@ ghost use Rattle.inst_log.specs.Serving.{Replies, AllBatches};
 use crate::comparing::{same, same_at};
 use crate::disks::filled;
 use crate::log::batches::{one, two};
-use inst_log::{Responder, run_twice, whole_lines};
+use inst_log::{LogRun, Machine, Responder, run_twice, whole_lines};
 use sqlite_disk::Memory;
 use std::alloc::{AllocError, Global};
 use std::process::Abort;
@@ -65,7 +65,16 @@ fn told(
     requires more { AllBatches more.now }
 {
     let disk = filled(Memory::new(alloc), b"")?;
-    Ok(run_twice(alloc, disk, calls, settings, Echo, Echo, batches, more)?.told)
+    let machine = Machine { disk, calls };
+    let first = LogRun {
+        answers: Echo,
+        batches,
+    };
+    let again = LogRun {
+        answers: Echo,
+        batches: more,
+    };
+    Ok(run_twice(alloc, machine, settings, first, again)?.told)
 }
 
 /// How many batches of the first run stand by what was told, if that is what it may be.

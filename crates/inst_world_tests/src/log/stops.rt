@@ -1,9 +1,8 @@
 //! A machine that stops at each call of its disk in turn. What the last call wrote is torn at each
 //! byte.
-ghost use Rattle.std.specs.Prelude.{IsTrue};
-ghost use Rattle.sqlite_disk.specs.Disk.{Only};
+ghost use Rattle.inst_log.specs.Disks.{IsJustOpened};
 ghost use Rattle.inst_log.specs.Layout.{IsBatch};
-ghost use Rattle.inst_log.specs.Log.{IsSettled};
+ghost use Rattle.inst_log.specs.Log.{IsOpenLog};
 
 use crate::comparing::{same, same_at};
 use crate::disks::filled;
@@ -48,8 +47,7 @@ fn acknowledged<D: Disk>(
     first: &[u8],
     second: &[u8],
 ) -> usize
-    requires usable { IsTrue (D.Disk.is_usable log.old.disk) }
-    requires known { Only (D.Disk.seen log.old.disk) (D.Disk.may_leave log.old.disk) }
+    requires ready { IsJustOpened D.Disk log.old.disk }
     requires settings { IsBatch settings.now }
     requires first { IsBatch first.now }
     requires second { IsBatch second.now }
@@ -62,9 +60,7 @@ fn acknowledged<D: Disk>(
 
 /// Adds two batches to a log that is open, and says how much of it and of them is acknowledged.
 fn appended<D: Disk>(log: &mut Log<D>, first: &[u8], second: &[u8]) -> usize
-    requires usable { IsTrue (D.Disk.is_usable log.old.disk) }
-    requires settled { IsTrue (D.Disk.is_clean log.old.disk) →
-        IsSettled D.Disk.seen D.Disk.may_leave log.old }
+    requires open { IsOpenLog D.Disk log.old }
     requires first { IsBatch first.now }
     requires second { IsBatch second.now }
 {
@@ -86,8 +82,7 @@ struct Stopped {
 
 /// How much is acknowledged of the settings and both batches.
 fn added<D: Disk>(rt: &(impl Abort + AllocGlobal), log: &mut Log<D>) -> Result<usize, Fail>
-    requires usable { IsTrue (D.Disk.is_usable log.old.disk) }
-    requires known { Only (D.Disk.seen log.old.disk) (D.Disk.may_leave log.old.disk) }
+    requires ready { IsJustOpened D.Disk log.old.disk }
 {
     let settings = one(rt, SETTINGS)?;
     let first = two(rt, FIRST[0], FIRST[1])?;

@@ -118,7 +118,7 @@ fn open(
     match NewHub::of_log(alloc, Mode::Run, settings, &mut disk) {
         Ok(hub) => {
             let mut hub = hub.with_disk(alloc, disk);
-            Ok(hub.run(alloc, None, None, &mut reader, &mut Vec::new(alloc)))
+            Ok(hub.run(None, None, &mut reader, &mut Vec::new(alloc)))
         }
         Err(error) => Ok(Err(error)),
     }

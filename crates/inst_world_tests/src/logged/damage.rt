@@ -29,7 +29,6 @@ pub(crate) struct Ended {
 
 /// Runs this hub without input for a reader that has no reply.
 fn run_hub<D: Disk + Drop>(
-    alloc: Global,
     hub: &mut LoggedHub<D>,
     wanted: Option<Digest>,
     written: &mut Vec<u8>,
@@ -37,18 +36,17 @@ fn run_hub<D: Disk + Drop>(
     requires ready { IsReadyHub D.Disk hub.old }
 {
     let mut reader: &[u8] = b"";
-    hub.run(alloc, Some(0), wanted, &mut reader, written)
+    hub.run(Some(0), wanted, &mut reader, written)
 }
 
 /// Closes this hub.
 fn close_hub<D: Disk + Drop>(
-    alloc: Global,
     hub: &mut LoggedHub<D>,
     wanted: Option<Digest>,
 ) -> Result<(), LoggedError>
     requires ready { IsReadyHub D.Disk hub.old }
 {
-    hub.close(alloc, wanted)?;
+    hub.close(wanted)?;
     Ok(())
 }
 
@@ -83,8 +81,8 @@ pub(crate) fn use_log(
     };
     let mut hub = hub.with_disk(alloc, disk);
     let outcome = match how {
-        Use::Run => run_hub(alloc, &mut hub, wanted, &mut written),
-        Use::Close => close_hub(alloc, &mut hub, wanted),
+        Use::Run => run_hub(&mut hub, wanted, &mut written),
+        Use::Close => close_hub(&mut hub, wanted),
     };
     Ok(Ended {
         outcome,

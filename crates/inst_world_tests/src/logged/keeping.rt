@@ -115,7 +115,7 @@ pub(crate) fn serve_on<D: Disk + Drop, R: Read>(
     requires known { Only (D.Disk.seen disk) (D.Disk.may_leave disk) }
 {
     let mut hub = NewHub::open(alloc, Version::Two, mode, settings)?.with_disk(alloc, disk);
-    let outcome = hub.run(alloc, told, None, reader, written);
+    let outcome = hub.run(told, None, reader, written);
     Ok(Ended {
         outcome,
         disk: hub.into_parts().1,

@@ -83,7 +83,6 @@ pub(crate) fn log_of(alloc: Global, lines: &[&[u8]]) -> Result<Vec<u8>, Fail> {
 
 /// Runs this hub, and gives its disk.
 fn run_through<D: Disk + Drop>(
-    alloc: Global,
     mut hub: LoggedHub<D>,
     input: &[u8],
     written: &mut Vec<u8>,
@@ -91,7 +90,7 @@ fn run_through<D: Disk + Drop>(
     requires ready { IsReadyHub D.Disk hub }
 {
     let mut reader = input;
-    let outcome = hub.run(alloc, None, None, &mut reader, written);
+    let outcome = hub.run(None, None, &mut reader, written);
     let (_, disk) = hub.into_parts();
     outcome?;
     Ok(disk)
@@ -107,7 +106,7 @@ pub(crate) fn run_on(
 ) -> Result<Vec<u8>, Fail> {
     let mut disk = filled(Memory::new(alloc), log)?;
     let hub = NewHub::of_log(alloc, Mode::Run, settings, &mut disk)?;
-    let disk = run_through(alloc, hub.with_disk(alloc, disk), input, written)?;
+    let disk = run_through(hub.with_disk(alloc, disk), input, written)?;
     Ok(disk.bytes().to_vec(alloc)?)
 }
 
@@ -121,7 +120,7 @@ pub(crate) fn begun_from(
 {
     let disk = filled(Memory::new(alloc), b"")?;
     let hub = NewHub::open_from(alloc, Version::Two, Mode::Run, settings, books)?;
-    let disk = run_through(alloc, hub.with_disk(alloc, disk), b"", &mut Vec::new(alloc))?;
+    let disk = run_through(hub.with_disk(alloc, disk), b"", &mut Vec::new(alloc))?;
     Ok(disk.bytes().to_vec(alloc)?)
 }
 
@@ -129,7 +128,7 @@ pub(crate) fn begun_from(
 fn next_of<D: Disk + Drop>(alloc: Global, hub: &mut LoggedHub<D>) -> Result<Option<Vec<u8>>, Fail>
     requires ready { IsReadyHub D.Disk hub.old }
 {
-    match hub.close(alloc, None)? {
+    match hub.close(None)? {
         Some(books) => Ok(Some(begun_from(alloc, hub.settings(), &books)?)),
         None => Ok(None),
     }

@@ -18,11 +18,8 @@ loop-wanted-init g c = record {
     wanted_none c.args.wanted c.is_none-has_wanted.result c.is_none-has_wanted.ensures,
   );
   fits = c.in_ok-lines.ensures.fits;
-  seen = c.new.ensures.seen;
-  crash = c.new.ensures.crash;
-  calm = c.in_ok-lines.ensures.calm;
-  usable = c.new.ensures.usable;
-  clean = c.new.ensures.clean;
+  read = c.new.ensures.read;
+  calm = c.in_ok-lines.ensures.cause;
 }
 
 pub returns-in-Err-clause-cause : goal.returns-in-Err-clause-cause
@@ -30,13 +27,13 @@ returns-in-Err-clause-cause g c clean =
     let i = c.loop-wanted.invariant in
     let file = g.D.Disk.seen c.args.disk.now in
     let piece = c.in_ok-piece.piece.items in
-    let before = i.reading (c.next.ensures.clean clean) in
-    let reading = subst (λ (f : List ℕ). IsReading f c.next.new.self (before.0 ++ recovered_lines piece)) i.seen
-    (c.in_ok-piece.ensures.reading clean before.0 (subst (λ (f : List ℕ). IsReading f c.loop-wanted.lines before.0) (sym i.seen) before.1)) in
+    let before = i.reading (c.next.ensures.read.clean clean) in
+    let reading = subst (λ (f : List ℕ). IsReading f c.next.new.self (before.0 ++ recovered_lines piece)) i.read.left.same
+    (c.in_ok-piece.ensures.lines.reading clean before.0 (subst (λ (f : List ℕ). IsReading f c.loop-wanted.lines before.0) (sym i.read.left.same) before.1)) in
     wrong_mark file c.loop-wanted.checker before.0 _ piece c.in-Err.right before.2
     (subst (λ (l : List ℕ). IsWrongAt c.loop-wanted.checker l c.in-Err.right) c.deref.ensures.value c.in-Err.ensures.wrong)
     (file_lines file c.next.new.self.cutter (before.0 ++ recovered_lines piece) reading.cut)
-    (omega (arith, reading.len, c.in_ok-piece.ensures.len, i.fits))
+    (omega (arith, reading.len, c.in_ok-piece.ensures.lines.len, i.fits))
 
 pub returns-clause-found : goal.returns-clause-found
 returns-clause-found g c =
@@ -72,5 +69,5 @@ returns-in_err-piece-clause-cause g c =
     let new = g.D.Disk.faults c.next.new.disk in
     log_failed (g.D.Disk.seen c.args.disk.now) _ _ _ _ _ c.from_residual-in_err-piece.result _ (err_from_is_err_and c.from_residual-in_err-piece.result c.from_residual-in_err-piece.ensures.1)
     (λ failed clean.
-    let before = i.reading (c.next.ensures.clean clean) in
-    subst (λ (n : ℕ). MoreFaults n new) i.calm (failed clean before.0 (subst (λ (f : List ℕ). IsReading f c.loop-wanted.lines before.0) (sym i.seen) before.1))) c.in_err-piece.ensures.cause
+    let before = i.reading (c.next.ensures.read.clean clean) in
+    subst (λ (n : ℕ). MoreFaults n new) i.calm (failed clean before.0 (subst (λ (f : List ℕ). IsReading f c.loop-wanted.lines before.0) (sym i.read.left.same) before.1))) c.in_err-piece.ensures.cause

@@ -1,4 +1,5 @@
-use Rattle.std.proofs.Common.{◌≡◌, ◌<◌, ◌-◌, ◌^◌, List, ℕ, IsTrue}
+use Rattle.std.proofs.Common.{◌≡◌, ◌<◌, ◌-◌, ◌^◌, List, ℕ}
+use Rattle.inst_log.specs.Disks.{HasKeptFaith, IsOnlyRead}
 use Rattle.inst_log.specs.Pieces.{IsReading}
 use Rattle.inst_chain.specs.Chain.{has_wanted}
 use Rattle.inst_chain.specs.Checking.{HasGoneThrough}
@@ -7,14 +8,11 @@ use Rattle.inst_chain.proofs.verifying.verify.Given as goal
 abbrev pub invariant-loop-wanted : goal.invariant-loop-wanted
 invariant-loop-wanted g l =
     record {
-      reading : IsTrue (g.D.Disk.is_clean l.disk) → (done : List (List ℕ)) × IsReading (g.D.Disk.seen l.fn.disk) l.lines done
+      reading : HasKeptFaith g.D.Disk l.disk → (done : List (List ℕ)) × IsReading (g.D.Disk.seen l.fn.disk) l.lines done
           × HasGoneThrough l.checker done × (l.has_wanted ≡ has_wanted l.fn.wanted done);
       fits : l.lines.len < 2 ^ 64;
-      seen : g.D.Disk.seen l.disk ≡ g.D.Disk.seen l.fn.disk;
-      crash : (c : List ℕ) → g.D.Disk.may_leave l.disk c → g.D.Disk.may_leave l.fn.disk c;
+      read : IsOnlyRead g.D.Disk l.fn.disk l.disk;
       calm : g.D.Disk.faults l.disk ≡ g.D.Disk.faults l.fn.disk;
-      usable : IsTrue (g.D.Disk.is_usable l.disk);
-      clean : IsTrue (g.D.Disk.is_clean l.disk) → IsTrue (g.D.Disk.is_clean l.fn.disk);
     }
 
 abbrev pub decreases-loop-wanted : goal.decreases-loop-wanted

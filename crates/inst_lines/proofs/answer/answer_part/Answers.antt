@@ -12,7 +12,7 @@ returns c =
     let out : List ℕ = c.args.out.now.items in
     record {
       ok = IfOk-weaker c.append_answer.result _ _
-          (λ refused ok. answers_line c.args.mode c.args.is_long c.args.part.now c.args.runner.now c.answer_to.new.runner answer out c.append_answer.new.out.items refused c.in_ok-answer.ensures.ok
+          (λ refused ok. answers_line c.args.mode c.args.line.is_long c.args.line.part.now c.args.runner.now c.answer_to.new.runner answer out c.append_answer.new.out.items refused c.in_ok-answer.ensures.ok
           (ok.1 ∙ ap (λ s. out ++ (compact_text (answer_data s answer) ++ newline ∷ [])) c.settings.ensures) ok.0)
           (ok_both c.append_answer.result _ _ c.append_answer.ensures.refusal c.append_answer.ensures.ok);
     }

@@ -4,6 +4,7 @@ use Rattle.inst_lines.specs.Lines.{lines_of}
 use Rattle.inst_lines.specs.Session.{FailsAfter}
 use Rattle.inst_lines.proofs.AnswerToHeldLine.{keeps_opened}
 use Rattle.inst_lines.proofs.RunBehindLines.{opened_keep}
+use Rattle.inst_lines.proofs.ProgressOfWholeRun.{counts_of}
 use Rattle.inst_lines.proofs.ProgressOfSession.{err_passed}
 use Rattle.inst_lines.proofs.run.serve_lines.Goals as goal
 
@@ -15,17 +16,18 @@ pub returns-clause-runner : goal.returns-clause-runner
 returns-clause-runner g c =
     c.in_ok-counts.ensures.runner (new_past c.args.settings.now) (keeps_opened c.args.settings.now c.in_ok-runner.runner c.in_ok-runner.ensures.settings c.in_ok-runner.ensures.watches c.args.mode)
 
-pub returns-clause-lines : goal.returns-clause-lines
-returns-clause-lines g c =
-    c.in_ok-counts.ensures.lines (new_past c.args.settings.now) (keeps_opened c.args.settings.now c.in_ok-runner.runner c.in_ok-runner.ensures.settings c.in_ok-runner.ensures.watches c.args.mode)
+pub returns-clause-counts : goal.returns-clause-counts
+returns-clause-counts g c =
+    let past = new_past c.args.settings.now in
+    let keeps = keeps_opened c.args.settings.now c.in_ok-runner.runner c.in_ok-runner.ensures.settings c.in_ok-runner.ensures.watches c.args.mode in
+    counts_of (hub_answerer c.args.mode) past (g.R.Read.remaining c.args.reader.now) c.in_ok-counts.counts (c.in_ok-counts.ensures.lines past keeps) (c.in_ok-counts.ensures.refused past keeps)
 
-pub returns-clause-refused : goal.returns-clause-refused
-returns-clause-refused g c =
-    c.in_ok-counts.ensures.refused (new_past c.args.settings.now) (keeps_opened c.args.settings.now c.in_ok-runner.runner c.in_ok-runner.ensures.settings c.in_ok-runner.ensures.watches c.args.mode)
-
-pub returns-clause-limits : goal.returns-clause-limits
-returns-clause-limits g c =
-    c.in_ok-counts.ensures.limits (new_past c.args.settings.now) (keeps_opened c.args.settings.now c.in_ok-runner.runner c.in_ok-runner.ensures.settings c.in_ok-runner.ensures.watches c.args.mode)
+pub returns-clause-end : goal.returns-clause-end
+returns-clause-end g c = record {
+  at_end = c.in_ok-counts.ensures.end;
+  limits =
+      c.in_ok-counts.ensures.limits (new_past c.args.settings.now) (keeps_opened c.args.settings.now c.in_ok-runner.runner c.in_ok-runner.ensures.settings c.in_ok-runner.ensures.watches c.args.mode);
+}
 
 pub returns-in_err-counts-clause-err : goal.returns-in_err-counts-clause-err
 returns-in_err-counts-clause-err g c =

@@ -17,11 +17,8 @@ loop-found-init g c =
           subst (λ (l : List ℕ). IsReading file c.in_ok-lines.lines (recovered_lines l)) (sym none) (c.in_ok-lines.ensures.reading clean [] file refl refl refl);
       whole = subst AreWholeLines (sym none) refl;
       found = ap (λ (l : List ℕ). length (recovered_lines l)) (sym none);
-      seen = c.new.ensures.seen;
-      crash = c.new.ensures.crash;
-      calm = c.in_ok-lines.ensures.calm;
-      usable = c.new.ensures.usable;
-      clean = c.new.ensures.clean;
+      read = c.new.ensures.read;
+      calm = c.in_ok-lines.ensures.cause;
     }
 
 pub overflow_add-found : goal.overflow_add-found
@@ -47,16 +44,20 @@ loop-found-preserved g c =
     let counted : c.count_lines.result ≡ length (recovered_lines piece) = c.count_lines.ensures.count ∙ ap (λ (l : List ℕ). length (recovered_lines l)) c.deref.ensures.value in
     record {
       reading = λ clean.
-          let was = subst (λ (f : List ℕ). IsReading f c.loop-found.lines (recovered_lines text)) (sym i.seen) (i.reading (c.next.ensures.clean clean)) in
-          let now = subst (λ (f : List ℕ). IsReading f c.next.new.self (recovered_lines text ++ recovered_lines piece)) i.seen (c.in_ok-piece.ensures.reading clean (recovered_lines text) was) in
+          let was = subst (λ (f : List ℕ). IsReading f c.loop-found.lines (recovered_lines text)) (sym i.read.left.same) (i.reading (c.next.ensures.read.clean clean)) in
+          let now = subst (λ (f : List ℕ). IsReading f c.next.new.self (recovered_lines text ++ recovered_lines piece)) i.read.left.same (c.in_ok-piece.ensures.lines.reading clean (recovered_lines text) was) in
           subst (IsReading file c.next.new.self) (sym lines) now;
-      whole = subst AreWholeLines (sym both) (whole_more text piece i.whole c.in_ok-piece.ensures.whole);
+      whole = subst AreWholeLines (sym both) (whole_more text piece i.whole c.in_ok-piece.ensures.lines.whole);
       found = omega (arith, i.found, counted, ap length lines, length-append (recovered_lines text) (recovered_lines piece));
-      seen = c.next.ensures.seen ∙ i.seen;
-      crash = λ left may. i.crash left (c.next.ensures.crash left may);
-      calm = c.in_ok-piece.ensures.calm ∙ i.calm;
-      usable = c.next.ensures.usable;
-      clean = λ clean. i.clean (c.next.ensures.clean clean);
+      read = record {
+        left = record {
+          same = c.next.ensures.read.left.same ∙ i.read.left.same;
+          crash = λ left may. i.read.left.crash left (c.next.ensures.read.left.crash left may);
+        };
+        usable = c.next.ensures.read.usable;
+        clean = λ clean. i.read.clean (c.next.ensures.read.clean clean);
+      };
+      calm = c.in_ok-piece.ensures.cause ∙ i.calm;
     }
 
 pub returns-clause-lines : goal.returns-clause-lines
@@ -84,4 +85,4 @@ returns-in_err-piece-clause-cause g c =
     let done = recovered_lines c.loop-found.text.items in
     counts_passed _ _ _ c.from_residual-in_err-piece.result _ (err_from_is_err_and c.from_residual-in_err-piece.result c.from_residual-in_err-piece.ensures.1)
     (λ failed clean. subst (λ (n : ℕ). MoreFaults n new) i.calm
-    (failed clean done (subst (λ (f : List ℕ). IsReading f c.loop-found.lines done) (sym i.seen) (i.reading (c.next.ensures.clean clean))))) c.in_err-piece.ensures.cause
+    (failed clean done (subst (λ (f : List ℕ). IsReading f c.loop-found.lines done) (sym i.read.left.same) (i.reading (c.next.ensures.read.clean clean))))) c.in_err-piece.ensures.cause

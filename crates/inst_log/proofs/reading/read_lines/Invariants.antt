@@ -1,4 +1,5 @@
-use Rattle.std.proofs.Common.{◌≡◌, ◌-◌, List, ℕ, length, IsTrue}
+use Rattle.std.proofs.Common.{◌≡◌, ◌-◌, length}
+use Rattle.inst_log.specs.Disks.{HasKeptFaith, IsOnlyRead}
 use Rattle.inst_log.specs.Layout.{recovered_lines, AreWholeLines}
 use Rattle.inst_log.specs.Pieces.{IsReading}
 use Rattle.inst_log.proofs.reading.read_lines.Given as goal
@@ -6,14 +7,11 @@ use Rattle.inst_log.proofs.reading.read_lines.Given as goal
 abbrev pub invariant-loop-found : goal.invariant-loop-found
 invariant-loop-found g l =
     record {
-      reading : IsTrue (g.D.Disk.is_clean l.disk) → IsReading (g.D.Disk.seen l.fn.disk) l.lines (recovered_lines l.text.items);
+      reading : HasKeptFaith g.D.Disk l.disk → IsReading (g.D.Disk.seen l.fn.disk) l.lines (recovered_lines l.text.items);
       whole : AreWholeLines l.text.items;
       found : l.found ≡ length (recovered_lines l.text.items);
-      seen : g.D.Disk.seen l.disk ≡ g.D.Disk.seen l.fn.disk;
-      crash : (c : List ℕ) → g.D.Disk.may_leave l.disk c → g.D.Disk.may_leave l.fn.disk c;
+      read : IsOnlyRead g.D.Disk l.fn.disk l.disk;
       calm : g.D.Disk.faults l.disk ≡ g.D.Disk.faults l.fn.disk;
-      usable : IsTrue (g.D.Disk.is_usable l.disk);
-      clean : IsTrue (g.D.Disk.is_clean l.disk) → IsTrue (g.D.Disk.is_clean l.fn.disk);
     }
 
 abbrev pub decreases-loop-found : goal.decreases-loop-found

@@ -4,9 +4,6 @@ use Rattle.inst_log.proofs.surveying.survey.Goals as goal
 pub loop-lines-init : goal.loop-lines-init
 loop-lines-init g c = record {
   reading = λ clean. ([], c.in_ok-lines.ensures.reading clean [] (g.D.Disk.seen c.args.disk.now) refl refl refl);
-  seen = c.new.ensures.seen;
-  crash = c.new.ensures.crash;
-  calm = c.in_ok-lines.ensures.calm;
-  usable = c.new.ensures.usable;
-  clean = c.new.ensures.clean;
+  read = c.new.ensures.read;
+  calm = c.in_ok-lines.ensures.cause;
 }

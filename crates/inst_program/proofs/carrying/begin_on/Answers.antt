@@ -6,7 +6,7 @@ use Rattle.inst_logged.specs.declared.version.Version.TheVariants.{Two}
 use Rattle.inst_logged.proofs.CausesOfRefusal.{not_taken}
 use Rattle.std.proofs.lemmas.Result.{on_ok_weaker}
 use Rattle.std.specs.declared.alloc.Global.{Global}
-use Rattle.inst_logged.specs.Running.{HasKeptFaith}
+use Rattle.inst_log.specs.Disks.{HasKeptFaith}
 use Rattle.inst_program.specs.Files.{change_on}
 use Rattle.inst_program.specs.Keeping.{IsBegun}
 use Rattle.inst_program.proofs.LogOnReturnedDisk.{begun_new, begun_on, begun_with, left_equal, safe_on}

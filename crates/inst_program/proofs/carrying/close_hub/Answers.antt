@@ -3,7 +3,7 @@ use Rattle.inst_agenda.specs.declared.runner.Runner.{Runner}
 use Rattle.inst_world.specs.HasRun.{world_settings}
 use Rattle.inst_world.specs.NextOpening.{CanOpenFrom}
 use Rattle.inst_logged.specs.Header.{header_from}
-use Rattle.inst_logged.specs.Running.{HasKeptFaith}
+use Rattle.inst_log.specs.Disks.{HasKeptFaith}
 use Rattle.inst_logged.specs.declared.version.Version.TheVariants.{Two}
 use Rattle.inst_program.specs.Files.{change_on}
 use Rattle.inst_program.specs.Keeping.{CarriesBooks}

@@ -1,5 +1,5 @@
 use Rattle.std.proofs.Common.{refl, subst}
-use Rattle.inst_logged.specs.Running.{HasKeptFaith}
+use Rattle.inst_log.specs.Disks.{HasKeptFaith}
 use Rattle.inst_program.specs.Keeping.{kept_run}
 use Rattle.inst_program.proofs.LogOnReturnedDisk.{begun_with, keeps_lines, left_as_it_was, left_behind, left_equal, unkept_at_once, unkept_on}
 use Rattle.inst_program.proofs.keeping.keep_on.Goals as goal

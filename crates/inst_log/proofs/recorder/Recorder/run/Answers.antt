@@ -1,4 +1,4 @@
-use Rattle.std.proofs.Common.{◌≡◌, ℕ, ◌≤◌, ◌+◌, ◌^◌, List, [], ◌++◌, length, length-append, ap, subst, arith, IsTrue}
+use Rattle.std.proofs.Common.{◌≡◌, ℕ, ◌≤◌, ◌+◌, ◌^◌, List, [], ◌++◌, length, length-append, ◌∙◌, ap, subst, arith, IsTrue}
 use Rattle.std.specs.Bool.{⊤}
 use Rattle.std.proofs.lemmas.Result.{on_ok_weaker, IfErr-weaker}
 use Rattle.sqlite_disk.specs.Disk.{MoreFaults}
@@ -12,11 +12,16 @@ use Rattle.inst_log.proofs.ToldRepliesAreKept.{owing_on, tells_more, run_kept, r
 use Rattle.inst_log.proofs.recorder.Recorder.run.Goals as goal
 
 pub returns-in_err-reopen-clause-any_moment : goal.returns-in_err-reopen-clause-any_moment
-returns-in_err-reopen-clause-any_moment g c clean =
+returns-in_err-reopen-clause-any_moment g c =
     let settings = c.args.settings.now in
     let first = lines_after_settings settings (g.D.Disk.seen c.args.self.now.log.disk) in
-    reopen_kept (Owing (g.A.Responder.says c.args.self.now.answers) first c.args.told) first settings _ _ _ (batch_lines c.args.batches.now)
-    (c.reopen.ensures.part clean) (λ left may. (c.reopen.ensures.any_moment clean left may).lines)
+    record {
+      kept = λ clean.
+          reopen_kept (Owing (g.A.Responder.says c.args.self.now.answers) first c.args.told) first settings _ _ _ (batch_lines c.args.batches.now)
+          (c.reopen.ensures.part clean) (λ left may. (c.reopen.ensures.any_moment.alike clean left may).lines);
+      opens = λ clean opens left may. (c.reopen.ensures.any_moment.alike clean left may).opens opens;
+      clean = c.reopen.ensures.any_moment.clean;
+    }
 
 pub returns-clause-cause : goal.returns-clause-cause
 returns-clause-cause g c =
@@ -35,42 +40,45 @@ returns-clause-cause g c =
     let rests = clean → IsSettled g.D.Disk.seen g.D.Disk.may_leave new in
     IfErr-weaker c.serve_all.result _ _ (λ error cause.
     unanswered_so before (Unopened settings file clean same failed) (2 ^ 62 ≤ mid.end + length (blocks lines)) full ⊥ few rests rests error
-    (λ e fault. unopened settings file clean same (MoreFaults (g.D.Disk.faults mid.disk) (g.D.Disk.faults new.disk)) failed e (λ more is. subst (λ (n : ℕ). MoreFaults n (g.D.Disk.faults new.disk)) c.in_ok-reopen.ensures.calm more) fault)
+    (λ e fault. unopened settings file clean same (MoreFaults (g.D.Disk.faults mid.disk) (g.D.Disk.faults new.disk)) failed e (λ more is. subst (λ (n : ℕ). MoreFaults n (g.D.Disk.faults new.disk)) c.in_ok-reopen.ensures.log.calm more) fault)
     (λ many is.
-    let (settled, stand) = c.in_ok-reopen.ensures.settled (subst IsTrue c.serve_all.ensures.clean is) in
+    let (settled, stand) = c.in_ok-reopen.ensures.log.settled (subst IsTrue c.serve_all.ensures.clean is) in
     omega (arith, many, settled.closed.ends, ap (λ (ls : List (List ℕ)). length (blocks ls)) stand, ap length (blocks-append (recovered_lines settings ++ lines_after_settings settings file) lines), length-append (blocks (recovered_lines settings ++ lines_after_settings settings file)) (blocks lines)))
     (λ none. absurd none) (λ f. f) cause) c.serve_all.ensures.cause
 
-pub returns-clause-replied : goal.returns-clause-replied
-returns-clause-replied g c =
-    on_ok_weaker c.serve_all.result (λ told clean.
-    let was = subst IsTrue c.serve_all.ensures.clean clean in
+pub returns-clause-ok : goal.returns-clause-ok
+returns-clause-ok g c =
+    on_ok_weaker c.serve_all.result (λ answered.
     let old = g.A.Responder.says c.args.self.now.answers in
     let mid = g.A.Responder.says c.reopen.new.self.answers in
     let first = lines_after_settings c.args.settings.now (g.D.Disk.seen c.args.self.now.log.disk) in
-    tells_more (Owing old first c.args.told) mid _ _ _ [] (batch_lines c.args.batches.now)
-    (owing_on old first c.args.told mid (c.in_ok-reopen.ensures.on was) (c.in_ok-reopen.ensures.told was))
-    (c.in_ok-reopen.ensures.replied was) told) c.serve_all.ensures.replied
-
-pub returns-clause-began : goal.returns-clause-began
-returns-clause-began g c =
-    on_ok_weaker c.serve_all.result (λ told clean. c.in_ok-reopen.ensures.began (subst IsTrue c.serve_all.ensures.clean clean)) c.serve_all.ensures.replied
+    record {
+      settled = λ clean.
+          let (settled, stand) = answered.gained.log.settled clean in
+          (settled, stand ∙ ap (λ (ls : List (List ℕ)). ls ++ batch_lines c.args.batches.now) (c.in_ok-reopen.ensures.log.settled (subst IsTrue c.serve_all.ensures.clean clean)).1);
+      replied = λ clean.
+          let was = subst IsTrue c.serve_all.ensures.clean clean in
+          tells_more (Owing old first c.args.told) mid _ _ _ [] (batch_lines c.args.batches.now)
+          (owing_on old first c.args.told mid (c.in_ok-reopen.ensures.on was) (c.in_ok-reopen.ensures.told was))
+          (c.in_ok-reopen.ensures.replied was) answered.replied;
+      began = λ clean. c.in_ok-reopen.ensures.began (subst IsTrue c.serve_all.ensures.clean clean);
+    }) c.serve_all.ensures.ok
 
 pub returns-clause-any_moment : goal.returns-clause-any_moment
-returns-clause-any_moment g c clean =
+returns-clause-any_moment g c =
     let settings = c.args.settings.now in
-    let was = subst IsTrue c.serve_all.ensures.clean clean in
     let old = g.A.Responder.says c.args.self.now.answers in
     let mid = g.A.Responder.says c.reopen.new.self.answers in
     let first = lines_after_settings settings (g.D.Disk.seen c.args.self.now.log.disk) in
-    run_kept (Owing old first c.args.told) first settings _ mid _ _ _ _ (batch_lines c.args.batches.now)
-    (owing_on old first c.args.told mid (c.in_ok-reopen.ensures.on was) (c.in_ok-reopen.ensures.told was))
-    (c.in_ok-reopen.ensures.replied was) (c.in_ok-reopen.ensures.settled was).1 (c.serve_all.ensures.any_moment clean)
-
-pub returns-clause-opens : goal.returns-clause-opens
-returns-clause-opens g c clean opens left may =
-    let settings = c.args.settings.now in
-    let first = lines_after_settings settings (g.D.Disk.seen c.args.self.now.log.disk) in
-    let was = subst IsTrue c.serve_all.ensures.clean clean in
-    run_opens (Owing (g.A.Responder.says c.args.self.now.answers) first c.args.told) first settings _ (g.A.Responder.says c.reopen.new.self.answers) _ _ _ (batch_lines c.args.batches.now)
-    (c.in_ok-reopen.ensures.settled was).1 (c.serve_all.ensures.any_moment clean) left may
+    record {
+      kept = λ clean.
+          let was = subst IsTrue c.serve_all.ensures.clean clean in
+          run_kept (Owing old first c.args.told) first settings _ mid _ _ _ _ (batch_lines c.args.batches.now)
+          (owing_on old first c.args.told mid (c.in_ok-reopen.ensures.on was) (c.in_ok-reopen.ensures.told was))
+          (c.in_ok-reopen.ensures.replied was) (c.in_ok-reopen.ensures.log.settled was).1 (c.serve_all.ensures.any_moment clean);
+      opens = λ clean opens left may.
+          let was = subst IsTrue c.serve_all.ensures.clean clean in
+          run_opens (Owing old first c.args.told) first settings _ mid _ _ _ (batch_lines c.args.batches.now)
+          (c.in_ok-reopen.ensures.log.settled was).1 (c.serve_all.ensures.any_moment clean) left may;
+      clean = λ clean. c.reopen.ensures.any_moment.clean (subst IsTrue c.serve_all.ensures.clean clean);
+    }

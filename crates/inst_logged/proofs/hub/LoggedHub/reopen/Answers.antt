@@ -2,7 +2,7 @@ use Rattle.std.proofs.Common.{inl, inr, refl, ◌∙◌, sym, subst}
 use Rattle.std.proofs.lemmas.Result.{err_from_is_err_and}
 use Rattle.inst_log.specs.Layout.{EndsWell}
 use Rattle.inst_logged.specs.declared.error.LoggedError.TheVariants.{Log}
-use Rattle.inst_logged.specs.Running.{HasSameFile}
+use Rattle.inst_log.specs.Disks.{HasSameFile}
 use Rattle.inst_logged.proofs.CausesOfRefusal.{cause_of_none}
 use Rattle.inst_logged.proofs.CausesOfRefusalByCall.{passed, starts_as, unopened_cause, told_cause}
 use Rattle.inst_logged.proofs.FailuresOfLoggedHub.{failed_so, more_faults, unopened_fails}
@@ -27,7 +27,7 @@ pub returns-in_err-start-clause-err : goal.returns-in_err-start-clause-err
 returns-in_err-start-clause-err g c =
     let self = c.args.self.now in
     let file = g.D.Disk.seen self.recorder.log.disk in
-    let left : HasSameFile g.D.Disk self.recorder.log.disk c.inspect.new.self.disk = record { same = c.inspect.ensures.same.0 ∙ c.examine.ensures.read.left.same; crash = λ f may. c.examine.ensures.read.left.crash f (c.inspect.ensures.crash f may) } in
+    let left : HasSameFile g.D.Disk self.recorder.log.disk c.inspect.new.self.disk = record { same = c.inspect.ensures.read.0.left.same ∙ c.examine.ensures.read.left.same; crash = λ f may. c.examine.ensures.read.left.crash f (c.inspect.ensures.read.0.left.crash f may) } in
     passed _ c.from_residual-in_err-start.result _ (err_from_is_err_and c.from_residual-in_err-start.result c.from_residual-in_err-start.ensures.1)
     (record {
       refused = λ _. (refl, left);
@@ -46,16 +46,16 @@ returns-in_err-start_again-clause-err g c =
     let header = self.header.items in
     let file = g.D.Disk.seen self.recorder.log.disk in
     let left : HasSameFile g.D.Disk self.recorder.log.disk c.start_again.new.recorder.log.disk = record {
-      same = c.start_again.ensures.same.read.left.same ∙ c.inspect.ensures.same.0 ∙ c.examine.ensures.read.left.same;
-      crash = λ f may. c.examine.ensures.read.left.crash f (c.inspect.ensures.crash f (c.start_again.ensures.same.read.left.crash f may));
+      same = c.start_again.ensures.same.read.left.same ∙ c.inspect.ensures.read.0.left.same ∙ c.examine.ensures.read.left.same;
+      crash = λ f may. c.examine.ensures.read.left.crash f (c.inspect.ensures.read.0.left.crash f (c.start_again.ensures.same.read.left.crash f may));
     } in
     passed _ c.from_residual-in_err-start_again.result _ (err_from_is_err_and c.from_residual-in_err-start_again.result c.from_residual-in_err-start_again.ensures.1)
     (record {
       refused = λ refused. ((c.in_err-start_again.ensures.replays.refused refused).1, left);
       begun = λ clean.
           let before = c.start_again.ensures.same.read.clean clean in
-          let found = c.in_ok-found.ensures.found (c.inspect.ensures.clean before) in
-          let enough = rw (c.as_slice-header.ensures.value, c.inspect.ensures.same.0, c.examine.ensures.read.left.same) at (c.in_err-start_again.ensures.replays.begun clean) in
+          let found = c.in_ok-found.ensures.found (c.inspect.ensures.read.0.clean before) in
+          let enough = rw (c.as_slice-header.ensures.value, c.inspect.ensures.read.0.left.same, c.examine.ensures.read.left.same) at (c.in_err-start_again.ensures.replays.begun clean) in
           elim enough [
             | inl still ↦ inl (still, left)
             | inr there ↦ inr (record {
@@ -67,10 +67,10 @@ returns-in_err-start_again-clause-err g c =
           ];
       cause = λ clean. told_cause self.version header c.args.told c.args.wanted file c.in_err-start_again.field-0.0
           (λ refused.
-          let why = rw (c.as_slice-header.ensures.value, c.inspect.ensures.same.0, c.examine.ensures.read.left.same) at (c.in_err-start_again.ensures.replays.refused refused) in
+          let why = rw (c.as_slice-header.ensures.value, c.inspect.ensures.read.0.left.same, c.examine.ensures.read.left.same) at (c.in_err-start_again.ensures.replays.refused refused) in
           (why.0, why.2 clean)) (c.in_err-start_again.ensures.replays.failure clean).0;
       failure = λ clean.
-          failed_so _ _ ⊥ ⊥ _ _ c.in_err-start_again.field-0.0 (λ failed. more_faults _ _ _ (c.in_ok-start.ensures.calm ∙ c.in_ok-found.ensures.failure) failed) (λ no. no) (λ _. inr left)
+          failed_so _ _ ⊥ ⊥ _ _ c.in_err-start_again.field-0.0 (λ failed. more_faults _ _ _ (c.in_ok-start.ensures.cause ∙ c.in_ok-found.ensures.failure) failed) (λ no. no) (λ _. inr left)
           (c.in_err-start_again.ensures.replays.failure clean).1;
     })
 
@@ -83,21 +83,21 @@ returns-in_err-self-clause-err g c =
     let file = g.D.Disk.seen self.recorder.log.disk in
     passed _ c.from_residual-in_err-self.result _ (err_from_is_err_and c.from_residual-in_err-self.result c.from_residual-in_err-self.ensures.1)
     (record {
-      refused = λ refused. absurd (c.in_err-self.ensures.unrefused refused);
+      refused = λ refused. absurd (c.in_err-self.ensures.failure.unrefused refused);
       begun = λ clean.
-          let after = c.open_measured.ensures.clean clean in
+          let after = c.open_measured.ensures.any_moment.clean clean in
           let before = c.start_again.ensures.same.read.clean after in
-          let found = c.in_ok-found.ensures.found (c.inspect.ensures.clean before) in
+          let found = c.in_ok-found.ensures.found (c.inspect.ensures.read.0.clean before) in
           inr (record {
             intact = verified_intact self.version file c.in_ok-found.found.marker found.verified;
             opens = starts_as header file c.in_ok-start.start (rw (c.as_slice-header.ensures.value, c.examine.ensures.read.left.same) at (c.in_ok-start.ensures.start before));
-            enough = (rw (c.as_slice-header.ensures.value, c.inspect.ensures.same.0, c.examine.ensures.read.left.same) at (c.in_ok-start_again.ensures.replays.replayed after)).enough;
+            enough = (rw (c.as_slice-header.ensures.value, c.inspect.ensures.read.0.left.same, c.examine.ensures.read.left.same) at (c.in_ok-start_again.ensures.replays.replayed after)).enough;
             digest = found.digest;
           });
-      cause = λ clean. cause_of_none self.version header c.args.told c.args.wanted file c.in_err-self.field-0.0 c.in_err-self.ensures.unrefused (c.in_err-self.ensures.failure clean).0;
+      cause = λ clean. cause_of_none self.version header c.args.told c.args.wanted file c.in_err-self.field-0.0 c.in_err-self.ensures.failure.unrefused (c.in_err-self.ensures.failure.failure clean).0;
       failure = λ clean.
-          failed_so _ _ ⊥ ⊥ _ _ c.in_err-self.field-0.0 (λ failed. more_faults _ _ _ (c.in_ok-start_again.ensures.replays.failure ∙ c.in_ok-start.ensures.calm ∙ c.in_ok-found.ensures.failure) failed) (λ no. no) (λ no. absurd no)
-          (c.in_err-self.ensures.failure clean).1;
+          failed_so _ _ ⊥ ⊥ _ _ c.in_err-self.field-0.0 (λ failed. more_faults _ _ _ (c.in_ok-start_again.ensures.replays.failure ∙ c.in_ok-start.ensures.cause ∙ c.in_ok-found.ensures.failure) failed) (λ no. no) (λ no. absurd no)
+          (c.in_err-self.ensures.failure.failure clean).1;
     })
 
 pub returns-in_err-self-clause-any_moment : goal.returns-in_err-self-clause-any_moment
@@ -105,32 +105,32 @@ returns-in_err-self-clause-any_moment g c clean =
     let self = c.args.self.now in
     let header = self.header.items in
     let file = g.D.Disk.seen self.recorder.log.disk in
-    let seen = c.start_again.ensures.same.read.left.same ∙ c.inspect.ensures.same.0 ∙ c.examine.ensures.read.left.same in
+    let seen = c.start_again.ensures.same.read.left.same ∙ c.inspect.ensures.read.0.left.same ∙ c.examine.ensures.read.left.same in
     record {
-      alike = λ left may. rw (c.as_slice-header.ensures.value, seen) at (c.open_measured.ensures.any_moment clean left may);
-      stands = λ left may. rw (c.as_slice-header.ensures.value, seen) at (c.open_measured.ensures.stands clean left may);
+      alike = λ left may. rw (c.as_slice-header.ensures.value, seen) at (c.open_measured.ensures.any_moment.alike clean left may);
+      stands = λ left may. rw (c.as_slice-header.ensures.value, seen) at (c.open_measured.ensures.any_moment.stands clean left may);
       intact = λ mixes before left may.
           opening_intact self.version header file left self.marker c.requires.ready.unbegun.begins before
-          (rw (c.as_slice-header.ensures.value, seen) at (c.open_measured.ensures.stands clean left may))
-          (λ well. c.open_measured.ensures.shut mixes clean (subst EndsWell (sym seen) well) left may);
+          (rw (c.as_slice-header.ensures.value, seen) at (c.open_measured.ensures.any_moment.stands clean left may))
+          (λ well. c.open_measured.ensures.any_moment.shut mixes clean (subst EndsWell (sym seen) well) left may);
     }
 
 -- a marker was found
 
 pub returns-in-Some-clause-ok : goal.returns-in-Some-clause-ok
 returns-in-Some-clause-ok g c = (
-  c.in_ok-self.ensures.usable,
+  c.in_ok-self.ensures.log.usable,
   λ clean.
       let self = c.args.self.now in
       let header = self.header.items in
       let file = g.D.Disk.seen self.recorder.log.disk in
       let disk = c.open_measured.new.log.disk in
-      let seen = c.start_again.ensures.same.read.left.same ∙ c.inspect.ensures.same.0 ∙ c.examine.ensures.read.left.same in
-      let after = c.open_measured.ensures.clean clean in
+      let seen = c.start_again.ensures.same.read.left.same ∙ c.inspect.ensures.read.0.left.same ∙ c.examine.ensures.read.left.same in
+      let after = c.open_measured.ensures.any_moment.clean clean in
       let before = c.start_again.ensures.same.read.clean after in
-      let found = c.in_ok-found.ensures.found (c.inspect.ensures.clean before) in
-      let replayed = rw (c.as_slice-header.ensures.value, c.inspect.ensures.same.0, c.examine.ensures.read.left.same) at (c.in_ok-start_again.ensures.replays.replayed after) in
-      let settled = c.in_ok-self.ensures.settled clean in
+      let found = c.in_ok-found.ensures.found (c.inspect.ensures.read.0.clean before) in
+      let replayed = rw (c.as_slice-header.ensures.value, c.inspect.ensures.read.0.left.same, c.examine.ensures.read.left.same) at (c.in_ok-start_again.ensures.replays.replayed after) in
+      let settled = c.in_ok-self.ensures.log.settled clean in
       let lines = rw (c.as_slice-header.ensures.value, seen) at settled.1 in
       record {
         taken = record {
@@ -142,10 +142,10 @@ returns-in-Some-clause-ok g c = (
         settled = settled.0;
         lines = lines;
         intact = opened_found self.version header file (g.D.Disk.seen disk) c.in_ok-found.found.marker c.in-Some.marker self.marker c.in-Some.is found.verified
-            (rw (c.as_slice-header.ensures.value, seen) at (c.open_measured.ensures.stands clean (g.D.Disk.seen disk) (g.met.D.Disk.seen_may_stay disk)))
-            (λ well. c.in_ok-self.ensures.shut_now clean (subst EndsWell (sym seen) well));
+            (rw (c.as_slice-header.ensures.value, seen) at (c.open_measured.ensures.any_moment.stands clean (g.D.Disk.seen disk) (g.met.D.Disk.seen_may_stay disk)))
+            (λ well. c.in_ok-self.ensures.log.shut clean (subst EndsWell (sym seen) well));
         replayed = replayed;
-        calm = c.in_ok-self.ensures.failure ∙ c.in_ok-start_again.ensures.replays.failure ∙ c.in_ok-start.ensures.calm ∙ c.in_ok-found.ensures.failure;
+        calm = c.in_ok-self.ensures.failure.failure ∙ c.in_ok-start_again.ensures.replays.failure ∙ c.in_ok-start.ensures.cause ∙ c.in_ok-found.ensures.failure;
         size = c.in_ok-self.ensures.size clean;
       },
 )
@@ -155,32 +155,32 @@ returns-in-Some-clause-any_moment g c clean =
     let self = c.args.self.now in
     let header = self.header.items in
     let file = g.D.Disk.seen self.recorder.log.disk in
-    let seen = c.start_again.ensures.same.read.left.same ∙ c.inspect.ensures.same.0 ∙ c.examine.ensures.read.left.same in
+    let seen = c.start_again.ensures.same.read.left.same ∙ c.inspect.ensures.read.0.left.same ∙ c.examine.ensures.read.left.same in
     record {
-      alike = λ left may. rw (c.as_slice-header.ensures.value, seen) at (c.open_measured.ensures.any_moment clean left may);
-      stands = λ left may. rw (c.as_slice-header.ensures.value, seen) at (c.open_measured.ensures.stands clean left may);
+      alike = λ left may. rw (c.as_slice-header.ensures.value, seen) at (c.open_measured.ensures.any_moment.alike clean left may);
+      stands = λ left may. rw (c.as_slice-header.ensures.value, seen) at (c.open_measured.ensures.any_moment.stands clean left may);
       intact = λ mixes before left may.
           opening_intact self.version header file left self.marker c.requires.ready.unbegun.begins before
-          (rw (c.as_slice-header.ensures.value, seen) at (c.open_measured.ensures.stands clean left may))
-          (λ well. c.open_measured.ensures.shut mixes clean (subst EndsWell (sym seen) well) left may);
+          (rw (c.as_slice-header.ensures.value, seen) at (c.open_measured.ensures.any_moment.stands clean left may))
+          (λ well. c.open_measured.ensures.any_moment.shut mixes clean (subst EndsWell (sym seen) well) left may);
     }
 
 -- it had no line
 
 pub returns-in-None-clause-ok : goal.returns-in-None-clause-ok
 returns-in-None-clause-ok g c = (
-  c.in_ok-self.ensures.usable,
+  c.in_ok-self.ensures.log.usable,
   λ clean.
       let self = c.args.self.now in
       let header = self.header.items in
       let file = g.D.Disk.seen self.recorder.log.disk in
       let disk = c.open_measured.new.log.disk in
-      let seen = c.start_again.ensures.same.read.left.same ∙ c.inspect.ensures.same.0 ∙ c.examine.ensures.read.left.same in
-      let after = c.open_measured.ensures.clean clean in
+      let seen = c.start_again.ensures.same.read.left.same ∙ c.inspect.ensures.read.0.left.same ∙ c.examine.ensures.read.left.same in
+      let after = c.open_measured.ensures.any_moment.clean clean in
       let before = c.start_again.ensures.same.read.clean after in
-      let found = c.in_ok-found.ensures.found (c.inspect.ensures.clean before) in
-      let replayed = rw (c.as_slice-header.ensures.value, c.inspect.ensures.same.0, c.examine.ensures.read.left.same) at (c.in_ok-start_again.ensures.replays.replayed after) in
-      let settled = c.in_ok-self.ensures.settled clean in
+      let found = c.in_ok-found.ensures.found (c.inspect.ensures.read.0.clean before) in
+      let replayed = rw (c.as_slice-header.ensures.value, c.inspect.ensures.read.0.left.same, c.examine.ensures.read.left.same) at (c.in_ok-start_again.ensures.replays.replayed after) in
+      let settled = c.in_ok-self.ensures.log.settled clean in
       let lines = rw (c.as_slice-header.ensures.value, seen) at settled.1 in
       record {
         taken = record {
@@ -192,9 +192,9 @@ returns-in-None-clause-ok g c = (
         settled = settled.0;
         lines = lines;
         intact = opened_none self.version header file (g.D.Disk.seen disk) c.in_ok-found.found.marker self.marker c.in-None.is c.requires.ready.unbegun.begins found.verified lines
-            (λ well. c.in_ok-self.ensures.shut_now clean (subst EndsWell (sym seen) well));
+            (λ well. c.in_ok-self.ensures.log.shut clean (subst EndsWell (sym seen) well));
         replayed = replayed;
-        calm = c.in_ok-self.ensures.failure ∙ c.in_ok-start_again.ensures.replays.failure ∙ c.in_ok-start.ensures.calm ∙ c.in_ok-found.ensures.failure;
+        calm = c.in_ok-self.ensures.failure.failure ∙ c.in_ok-start_again.ensures.replays.failure ∙ c.in_ok-start.ensures.cause ∙ c.in_ok-found.ensures.failure;
         size = c.in_ok-self.ensures.size clean;
       },
 )
@@ -204,12 +204,12 @@ returns-in-None-clause-any_moment g c clean =
     let self = c.args.self.now in
     let header = self.header.items in
     let file = g.D.Disk.seen self.recorder.log.disk in
-    let seen = c.start_again.ensures.same.read.left.same ∙ c.inspect.ensures.same.0 ∙ c.examine.ensures.read.left.same in
+    let seen = c.start_again.ensures.same.read.left.same ∙ c.inspect.ensures.read.0.left.same ∙ c.examine.ensures.read.left.same in
     record {
-      alike = λ left may. rw (c.as_slice-header.ensures.value, seen) at (c.open_measured.ensures.any_moment clean left may);
-      stands = λ left may. rw (c.as_slice-header.ensures.value, seen) at (c.open_measured.ensures.stands clean left may);
+      alike = λ left may. rw (c.as_slice-header.ensures.value, seen) at (c.open_measured.ensures.any_moment.alike clean left may);
+      stands = λ left may. rw (c.as_slice-header.ensures.value, seen) at (c.open_measured.ensures.any_moment.stands clean left may);
       intact = λ mixes before left may.
           opening_intact self.version header file left self.marker c.requires.ready.unbegun.begins before
-          (rw (c.as_slice-header.ensures.value, seen) at (c.open_measured.ensures.stands clean left may))
-          (λ well. c.open_measured.ensures.shut mixes clean (subst EndsWell (sym seen) well) left may);
+          (rw (c.as_slice-header.ensures.value, seen) at (c.open_measured.ensures.any_moment.stands clean left may))
+          (λ well. c.open_measured.ensures.any_moment.shut mixes clean (subst EndsWell (sym seen) well) left may);
     }

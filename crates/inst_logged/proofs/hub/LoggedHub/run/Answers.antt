@@ -1,4 +1,6 @@
-use Rattle.std.proofs.Common.{[], inl, inr, refl, sym, subst}
+use Rattle.std.proofs.Common.{◌≡◌, ◌∙◌, [], inl, inr, refl, sym, ap, subst}
+use Rattle.inst_base.specs.Newline.{NoNewline}
+use Rattle.inst_logged.specs.Intake.{line_part}
 use Rattle.std.proofs.lemmas.Result.{err_from_is_err_and, on_ok_weaker, IfErr-weaker}
 use Rattle.inst_log.specs.Opening.{lines_after_settings}
 use Rattle.inst_log.proofs.ToldRepliesAreKept.{run_opens}
@@ -35,9 +37,22 @@ returns-in_err-reopen-clause-err g c =
     passed _ c.from_residual.result _ (err_from_is_err_and c.from_residual.result c.from_residual.ensures.1)
     (ends_still _ _ _ _ _ _ _ _ _ (λ still. (refl, still)) c.in_err-reopen.ensures.err)
 
-pub serve_all-requires-clause-intact : goal.serve_all-requires-clause-intact
-serve_all-requires-clause-intact g c clean =
-    subst (λ (v : Version). IsIntactBy v (g.D.Disk.seen c.reopen.new.self.recorder.log.disk) c.reopen.new.self.marker) (sym c.reopen.ensures.same.1) (c.in_ok-reopen.ensures.ok.1 clean).intact
+pub serve_all-requires-clause-ready : goal.serve_all-requires-clause-ready
+serve_all-requires-clause-ready g c =
+    let (usable, reopens) = c.in_ok-reopen.ensures.ok in
+    let nothing : line_part c.reopen.new.self.intake ≡ [] = ap line_part c.reopen.ensures.same.0 ∙ c.requires.ready.unbegun.nothing in
+    record {
+      measured = record {
+        is_open = record { usable = usable; settled = λ clean. (reopens clean).settled };
+        size_is = λ clean. (reopens clean).size;
+      };
+      intact = λ clean.
+          subst (λ (v : Version). IsIntactBy v (g.D.Disk.seen c.reopen.new.self.recorder.log.disk) c.reopen.new.self.marker) (sym c.reopen.ensures.same.1) (reopens clean).intact;
+      part = subst NoNewline (sym nothing) tt;
+    }
+
+pub returns-clause-end : goal.returns-clause-end
+returns-clause-end g c = on_ok_weaker c.serve_all.result (λ served. served.came.at_end) c.serve_all.ensures.ok
 
 pub returns-clause-ok : goal.returns-clause-ok
 returns-clause-ok g c =
@@ -90,4 +105,4 @@ returns-clause-err g c =
       begun = λ clean. inr (c.in_ok-reopen.ensures.ok.1 (c.serve_all.ensures.clean clean)).taken;
       cause = λ clean. cause_of_none self.version self.header.items c.args.told c.args.wanted (g.D.Disk.seen self.recorder.log.disk) e no.0 (no.1 clean).0;
       failure = λ clean. failed_so _ _ _ _ _ _ e (λ failed. more_faults _ _ _ (c.in_ok-reopen.ensures.ok.1 (c.serve_all.ensures.clean clean)).calm failed) (λ is. is) (λ is. inl is) (no.1 clean).1;
-    }) (if_err_both c.serve_all.result _ _ c.serve_all.ensures.unrefused (err_of_fails c.serve_all.result _ _ c.serve_all.ensures.failure))
+    }) (if_err_both c.serve_all.result _ _ c.serve_all.ensures.failure.unrefused (err_of_fails c.serve_all.result _ _ c.serve_all.ensures.failure.failure))

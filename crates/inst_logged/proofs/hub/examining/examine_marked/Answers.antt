@@ -15,9 +15,5 @@ returns-in_err-verified g c =
           (λ clean header told. chain_cause Two header told c.args.wanted file refl _ _ c.in_err-verified.field-0.0 clean c.in_err-verified.ensures.cause);
       failure = fails_passed _ _ c.from_residual.result _ failed
           (λ clean. chain_fails file _ _ ⊥ ⊥ c.in_err-verified.field-0.0 clean c.in_err-verified.ensures.cause);
-      read = record {
-        left = record { same = c.verify.ensures.seen; crash = c.verify.ensures.crash };
-        usable = c.verify.ensures.usable;
-        clean = c.verify.ensures.clean;
-      };
+      read = c.verify.ensures.read;
     }

@@ -15,11 +15,7 @@ returns-in_err-extent g c =
           (λ clean header told. log_cause One header told c.args.wanted file _ _ _ c.in_err-extent.field-0.0 c.in_err-extent.ensures.cause);
       failure = fails_passed _ _ c.from_residual.result _ failed
           (λ clean. log_fails _ _ _ ⊥ ⊥ c.in_err-extent.field-0.0 (λ failed. failed clean) c.in_err-extent.ensures.cause);
-      read = record {
-        left = record { same = c.survey.ensures.seen; crash = c.survey.ensures.crash };
-        usable = c.survey.ensures.usable;
-        clean = c.survey.ensures.clean;
-      };
+      read = c.survey.ensures.read;
     }
 
 pub returns : goal.returns
@@ -31,9 +27,5 @@ returns g c = record {
   };
   cause = tt;
   failure = c.in_ok-extent.ensures.cause;
-  read = record {
-    left = record { same = c.survey.ensures.seen; crash = c.survey.ensures.crash };
-    usable = c.survey.ensures.usable;
-    clean = c.survey.ensures.clean;
-  };
+  read = c.survey.ensures.read;
 }

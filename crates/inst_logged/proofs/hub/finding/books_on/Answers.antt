@@ -23,10 +23,10 @@ returns-clause-found g c = λ clean. record {
       let same : ◌≡◌ {A = Option ℕ} (Some c.in-Some.count) (Some n) = sym c.in-Some.is ∙ c.in_ok-count.ensures.back (Some n) line in
       let counted : c.in-Some.count ≡ n = cc same in
       let file = g.D.Disk.seen c.args.disk.now in
-      let header = header_from c.args.version c.args.mode s journals in
+      let header = header_from c.args.head.version c.args.mode s journals in
       let long : n + 2 ≤ c.saturating_add.result = omega (arith, counted, can.few, c.saturating_add.ensures) in
-      let lines = begins ∙ ap (λ (ls : List (List ℕ)). ls ++ lines_after_settings header file) (lines_from_books c.args.version c.args.mode s journals can.books.codes) in
-      let has = has_books c.args.version s journals (header_line c.args.version c.args.mode s (Some n)) (lines_after_settings header file) file c.deref.result.now c.saturating_add.result long lines
+      let lines = begins ∙ ap (λ (ls : List (List ℕ)). ls ++ lines_after_settings header file) (lines_from_books c.args.head.version c.args.mode s journals can.books.codes) in
+      let has = has_books c.args.head.version s journals (header_line c.args.head.version c.args.mode s (Some n)) (lines_after_settings header file) file c.deref.result.now c.saturating_add.result long lines
       (c.deref.ensures.value ∙ c.in_ok-text.ensures.lines clean) in
       c.journals_in.ensures.found journals can has counted;
 }

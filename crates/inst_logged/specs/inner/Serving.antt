@@ -1,0 +1,39 @@
+-- A hub with a log that may go on, and what it leaves while it answers lines.
+use Rattle.std.specs.Prelude.{◌≡◌, ℕ, List, length, Option, IsTrue}
+use Rattle.sqlite_disk.specs.declared.Disk.{Ghosts}
+use Rattle.inst_base.specs.Newline.{NoNewline}
+use Rattle.inst_log.specs.Disks.{HasKeptFaith}
+use Rattle.inst_log.specs.Layout.{recovered_lines, IsShut}
+use Rattle.inst_log.specs.Log.{IsOpenLog, IsBeforeOrAfter}
+use Rattle.inst_log.specs.Serving.{Replies, TellsKept}
+use Rattle.inst_log.specs.declared.log.Log.{Log}
+use Rattle.inst_logged.specs.Intake.{line_part}
+use Rattle.inst_logged.specs.Marking.{IsIntactBy}
+use Rattle.inst_logged.specs.Running.{file_of}
+use Rattle.inst_logged.specs.declared.hub.LoggedHub.{LoggedHub}
+
+-- a log is open, and its file has this size
+pub record IsMeasured {D : Type 0} (disks : Ghosts D) (size : ℕ) (log : Log D) : Type 0 where
+  pub is_open : IsOpenLog disks log
+  pub size_is : HasKeptFaith disks log.disk → size ≡ length (disks.seen log.disk)
+
+-- A hub may answer further lines: its log is open and of the size that it knows, the log's marks
+-- are right, and no whole line is held of the input.
+pub record IsServing {D : Type 0} (disks : Ghosts D) (hub : LoggedHub D) : Type 0 where
+  pub measured : IsMeasured disks hub.size hub.recorder.log
+  pub intact : HasKeptFaith disks hub.recorder.log.disk
+      → IsIntactBy hub.version (file_of disks hub) hub.marker
+  pub part : NoNewline (line_part hub.intake)
+
+-- At any moment while a batch is answered, each file that a crash may leave has the lines from
+-- before, with all of the batch or none, and each line of whose reply a byte was handed out. Where
+-- the disk leaves each byte of a write old or new, a file that ends by the closed byte 0 does so.
+pub record KeepsBatch {D : Type 0} (disks : Ghosts D) (says : Replies → Type 0)
+    (batch : List (List ℕ)) (old new : D) (before after : Option (List ℕ)) : Type 0 where
+  pub kept : HasKeptFaith disks new → TellsKept recovered_lines (disks.may_leave new) says
+      (recovered_lines (disks.seen old)) batch before after
+  pub stands : HasKeptFaith disks new → (c : List ℕ) → disks.may_leave new c →
+      IsBeforeOrAfter (recovered_lines (disks.seen old)) batch c
+  pub shut : ((d : D) → IsTrue (disks.is_mixing d)) → HasKeptFaith disks new
+      → IsShut (disks.seen old) → (c : List ℕ) → disks.may_leave new c → IsShut c
+  pub clean : HasKeptFaith disks new → HasKeptFaith disks old
