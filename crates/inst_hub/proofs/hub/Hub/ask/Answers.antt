@@ -21,27 +21,27 @@ pub give-requires-clause-has : goal.give-requires-clause-has
 give-requires-clause-has g c =
     let x = c.deref_mut.result.now in
     let found = out_of_box (key_of c.args.self.now.row) c.from-lock.result c.args.teller.now.seat c.take-participant.new.seat c.take-participant.result x c.deref_mut.ensures.value
-    c.take-participant.ensures.law c.take-participant.ensures.goes_on c.take-participant.ensures.has c.take-participant.ensures.sees in
+    c.take-participant.ensures.found.lawful c.take-participant.ensures.found.goes_on c.take-participant.ensures.taken.has c.take-participant.ensures.taken.sees in
     (x.slot.events, found.has, c.serve-answer.ensures.grows)
 
 pub give-requires-clause-law : goal.give-requires-clause-law
 give-requires-clause-law g c =
     let x = c.deref_mut.result.now in
     let found = out_of_box (key_of c.args.self.now.row) c.from-lock.result c.args.teller.now.seat c.take-participant.new.seat c.take-participant.result x c.deref_mut.ensures.value
-    c.take-participant.ensures.law c.take-participant.ensures.goes_on c.take-participant.ensures.has c.take-participant.ensures.sees in
-    since_later (key_of c.args.self.now.row) c.from-lock.result c.take-participant.result x c.serve-answer.new.self c.deref_mut.ensures.value c.take-participant.ensures.law
+    c.take-participant.ensures.found.lawful c.take-participant.ensures.found.goes_on c.take-participant.ensures.taken.has c.take-participant.ensures.taken.sees in
+    since_later (key_of c.args.self.now.row) c.from-lock.result c.take-participant.result x c.serve-answer.new.self c.deref_mut.ensures.value c.take-participant.ensures.found.lawful
     (behind_later (key_of c.args.self.now.row).words.value c.from-lock.result x c.serve-answer.new.self found.law.behind c.serve-answer.ensures.later c.serve-answer.ensures.ready)
     (serve_carries c.args.ask.now x c.serve-answer.new.self c.serve-answer.result c.serve-answer.ensures.answered c.serve-answer.ensures.err)
 
 pub returns-in_err-answer-clause-knows : goal.returns-in_err-answer-clause-knows
 returns-in_err-answer-clause-knows g c = still_knows c.args.teller.now c.take-participant.new.seat c.serve-answer.new.teller c.give.new.seat _ _ _
-    c.serve-answer.ensures.sees.kept c.take-participant.ensures.sees c.give.ensures.sees
+    c.serve-answer.ensures.sees.kept c.take-participant.ensures.taken.sees c.give.ensures.sees
 
 pub returns-in_err-answer-clause-left : goal.returns-in_err-answer-clause-left
 returns-in_err-answer-clause-left g c =
     let x = c.deref_mut.result.now in
     let found = out_of_box (key_of c.args.self.now.row) c.from-lock.result c.args.teller.now.seat c.take-participant.new.seat c.take-participant.result x c.deref_mut.ensures.value
-    c.take-participant.ensures.law c.take-participant.ensures.goes_on c.take-participant.ensures.has c.take-participant.ensures.sees in
+    c.take-participant.ensures.found.lawful c.take-participant.ensures.found.goes_on c.take-participant.ensures.taken.has c.take-participant.ensures.taken.sees in
     let y = c.serve-answer.new.self in
     let same = subst (λ (r : Result (Reply × Option Place) AllocError). OnErr r (y.slot ≡ x.slot)) c.in_err-answer.was c.serve-answer.ensures.err in
     let serves = subst (λ (r : Result (Reply × Option Place) AllocError). OnErr r (Serves x c.args.ask.now (Err alloc_error) y)) c.in_err-answer.was c.serve-answer.ensures.left in
@@ -53,13 +53,13 @@ returns-in_err-answer-clause-left g c =
 
 pub returns-clause-knows : goal.returns-clause-knows
 returns-clause-knows g c = still_knows c.args.teller.now c.take-participant.new.seat c.serve-answer.new.teller c.give.new.seat _ _ _
-    c.serve-answer.ensures.sees.kept c.take-participant.ensures.sees c.give.ensures.sees
+    c.serve-answer.ensures.sees.kept c.take-participant.ensures.taken.sees c.give.ensures.sees
 
 pub returns-clause-call : goal.returns-clause-call
 returns-clause-call g c =
     let x = c.deref_mut.result.now in
     let found = out_of_box (key_of c.args.self.now.row) c.from-lock.result c.args.teller.now.seat c.take-participant.new.seat c.take-participant.result x c.deref_mut.ensures.value
-    c.take-participant.ensures.law c.take-participant.ensures.goes_on c.take-participant.ensures.has c.take-participant.ensures.sees in
+    c.take-participant.ensures.found.lawful c.take-participant.ensures.found.goes_on c.take-participant.ensures.taken.has c.take-participant.ensures.taken.sees in
     let y = c.serve-answer.new.self in
     let ask = c.args.ask.now in
     let serves = subst (λ (r : Result (Reply × Option Place) AllocError). IfOk r (λ answer. Serves x ask (Ok answer.0) y)) c.in_ok-answer.was c.serve-answer.ensures.serves in
@@ -76,6 +76,6 @@ pub returns-clause-lock : goal.returns-clause-lock
 returns-clause-lock g c =
     let x = c.deref_mut.result.now in
     let found = out_of_box (key_of c.args.self.now.row) c.from-lock.result c.args.teller.now.seat c.take-participant.new.seat c.take-participant.result x c.deref_mut.ensures.value
-    c.take-participant.ensures.law c.take-participant.ensures.goes_on c.take-participant.ensures.has c.take-participant.ensures.sees in
+    c.take-participant.ensures.found.lawful c.take-participant.ensures.found.goes_on c.take-participant.ensures.taken.has c.take-participant.ensures.taken.sees in
     lock_of c.args.self.now c.from-lock.result x c.serve-answer.new.self c.follow_up-follow_up.result found.law c.serve-answer.ensures.later
     (subst (λ (z : Participant). IfSome c.follow_up-follow_up.result (λ f. is_participant z.slot.settings f.who ≡ true)) c.deref.ensures c.follow_up-follow_up.ensures.participant)
