@@ -1,11 +1,11 @@
 -- What contracts see of a desk and of its hands. Desks are this hub's own choice.
-use Rattle.std.specs.Prelude.{◌≡◌, ℕ, ◌<◌, ◌≤◌, List, [], length, sum_by, slice_get, Some}
+use Rattle.std.specs.Prelude.{◌≡◌, ℕ, ◌<◌, ◌≤◌, List, [], ◌∷◌, ◌++◌, length, sum_by, slice_get, Some}
 use Rattle.crossbeam_queue.specs.Passes.{view, IsPassOf, ruled_capacity}
 use Rattle.inst_desk.specs.declared.account.Account.{Account}
 use Rattle.inst_desk.specs.declared.desk.Desk.{Desk}
 use Rattle.inst_desk.specs.declared.hand.Hand.{Hand}
 use Rattle.inst_desk.specs.declared.job.Job.{Job}
-use Rattle.inst_desk.specs.Account.{MayLie, all_of}
+use Rattle.inst_desk.specs.Account.{MayLie, LiesFirst, all_of}
 use Rattle.inst_desk.specs.declared.desk.opening.TheConstants.{MOST_HANDS, MOST_ROOM}
 
 -- how many jobs it holds at most
@@ -63,6 +63,29 @@ WasFull d h = (jobs : List Job) × (length jobs ≡ capacity_of d) × MayLie (ac
 -- the desk was empty at a moment, by what this hand did until then
 abbrev pub WasEmpty : Hand → Type 0
 WasEmpty h = MayLie (account_of h) []
+
+-- the job was put behind all that the hand put
+pub record PutsJob (g h : Hand) (job : Job) : Type 0 where
+  pub put : put_of h ≡ put_of g ++ job ∷ []
+  pub taken : jobs_taken h ≡ jobs_taken g
+
+-- the job lay before all others, and was taken
+pub record TakesJob (g h : Hand) (job : Job) : Type 0 where
+  pub put : put_of h ≡ put_of g
+  pub taken : jobs_taken h ≡ jobs_taken g ++ job ∷ []
+  pub lay : LiesFirst (account_of g) job
+
+-- the hand did nothing, since the desk was full at a moment of the call
+pub record FindsFull (d : Desk) (g h : Hand) : Type 0 where
+  pub put : put_of h ≡ put_of g
+  pub taken : jobs_taken h ≡ jobs_taken g
+  pub full : WasFull d g
+
+-- the hand did nothing, since the desk was empty at a moment of the call
+pub record FindsEmpty (g h : Hand) : Type 0 where
+  pub put : put_of h ≡ put_of g
+  pub taken : jobs_taken h ≡ jobs_taken g
+  pub empty : WasEmpty g
 
 -- how many jobs a desk may hold, and how many hands it may have
 pub record MayOpenDesk (capacity hands : ℕ) : Type 0 where

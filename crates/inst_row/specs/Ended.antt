@@ -1,5 +1,5 @@
 -- A row that has ended, while the values are taken out. This hub's own choice.
-use Rattle.std.specs.Prelude.{◌≡◌, ℕ, true, false, slice_index_or, Some}
+use Rattle.std.specs.Prelude.{◌≡◌, ◌≢◌, ℕ, true, false, slice_index_or, Some}
 use Rattle.std.specs.Mem.Slots.{slots_items, slots_filled}
 use mathlib.Core.Option.{some}
 use lib.ListN.{get_elem?}
@@ -18,3 +18,9 @@ module _ {T : Type 0} where
   -- what lay behind the lock p was taken out
   abbrev pub IsOut : ℕ → EndedRow T → Type 0
   IsOut p e = slice_index_or (slots_filled e.closed.slots) (place p) false ≡ false
+
+  -- what lay behind the other locks is as it was
+  pub record OthersStay (p : ℕ) (old new : EndedRow T) : Type 0 where
+    pub locks : locks_of new ≡ locks_of old
+    pub there : (q : ℕ) (x : T) → q ≢ p → Lies q x old → Lies q x new
+    pub out : (q : ℕ) → IsOut q old → IsOut q new

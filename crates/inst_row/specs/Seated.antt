@@ -47,6 +47,27 @@ module _ {T E K : Type 0} where
     pub parts : (view_of new).parts ≡ (view_of old).parts
     pub seen : (view_of new).fronts ≡ (view_of old).fronts ++ front p h ∷ []
 
+  -- what a seat finds behind the lock p: a value that keeps its law, with a history that goes on
+  -- from all that it has seen
+  pub record IsFoundBehind (law : K → ℕ → T → Type 0) (history : T → List E) (key : K)
+      (p : ℕ) (x : T) (s : RowSeat T E K) : Type 0 where
+    pub lawful : law key p x
+    pub goes_on : GoesOn p (history x) s
+
+  -- it has taken the lock p, where it found the history h
+  pub record HasTaken (id : TableId) (key : K) (p : ℕ) (h : List E) (old new : RowSeat T E K)
+      : Type 0 where
+    pub on : IsOn id key new
+    pub has : Has p h new
+    pub sees : Sees p h old new
+
+  -- it has given the lock p back, where it left the history h
+  pub record HasGivenBack (id : TableId) (key : K) (p : ℕ) (h : List E) (old new : RowSeat T E K)
+      : Type 0 where
+    pub on : IsOn id key new
+    pub free : IsFree new
+    pub sees : Sees p h old new
+
   -- it is free and has all parts of the row
   pub record HasAll (s : RowSeat T E K) : Type 0 where
     pub free : IsFree s
@@ -65,3 +86,17 @@ module _ {T E K : Type 0} where
   abbrev pub SeesBoth : RowSeat T E K → RowSeat T E K → RowSeat T E K → Type 0
   SeesBoth old other new =
       (p : ℕ) (h : List E) → HasSeen p h new ↔ (HasSeen p h old ⊎ HasSeen p h other)
+
+  -- it has the parts of both, and has seen what either had
+  pub record HasJoined (id : TableId) (key : K) (old other new : RowSeat T E K) : Type 0 where
+    pub on : IsOn id key new
+    pub idle : IsIdle new
+    pub parts : (view_of new).parts ≡ (view_of old).parts + (view_of other).parts
+    pub sees : SeesBoth old other new
+
+  -- it has the parts that it had, and has seen what either had
+  pub record HasMet (id : TableId) (key : K) (old other new : RowSeat T E K) : Type 0 where
+    pub on : IsOn id key new
+    pub free : IsFree new
+    pub parts : (view_of new).parts ≡ (view_of old).parts
+    pub sees : SeesBoth old other new

@@ -20,7 +20,7 @@ pub struct EndedRow<T> {
 }
 
 impl<T: Drop> EndedRow<T> {
-    ghost use Rattle.inst_row.specs.Ended.{Lies, IsOut, locks_of};
+    ghost use Rattle.inst_row.specs.Ended.{Lies, IsOut, OthersStay, locks_of};
 
     /// Empties the slots between those of the locks, so that only the values are left to take out.
     pub(crate) fn of(mut closed: Closed<Option<T>, Global>, locks: usize) -> EndedRow<T>
@@ -52,9 +52,7 @@ impl<T: Drop> EndedRow<T> {
         requires lies { (x : T) × Lies lock x self.old }
         ensures value { Lies lock result self.old }
         ensures out { IsOut lock self.new }
-        ensures others { (p : ℕ) (x : T) → p ≢ lock → Lies p x self.old → Lies p x self.new }
-        ensures gone { (p : ℕ) → IsOut p self.old → IsOut p self.new }
-        ensures locks { locks_of self.new ≡ locks_of self.old }
+        ensures others { OthersStay lock self.old self.new }
     {
         let Some(value) = self.closed.take(lock * STRIDE) else {
             unreachable!()

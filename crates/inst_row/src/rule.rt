@@ -11,7 +11,8 @@ pub struct Guarding<L> {
     law: PhantomData<L>,
 }
 
-impl<T, E, K, L: Lawful<T, E, K>> TableRule<Option<T>, RowView<E, K>, RowStart<T, K>> for Guarding<L> {
+impl<T, E, K, L: Lawful<T, E, K>> TableRule<Option<T>, RowView<E, K>, RowStart<T, K>>
+    for Guarding<L> {
     ghost use Rattle.inst_row.specs.Rule.{Guarded};
     ghost use Rattle.inst_row.specs.View.{first_row_view};
 

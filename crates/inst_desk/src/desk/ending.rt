@@ -9,7 +9,7 @@ ghost use Rattle.inst_desk.specs.declared.desk.opening.TheConstants.{MOST_HANDS}
 use super::Desk;
 use crate::hand::Hand;
 use crate::job::Job;
-use crate::rule::{Gathering, Queue, DeskPass, Taking};
+use crate::rule::{DeskPass, Gathering, Queue, Taking};
 use crate::tally::Tally;
 use std::sync::Wait;
 

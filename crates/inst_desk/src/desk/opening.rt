@@ -6,7 +6,7 @@ ghost use Rattle.inst_desk.specs.Desk.{capacity_of, AreAllHandsOf, IsNewHand, Ma
 
 use super::Desk;
 use crate::hand::Hand;
-use crate::rule::{Dealing, Queue, DeskPass};
+use crate::rule::{Dealing, DeskPass, Queue};
 use inst_base::Fault;
 use std::alloc::{AllocError, Global};
 

@@ -1,8 +1,7 @@
 //! What hands do at a desk.
-ghost use Rattle.std.specs.Prelude.{◌≡◌, [], ◌∷◌, ◌++◌, None, IfErr, IfSome, OnOk, OnErr};
-ghost use Rattle.inst_desk.specs.Account.{LiesFirst};
-ghost use Rattle.inst_desk.specs.Desk.{account_of, put_of, jobs_taken, IsHandOf, IsSameHand, WasFull};
-ghost use Rattle.inst_desk.specs.Desk.{WasEmpty};
+ghost use Rattle.std.specs.Prelude.{◌≡◌, None, IfErr, IfSome, OnOk, OnErr};
+ghost use Rattle.inst_desk.specs.Desk.{IsHandOf, IsSameHand, PutsJob, TakesJob, FindsFull};
+ghost use Rattle.inst_desk.specs.Desk.{FindsEmpty};
 
 use super::Desk;
 use crate::hand::Hand;
@@ -17,11 +16,9 @@ impl Desk {
         requires of { IsHandOf self.now hand.old }
         ensures of { IsHandOf self.now hand.new }
         ensures same { IsSameHand hand.old hand.new }
-        ensures put { OnOk result (put_of hand.new ≡ put_of hand.old ++ job ∷ []) }
-        ensures taken { jobs_taken hand.new ≡ jobs_taken hand.old }
+        ensures put { OnOk result (PutsJob hand.old hand.new job) }
         ensures back { IfErr result (λ x. x ≡ job) }
-        ensures unchanged { OnErr result (put_of hand.new ≡ put_of hand.old) }
-        ensures full { OnErr result (WasFull self.now hand.old) }
+        ensures full { OnErr result (FindsFull self.now hand.old hand.new) }
     {
         self.queue.push_as::<Putting, R>(rt, &mut hand.seat, job)?;
         hand.puts = hand.puts.saturating_add(1);
@@ -33,11 +30,8 @@ impl Desk {
         requires of { IsHandOf self.now hand.old }
         ensures of { IsHandOf self.now hand.new }
         ensures same { IsSameHand hand.old hand.new }
-        ensures put { put_of hand.new ≡ put_of hand.old }
-        ensures taken { IfSome result (λ job. jobs_taken hand.new ≡ jobs_taken hand.old ++ job ∷ []) }
-        ensures lay { IfSome result (λ job. LiesFirst (account_of hand.old) job) }
-        ensures unchanged { result ≡ None → jobs_taken hand.new ≡ jobs_taken hand.old }
-        ensures none { result ≡ None → WasEmpty hand.old }
+        ensures taken { IfSome result (λ job. TakesJob hand.old hand.new job) }
+        ensures none { result ≡ None → FindsEmpty hand.old hand.new }
     {
         let job = self.queue.pop_as::<Taking, R>(rt, &mut hand.seat)?;
         hand.takes = hand.takes.saturating_add(1);

@@ -1,7 +1,7 @@
 //! Taking a lock and giving it back.
 ghost use Rattle.std.specs.Prelude.{◌≡◌, ◌<◌, IfSome, IfNone, List};
 ghost use mathlib.Core.List.{IsPrefix};
-ghost use Rattle.inst_row.specs.Seated.{IsOn, IsFree, Has, GoesOn, Sees};
+ghost use Rattle.inst_row.specs.Seated.{IsOn, IsFree, Has, IsFoundBehind, HasTaken, HasGivenBack};
 ghost use Rattle.inst_row.specs.Row.{row_id, key_of, size};
 
 use super::{LockRow, STRIDE};
@@ -29,11 +29,11 @@ impl<T, E, K, L: Lawful<T, E, K>> LockRow<T, E, K, L> {
         requires lock { lock < size self.now }
         requires word { 0 < word }
         requires free { IsFree seat.old }
-        ensures law { IfSome result (λ value. L.law (key_of self.now) lock value) }
-        ensures goes_on { IfSome result (λ value. GoesOn lock (L.history value) seat.old) }
-        ensures has { IfSome result (λ value. Has lock (L.history value) seat.new) }
+        ensures found { IfSome result (λ value.
+            IsFoundBehind L.law L.history (key_of self.now) lock value seat.old) }
+        ensures taken { IfSome result (λ value.
+            HasTaken (row_id self.now) (key_of self.now) lock (L.history value) seat.old seat.new) }
         ensures on { IsOn (row_id self.now) (key_of self.now) seat.new }
-        ensures sees { IfSome result (λ value. Sees lock (L.history value) seat.old seat.new) }
         ensures none { IfNone result (seat.new.seat.me ≡ seat.old.seat.me) }
     {
         let shared = &self.table.shared;
@@ -66,11 +66,9 @@ impl<T, E, K, L: Lawful<T, E, K>> LockRow<T, E, K, L> {
         requires on { IsOn (row_id self.now) (key_of self.now) seat.old }
         requires lock { lock < size self.now }
         requires free { IsFree seat.old }
-        ensures law { L.law (key_of self.now) lock result }
-        ensures goes_on { GoesOn lock (L.history result) seat.old }
-        ensures has { Has lock (L.history result) seat.new }
-        ensures on { IsOn (row_id self.now) (key_of self.now) seat.new }
-        ensures sees { Sees lock (L.history result) seat.old seat.new }
+        ensures found { IsFoundBehind L.law L.history (key_of self.now) lock result seat.old }
+        ensures taken { HasTaken (row_id self.now) (key_of self.now) lock
+            (L.history result) seat.old seat.new }
     {
         if let Some(value) = self.try_take(seat, lock, TAKEN) {
             return value;
@@ -93,9 +91,8 @@ impl<T, E, K, L: Lawful<T, E, K>> LockRow<T, E, K, L> {
         requires has { (found : List E) × Has lock found seat.old
             × IsPrefix found (L.history value) }
         requires law { L.law (key_of self.now) lock value }
-        ensures free { IsFree seat.new }
-        ensures on { IsOn (row_id self.now) (key_of self.now) seat.new }
-        ensures sees { Sees lock (L.history value) seat.old seat.new }
+        ensures { HasGivenBack (row_id self.now) (key_of self.now) lock
+            (L.history value) seat.old seat.new }
     {
         let shared = &self.table.shared;
         let place = lock * STRIDE;

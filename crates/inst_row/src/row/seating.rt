@@ -1,6 +1,6 @@
 //! Seats beside one another.
 ghost use Rattle.std.specs.Prelude.{◌≡◌, ◌+◌, ◌<◌};
-ghost use Rattle.inst_row.specs.Seated.{IsOn, IsIdle, IsFree, SeesBoth, Halves, view_of};
+ghost use Rattle.inst_row.specs.Seated.{IsOn, IsIdle, IsFree, HasJoined, HasMet, Halves};
 ghost use Rattle.inst_row.specs.Row.{row_id, key_of, size};
 
 use super::LockRow;
@@ -30,14 +30,12 @@ impl<T, E, K, L: Lawful<T, E, K>> LockRow<T, E, K, L> {
         requires on { IsOn (row_id self.now) (key_of self.now) seat.old
             × IsOn (row_id self.now) (key_of self.now) other }
         requires idle { IsIdle seat.old × IsIdle other }
-        ensures on { IsOn (row_id self.now) (key_of self.now) seat.new }
-        ensures idle { IsIdle seat.new }
-        ensures parts { (view_of seat.new).parts
-            ≡ (view_of seat.old).parts + (view_of other).parts }
-        ensures sees { SeesBoth seat.old other seat.new }
+        ensures { HasJoined (row_id self.now) (key_of self.now) seat.old other seat.new }
     {
         let RowSeat { seat: other } = other;
-        self.table.shared.join_seat::<UniteSeats>(&mut seat.seat, other);
+        self.table
+            .shared
+            .join_seat::<UniteSeats>(&mut seat.seat, other);
     }
 
     /// Each has then seen what either had.
@@ -46,12 +44,8 @@ impl<T, E, K, L: Lawful<T, E, K>> LockRow<T, E, K, L> {
         requires on { IsOn (row_id self.now) (key_of self.now) one.old
             × IsOn (row_id self.now) (key_of self.now) two.old }
         requires free { IsFree one.old × IsFree two.old }
-        ensures on { IsOn (row_id self.now) (key_of self.now) one.new
-            × IsOn (row_id self.now) (key_of self.now) two.new }
-        ensures free { IsFree one.new × IsFree two.new }
-        ensures parts { ((view_of one.new).parts ≡ (view_of one.old).parts)
-            × ((view_of two.new).parts ≡ (view_of two.old).parts) }
-        ensures sees { SeesBoth one.old two.old one.new × SeesBoth two.old one.old two.new }
+        ensures one { HasMet (row_id self.now) (key_of self.now) one.old two.old one.new }
+        ensures two { HasMet (row_id self.now) (key_of self.now) two.old one.old two.new }
     {
         let part = self.split(one);
         self.join(two, part);

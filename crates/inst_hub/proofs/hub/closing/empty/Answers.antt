@@ -42,11 +42,11 @@ loop-lock-preserved c =
     let sound : IsSound x.slot.settings x.slot.who x.slot.events = subst (λ (J : List Event). IsSound x.slot.settings x.slot.who J) c.journal.ensures.events c.journal.ensures.sound in
     let new : IsTakenOut (key_of c.args.row) c.args.seat p x.slot x.board = record { since = since; sound = sound; goes_on = goes_on; seen = seen } in
     record {
-      locks = took.locks ∙ inv.locks;
-      left = λ k y from lies. took.others k y (λ here. absurd (omega (arith, from, here))) (inv.left k y (omega (arith, from)) lies);
+      locks = took.others.locks ∙ inv.locks;
+      left = λ k y from lies. took.others.there k y (λ here. absurd (omega (arith, from, here))) (inv.left k y (omega (arith, from)) lies);
       out = λ k small. elim (cases_eq k p) [
         | inl here ↦ subst (λ i. IsOut i c.take.new.self) (sym here) took.out
-        | inr other ↦ took.gone k (inv.out k (omega (arith, small, other)))
+        | inr other ↦ took.others.out k (inv.out k (omega (arith, small, other)))
       ];
       room = (omega (arith, inv.room.0, c.push_reserved.ensures.capacity), omega (arith, inv.room.1, c.push_reserved-in-loop-lock.ensures.capacity));
       taken = one_out (key_of c.args.row) p c.args.seat c.loop-lock.slots.items c.push_reserved.new.self.items c.loop-lock.boards.items c.push_reserved-in-loop-lock.new.self.items x.slot x.board inv.taken new c.push_reserved.ensures.items c.push_reserved-in-loop-lock.ensures.items;

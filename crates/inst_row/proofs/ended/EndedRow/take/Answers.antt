@@ -8,13 +8,7 @@ pub returns-clause-out : goal.returns-clause-out
 returns-clause-out g c = search rules
 
 pub returns-clause-others : goal.returns-clause-others
-returns-clause-others g c = search rules
-
-pub returns-clause-gone : goal.returns-clause-gone
-returns-clause-gone g c = search rules
-
-pub returns-clause-locks : goal.returns-clause-locks
-returns-clause-locks g c = search rules
+returns-clause-others g c = record { locks = search rules; there = search rules; out = search rules }
 
 pub take-requires : goal.take-requires
 take-requires g c = search rules

@@ -22,20 +22,18 @@ swap-requires g c =
           has.2,
     )
 
-pub returns-then-swap-eq-AWAITED-clause-free : goal.returns-then-swap-eq-AWAITED-clause-free
-returns-then-swap-eq-AWAITED-clause-free g c = let t = c.swap.ensures.2 c.args.lock c.args.value (in_hand _ _ _ _ _ c.exchange-old.ensures.3) in search rules
+pub returns-then-swap-eq-AWAITED : goal.returns-then-swap-eq-AWAITED
+returns-then-swap-eq-AWAITED g c =
+    let t = c.swap.ensures.2 c.args.lock c.args.value (in_hand _ _ _ _ _ c.exchange-old.ensures.3) in record {
+      on = search rules;
+      free = search rules;
+      sees = search rules;
+    }
 
-pub returns-then-swap-eq-AWAITED-clause-on : goal.returns-then-swap-eq-AWAITED-clause-on
-returns-then-swap-eq-AWAITED-clause-on g c = let t = c.swap.ensures.2 c.args.lock c.args.value (in_hand _ _ _ _ _ c.exchange-old.ensures.3) in search rules
-
-pub returns-then-swap-eq-AWAITED-clause-sees : goal.returns-then-swap-eq-AWAITED-clause-sees
-returns-then-swap-eq-AWAITED-clause-sees g c = let t = c.swap.ensures.2 c.args.lock c.args.value (in_hand _ _ _ _ _ c.exchange-old.ensures.3) in search rules
-
-pub returns-else-swap-eq-AWAITED-clause-free : goal.returns-else-swap-eq-AWAITED-clause-free
-returns-else-swap-eq-AWAITED-clause-free g c = let t = c.swap.ensures.2 c.args.lock c.args.value (in_hand _ _ _ _ _ c.exchange-old.ensures.3) in search rules
-
-pub returns-else-swap-eq-AWAITED-clause-on : goal.returns-else-swap-eq-AWAITED-clause-on
-returns-else-swap-eq-AWAITED-clause-on g c = let t = c.swap.ensures.2 c.args.lock c.args.value (in_hand _ _ _ _ _ c.exchange-old.ensures.3) in search rules
-
-pub returns-else-swap-eq-AWAITED-clause-sees : goal.returns-else-swap-eq-AWAITED-clause-sees
-returns-else-swap-eq-AWAITED-clause-sees g c = let t = c.swap.ensures.2 c.args.lock c.args.value (in_hand _ _ _ _ _ c.exchange-old.ensures.3) in search rules
+pub returns-else-swap-eq-AWAITED : goal.returns-else-swap-eq-AWAITED
+returns-else-swap-eq-AWAITED g c =
+    let t = c.swap.ensures.2 c.args.lock c.args.value (in_hand _ _ _ _ _ c.exchange-old.ensures.3) in record {
+      on = search rules;
+      free = search rules;
+      sees = search rules;
+    }

@@ -9,6 +9,11 @@ use Rattle.inst_row.proofs.row.LockRow.join.Goals as goal
 pub join_seat-requires : goal.join_seat-requires
 join_seat-requires g c = (search rules, search rules, search rules, search rules, unites g.L.Lawful.law g.L.Lawful.history _ _ _ _ _)
 
-pub returns-clause-sees : goal.returns-clause-sees
-returns-clause-sees g c = sees_both c.args.seat.now c.args.other record { seat = c.join_seat.new.seat }
-    (ap (λ (m : Me (Option g.row.T.Denot) (RowView g.row.E.Denot g.row.K.Denot)). m.0.fronts) c.join_seat.ensures.2)
+pub returns : goal.returns
+returns g c = record {
+  on = search rules;
+  idle = search rules;
+  parts = search rules;
+  sees = sees_both c.args.seat.now c.args.other record { seat = c.join_seat.new.seat }
+      (ap (λ (m : Me (Option g.row.T.Denot) (RowView g.row.E.Denot g.row.K.Denot)). m.0.fronts) c.join_seat.ensures.2);
+}
