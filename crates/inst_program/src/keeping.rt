@@ -39,6 +39,7 @@ pub(crate) struct LineTask {
 }
 
 /// The options of a log, and the digest that it must have, if one is asked for.
+#[derive(Drop)]
 struct WantedLog<'a> {
     options: LogOptions<'a>,
     digest: Option<Digest>,
