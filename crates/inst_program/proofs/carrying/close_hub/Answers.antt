@@ -14,8 +14,8 @@ use Rattle.inst_program.proofs.carrying.close_hub.Goals as goal
 pub returns-in-Ok-Some : goal.returns-in-Ok-Some
 returns-in-Ok-Some g c =
     let disks = g.D.Disk in
-    let mode = c.args.mode in
-    let s = c.args.settings.now in
+    let mode = c.args.header.now.mode in
+    let s = c.args.header.now.settings in
     let found = c.in-Ok.hub in
     let hub = c.with_disk-hub.result in
     let made = c.with_disk-hub.ensures in
@@ -43,8 +43,8 @@ returns-in-Ok-Some g c =
 pub returns-in-Ok-None : goal.returns-in-Ok-None
 returns-in-Ok-None g c =
     let disks = g.D.Disk in
-    let mode = c.args.mode in
-    let s = c.args.settings.now in
+    let mode = c.args.header.now.mode in
+    let s = c.args.header.now.settings in
     let found = c.in-Ok.hub in
     let hub = c.with_disk-hub.result in
     let made = c.with_disk-hub.ensures in
@@ -65,8 +65,8 @@ returns-in-Ok-None g c =
 pub returns-in-Err-books : goal.returns-in-Err-books
 returns-in-Err-books g c =
     let disks = g.D.Disk in
-    let mode = c.args.mode in
-    let s = c.args.settings.now in
+    let mode = c.args.header.now.mode in
+    let s = c.args.header.now.settings in
     let found = c.in-Ok.hub in
     let hub = c.with_disk-hub.result in
     let made = c.with_disk-hub.ensures in
@@ -95,6 +95,6 @@ returns-in-Err g c = record {
   can = tt;
   err = λ faith. inl (left_as_it_was g.D.Disk c.args.disk c.of_log.new.disk c.of_log.ensures.read.left);
   refused = λ two. inr (inl (λ clean good.
-      unfound_to_close c.args.mode c.args.settings.now c.args.wanted (g.D.Disk.seen c.args.disk) (c.requires.read (c.of_log.ensures.read.clean clean)) c.of_log.result c.in-Err.error (c.of_log.ensures.found clean) c.in-Err.is
+      unfound_to_close c.args.header.now.mode c.args.header.now.settings c.args.wanted (g.D.Disk.seen c.args.disk) (c.requires.read (c.of_log.ensures.read.clean clean)) c.of_log.result c.in-Err.error (c.of_log.ensures.found clean) c.in-Err.is
       (c.told_ending.ensures two) good));
 }

@@ -8,28 +8,28 @@ use Rattle.inst_program.specs.declared.exit_reason.ExitReason.{ExitReason}
 use Rattle.inst_program.proofs.carrying.next.Goals as goal
 
 pub returns-in_err-has-clause-err : goal.returns-in_err-has-clause-err
-returns-in_err-has-clause-err g c = on_err_all c.from_residual.result _ (both_untouched c.args.from.now c.args.to.now _ _ c.in_err-has.ensures.untouched)
+returns-in_err-has-clause-err g c = on_err_all c.from_residual.result _ (both_untouched c.args.task.from.now c.args.task.to.now _ _ c.in_err-has.ensures.untouched)
 
 pub returns-in_err-closed-clause-err : goal.returns-in_err-closed-clause-err
 returns-in_err-closed-clause-err g c =
-    let apart : c.args.from.now ≢ c.args.to.now = search rules in
+    let apart : c.args.task.from.now ≢ c.args.task.to.now = search rules in
     on_err_all c.from_residual-in_err-closed.result _
-    (not_closed c.args.from.now c.args.to.now apart _ _ _ _ (g.met.L.Logs.mixing c.args.logs.now) c.has.ensures.untouched c.close.ensures.visited c.in_err-closed.ensures.err)
+    (not_closed c.args.task.from.now c.args.task.to.now apart _ _ _ _ (g.met.L.Logs.mixing c.args.logs.now) c.has.ensures.untouched c.close.ensures.visited c.in_err-closed.ensures.err)
 
 pub returns-clause-ok : goal.returns-clause-ok
 returns-clause-ok g c =
-    let apart : c.args.from.now ≢ c.args.to.now = search rules in
-    let digest = option_map (λ (d : Bor (List ℕ)). d.now) c.args.digest in
+    let apart : c.args.task.from.now ≢ c.args.task.to.now = search rules in
+    let digest = option_map (λ (d : Bor (List ℕ)). d.now) c.args.task.digest in
     on_ok_weaker c.begin.result (λ is.
-    carries c.args.from.now c.args.to.now apart _ _ _ _ (g.met.L.Logs.mixing c.args.logs.now) c.has.ensures.untouched c.close.ensures.visited _ c.begin.ensures.visited
+    carries c.args.task.from.now c.args.task.to.now apart _ _ _ _ (g.met.L.Logs.mixing c.args.logs.now) c.has.ensures.untouched c.close.ensures.visited _ c.begin.ensures.visited
     digest _ (λ kept. c.in_ok-closed.ensures.ok kept digest c.in_ok-wanted.ensures) is) c.begin.ensures.ok
 
 pub returns-clause-err : goal.returns-clause-err
 returns-clause-err g c =
-    let apart : c.args.from.now ≢ c.args.to.now = search rules in
-    let digest = option_map (λ (d : Bor (List ℕ)). d.now) c.args.digest in
+    let apart : c.args.task.from.now ≢ c.args.task.to.now = search rules in
+    let digest = option_map (λ (d : Bor (List ℕ)). d.now) c.args.task.digest in
     on_err_weaker c.begin.result (λ is.
-    not_begun c.args.from.now c.args.to.now apart _ _ _ _ (g.met.L.Logs.mixing c.args.logs.now) c.has.ensures.untouched c.close.ensures.visited _ c.begin.ensures.visited
+    not_begun c.args.task.from.now c.args.task.to.now apart _ _ _ _ (g.met.L.Logs.mixing c.args.logs.now) c.has.ensures.untouched c.close.ensures.visited _ c.begin.ensures.visited
     digest _ (λ kept. c.in_ok-closed.ensures.ok kept digest c.in_ok-wanted.ensures) is) c.begin.ensures.err
 
 pub returns-in_err-has-clause-refused : goal.returns-in_err-has-clause-refused
@@ -39,7 +39,7 @@ returns-in_err-has-clause-refused g c =
 
 pub returns-then-not-branch-clause-refused : goal.returns-then-not-branch-clause-refused
 returns-then-not-branch-clause-refused g c two =
-    absent_uncarried c.args.from.now c.args.to.now _ _ _ c.has.ensures.untouched (λ is. c.in_ok-has.ensures.none is c.if-not-branch.true)
+    absent_uncarried c.args.task.from.now c.args.task.to.now _ _ _ c.has.ensures.untouched (λ is. c.in_ok-has.ensures.none is c.if-not-branch.true)
 
 pub returns-in_err-wanted-clause-refused : goal.returns-in_err-wanted-clause-refused
 returns-in_err-wanted-clause-refused g c =
@@ -48,16 +48,16 @@ returns-in_err-wanted-clause-refused g c =
 
 pub returns-in_err-closed-clause-refused : goal.returns-in_err-closed-clause-refused
 returns-in_err-closed-clause-refused g c =
-    let apart : c.args.from.now ≢ c.args.to.now = search rules in
+    let apart : c.args.task.from.now ≢ c.args.task.to.now = search rules in
     err_all_at c.from_residual-in_err-closed.result _ (err_from_is_err_and c.from_residual-in_err-closed.result c.from_residual-in_err-closed.ensures.1)
     (λ e is two.
-    uncarried_first c.args.from.now c.args.to.now apart _ _ _ _ (g.met.L.Logs.mixing c.args.logs.now) c.has.ensures.untouched c.close.ensures.visited
-    (option_map (λ (d : Bor (List ℕ)). d.now) c.args.digest) c.in_ok-wanted.wanted c.in_ok-wanted.ensures (c.in_err-closed.ensures.refused (subst (λ (f : ExitReason). status_of_ending f ≡ 2) is two)))
+    uncarried_first c.args.task.from.now c.args.task.to.now apart _ _ _ _ (g.met.L.Logs.mixing c.args.logs.now) c.has.ensures.untouched c.close.ensures.visited
+    (option_map (λ (d : Bor (List ℕ)). d.now) c.args.task.digest) c.in_ok-wanted.wanted c.in_ok-wanted.ensures (c.in_err-closed.ensures.refused (subst (λ (f : ExitReason). status_of_ending f ≡ 2) is two)))
 
 pub returns-clause-refused : goal.returns-clause-refused
 returns-clause-refused g c =
-    let apart : c.args.from.now ≢ c.args.to.now = search rules in
-    let digest = option_map (λ (d : Bor (List ℕ)). d.now) c.args.digest in
+    let apart : c.args.task.from.now ≢ c.args.task.to.now = search rules in
+    let digest = option_map (λ (d : Bor (List ℕ)). d.now) c.args.task.digest in
     IfErr-weaker c.begin.result _ _ (λ e is two.
-    uncarried_second c.args.from.now c.args.to.now apart _ _ _ _ (g.met.L.Logs.mixing c.args.logs.now) c.has.ensures.untouched c.close.ensures.visited _ c.begin.ensures.visited
+    uncarried_second c.args.task.from.now c.args.task.to.now apart _ _ _ _ (g.met.L.Logs.mixing c.args.logs.now) c.has.ensures.untouched c.close.ensures.visited _ c.begin.ensures.visited
     digest _ (λ kept. c.in_ok-closed.ensures.ok kept digest c.in_ok-wanted.ensures) (is two)) c.begin.ensures.refused

@@ -7,8 +7,8 @@ use Rattle.inst_program.proofs.keeping.keep_on.Goals as goal
 pub returns-in-Ok-run-clause-ok : goal.returns-in-Ok-run-clause-ok
 returns-in-Ok-run-clause-ok g c =
     let disks = g.D.Disk in
-    let mode = c.args.mode in
-    let s = c.args.settings.now in
+    let mode = c.args.task.now.mode in
+    let s = c.args.task.now.settings in
     let found = c.in-Ok.hub in
     let hub = c.with_disk-hub.result in
     let made = c.with_disk-hub.ensures in
@@ -17,7 +17,7 @@ returns-in-Ok-run-clause-ok g c =
     let left = left_behind disks c.args.disk c.find_hub.new.disk hub.recorder.log.disk c.find_hub.ensures.read.left (left_equal disks c.find_hub.new.disk hub.recorder.log.disk made.disk) in
     let left' = left_equal disks after.recorder.log.disk c.into_parts-runner.result.1 c.into_parts-runner.ensures.disk in
     let faith = subst (λ (d : g.row.D.Denot). HasKeptFaith disks d) made.disk in
-    keeps_lines disks (kept_run mode s c.args.log) hub after c.args.disk c.into_parts-runner.result.1 has left left' g.met.D.Disk.seen_may_stay c.args.wanted c.requires.wanted
+    keeps_lines disks (kept_run mode s c.args.wanted.options) hub after c.args.disk c.into_parts-runner.result.1 has left left' g.met.D.Disk.seen_may_stay c.args.wanted.digest c.requires.wanted
     (λ clean none. rw (made.version, made.header) (c.in-Ok.ensures.first (faith clean) none))
     (λ clean. c.in-Ok.ensures.there (faith clean))
     c.run.ensures.clean (subst (λ (d : g.row.D.Denot). HasKeptFaith disks d) c.into_parts-runner.ensures.disk) _ c.in-Ok-run.ensures.end c.in-Ok-run.ensures.ok
@@ -25,8 +25,8 @@ returns-in-Ok-run-clause-ok g c =
 pub returns-in-Err-run-clause-err : goal.returns-in-Err-run-clause-err
 returns-in-Err-run-clause-err g c =
     let disks = g.D.Disk in
-    let mode = c.args.mode in
-    let s = c.args.settings.now in
+    let mode = c.args.task.now.mode in
+    let s = c.args.task.now.settings in
     let found = c.in-Ok.hub in
     let hub = c.with_disk-hub.result in
     let made = c.with_disk-hub.ensures in
@@ -37,7 +37,7 @@ returns-in-Err-run-clause-err g c =
     let parts = c.into_parts-disk in
     let left' = left_behind disks after.recorder.log.disk parts.result.1 disk' (left_equal disks after.recorder.log.disk parts.result.1 parts.ensures.disk) c.tell_failure.ensures.left in
     let faith = subst (λ (d : g.row.D.Denot). HasKeptFaith disks d) made.disk in
-    unkept_on disks (kept_run mode s c.args.log) hub after c.args.disk disk' has left left' g.met.D.Disk.seen_may_stay c.args.wanted c.requires.wanted
+    unkept_on disks (kept_run mode s c.args.wanted.options) hub after c.args.disk disk' has left left' g.met.D.Disk.seen_may_stay c.args.wanted.digest c.requires.wanted
     (λ clean none. rw (made.version, made.header) (c.in-Ok.ensures.first (faith clean) none))
     (λ clean. c.in-Ok.ensures.there (faith clean))
     c.run.ensures.clean (λ clean. subst (λ (d : g.row.D.Denot). HasKeptFaith disks d) parts.ensures.disk (c.tell_failure.ensures.clean clean)) _
@@ -46,5 +46,5 @@ returns-in-Err-run-clause-err g c =
 
 pub returns-in-Err-clause-err : goal.returns-in-Err-clause-err
 returns-in-Err-clause-err g c =
-    unkept_at_once (kept_run c.args.mode c.args.settings.now c.args.log) _ _ _ _ c.find_hub.result c.in-Err.error _ refl refl
+    unkept_at_once (kept_run c.args.task.now.mode c.args.task.now.settings c.args.wanted.options) _ _ _ _ c.find_hub.result c.in-Err.error _ refl refl
     (left_as_it_was g.D.Disk c.args.disk c.find_hub.new.disk c.find_hub.ensures.read.left) c.find_hub.ensures.found c.in-Err.is c.told_ending.ensures
