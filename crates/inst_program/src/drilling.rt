@@ -36,7 +36,13 @@ pub(crate) struct DrillTask {
 
 /// Drills a hub, and writes the script to the file of this name, if one is named. The file must be
 /// new or empty.
-pub(crate) fn drill_hub<H: Threads + Wait + Sync + AllocGlobal, L: Logs, R: Read + Drop, W: Write + Drop, E: Write + Drop>(
+pub(crate) fn drill_hub<
+    H: Threads + Wait + Sync + AllocGlobal,
+    L: Logs,
+    R: Read + Drop,
+    W: Write + Drop,
+    E: Write + Drop,
+>(
     rt: &H,
     logs: &mut L,
     asked: DrillTask,
@@ -63,11 +69,12 @@ pub(crate) fn drill_hub<H: Threads + Wait + Sync + AllocGlobal, L: Logs, R: Read
 }
 
 /// Drills a hub.
-fn run_drill<H: Threads + Wait + Sync + AllocGlobal, R: Read + Drop, W: Write + Drop, E: Write + Drop>(
-    rt: &H,
-    asked: DrillTask,
-    console: &mut Console<R, W, E>,
-) -> Result<DrillResult, ExitReason>
+fn run_drill<
+    H: Threads + Wait + Sync + AllocGlobal,
+    R: Read + Drop,
+    W: Write + Drop,
+    E: Write + Drop,
+>(rt: &H, asked: DrillTask, console: &mut Console<R, W, E>) -> Result<DrillResult, ExitReason>
     ensures ok { IfOk result
         (HasDrilledAll asked.settings asked.openings (W.contents console.old.writer)
         (W.contents console.new.writer)) }
@@ -98,7 +105,13 @@ fn run_drill<H: Threads + Wait + Sync + AllocGlobal, R: Read + Drop, W: Write + 
 }
 
 /// Drills a hub, and writes the script to the file of this name.
-fn drill_to_file<H: Threads + Wait + Sync + AllocGlobal, L: Logs, R: Read + Drop, W: Write + Drop, E: Write + Drop>(
+fn drill_to_file<
+    H: Threads + Wait + Sync + AllocGlobal,
+    L: Logs,
+    R: Read + Drop,
+    W: Write + Drop,
+    E: Write + Drop,
+>(
     rt: &H,
     logs: &mut L,
     asked: DrillTask,
@@ -120,7 +133,13 @@ fn drill_to_file<H: Threads + Wait + Sync + AllocGlobal, L: Logs, R: Read + Drop
 }
 
 /// Drills a hub, writes the script to this disk, and gives the disk back.
-fn drill_to<H: Threads + Wait + Sync + AllocGlobal, D: Disk + Drop, R: Read + Drop, W: Write + Drop, E: Write + Drop>(
+fn drill_to<
+    H: Threads + Wait + Sync + AllocGlobal,
+    D: Disk + Drop,
+    R: Read + Drop,
+    W: Write + Drop,
+    E: Write + Drop,
+>(
     rt: &H,
     asked: DrillTask,
     mut disk: D,

@@ -45,12 +45,13 @@ use std::thread::Threads;
 /// that can't be written, and where memory was wanting before it began. What is wrong is told on
 /// `errors`: a text, or one line `fault <number> <name>`. What `errors` doesn't take is lost. Its
 /// time is in the bytes of the input and of the log.
-pub fn program<H: Threads + Wait + Sync + AllocGlobal, L: Logs, R: Read + Drop, W: Write + Drop, E: Write + Drop>(
-    rt: &H,
-    logs: &mut L,
-    words: Vec<String>,
-    console: &mut Console<R, W, E>,
-) -> u8
+pub fn program<
+    H: Threads + Wait + Sync + AllocGlobal,
+    L: Logs,
+    R: Read + Drop,
+    W: Write + Drop,
+    E: Write + Drop,
+>(rt: &H, logs: &mut L, words: Vec<String>, console: &mut Console<R, W, E>) -> u8
     requires none_out { AllAreIn (L.files logs.old) }
     // What the words ask for is done, is refused, or has failed.
     ensures ends { Ends (map string_bytes words.items)
@@ -181,7 +182,13 @@ fn tell<E: Write>(fault: Fault, errors: &mut E) -> u8
 }
 
 /// Does what words ask for.
-fn serve<H: Threads + Wait + Sync + AllocGlobal, L: Logs, R: Read + Drop, W: Write + Drop, E: Write + Drop>(
+fn serve<
+    H: Threads + Wait + Sync + AllocGlobal,
+    L: Logs,
+    R: Read + Drop,
+    W: Write + Drop,
+    E: Write + Drop,
+>(
     rt: &H,
     logs: &mut L,
     wish: Invocation<'_>,
