@@ -130,7 +130,11 @@ fn is_new(ledger: &Ledger, ask: &Ask, handled: &Result<Handled, Fault>) -> bool
     let Command::Submit(submission) = &ask.command else {
         return true;
     };
-    match (ledger.is_new_submission(ask.at, submission), handled) {
+    let deadline = submission.stamp.deadline(ledger.settings().limit());
+    match (
+        ledger.is_new_submission(ask.at, submission, deadline),
+        handled,
+    ) {
         (Ok(is_new), Ok(handled)) => is_new == handled.kept.is_some(),
         (Err(fault), Err(told)) => fault == *told,
         _ => false,
