@@ -12,7 +12,8 @@ ghost use Rattle.inst_logged.specs.Marking.{BeginsWithMarker};
 ghost use Rattle.inst_logged.specs.Header.{lines_and_mark, header, header_from, CanBeginFrom};
 ghost use Rattle.inst_logged.specs.Header.{header_line};
 ghost use Rattle.inst_logged.specs.Header.{books_field, header_field, mode_field};
-ghost use Rattle.inst_logged.specs.Header.{participants_field, mode_word, version_word, quoted_codes, comma_if, quoted};
+ghost use Rattle.inst_logged.specs.Header.{participants_field, mode_word, version_word};
+ghost use Rattle.inst_logged.specs.Header.{quoted_codes, comma_if, quoted};
 
 use crate::Version;
 use inst_base::find_newline;

@@ -252,12 +252,14 @@ pub record CarriesBooks (digest : Option (List ℕ)) (mixes : Type 0) (next : Li
   pub wanted : Option Digest
   pub asked : AsksFor digest wanted
   pub log : IsLogOfAHub wanted c.was
-  pub stays : recovered_lines c.now ≡ recovered_lines log.first ++ lines_after_settings log.first c.was
+  pub stays : recovered_lines c.now ≡ recovered_lines log.first
+      ++ lines_after_settings log.first c.was
   pub spared : IsSpared log.version log.first mixes c
   pub journals : List History
   pub books : AreBooksAfter log.mode log.past (lines_after_settings log.first c.was) journals
   pub next_is : next
-      ≡ header_from Two log.mode (past_after log.mode log.past (lines_after_settings log.first c.was)).settings
+      ≡ header_from Two log.mode
+      (past_after log.mode log.past (lines_after_settings log.first c.was)).settings
       journals
 
 -- the log of this file is that of a hub, its marks are right, and it has the digest that is asked

@@ -199,7 +199,8 @@ explanation_text number name meaning advice =
 abbrev pub Explains : List ℕ → Option (List ℕ) → Option (List ℕ) → Type 0
 Explains word held held' =
     (fault : AnyFault) × (meaning : List ℕ) × (advice : List ℕ) × IsNamed word fault
-    × Appends held held' (explanation_text (any_fault_number fault) (any_fault_name fault) meaning advice)
+    × Appends held held'
+    (explanation_text (any_fault_number fault) (any_fault_name fault) meaning advice)
 
 -- the words ask for the explanation of a fault that there is
 abbrev pub AskForAnExplanation : List (List ℕ) → Type 0

@@ -10,7 +10,8 @@ ghost use Rattle.inst_logged.specs.declared.version.Version.TheVariants.{Two};
 ghost use Rattle.inst_program.specs.Files.{AllAreIn, IfKept, change_of, change_on};
 ghost use Rattle.inst_program.specs.Keeping.{AsksFor, Carries, CarriesBooks, IsBegun, IsSafe};
 ghost use Rattle.inst_program.specs.Keeping.{IsUncarried, SparesBoth};
-ghost use Rattle.inst_program.specs.inner.Carrying.{IsHubClosed, IsReadAsLog, IsLogUnbegun, IsLogUnclosed};
+ghost use Rattle.inst_program.specs.inner.Carrying.{IsHubClosed, IsReadAsLog, IsLogUnbegun};
+ghost use Rattle.inst_program.specs.inner.Carrying.{IsLogUnclosed};
 ghost use Rattle.inst_program.specs.inner.Carrying.{ReadsBeginning};
 ghost use Rattle.inst_program.specs.inner.ExitReason.{status_of_ending};
 ghost use Rattle.inst_program.specs.inner.Visiting.{IsVisited};
@@ -60,7 +61,8 @@ pub(crate) fn next<L: Logs, E: Write>(
     ensures ok { OnOk result
         (Carries task.entry.from.now task.entry.to.now
         (option_map (λ d. d.now) task.entry.digest) (L.files logs.old) (L.files logs.new)) }
-    ensures err { OnErr result (SparesBoth task.entry.from.now task.entry.to.now (L.files logs.old) (L.files logs.new)) }
+    ensures err { OnErr result
+        (SparesBoth task.entry.from.now task.entry.to.now (L.files logs.old) (L.files logs.new)) }
     ensures refused { IfErr result (λ ending. status_of_ending ending ≡ 2
         → IsUncarried task.entry.from.now task.entry.to.now
         (option_map (λ d. d.now) task.entry.digest) (L.files logs.old) (L.files logs.new)) }
@@ -203,7 +205,8 @@ fn begin_on<D: Disk + Drop>(
     requires journals { CanOpenFrom settings.now journals.now }
     requires opened { IsJustOpened D.Disk disk }
     ensures ok { OnOk result.0 (HasKeptFaith D.Disk result.1
-        → IsBegun (header_from Two mode settings.now journals.now) (change_on D.Disk disk result.1)) }
+        → IsBegun (header_from Two mode settings.now journals.now)
+        (change_on D.Disk disk result.1)) }
     ensures err { OnErr result.0 (IsSafe ((d : D) →
         IsTrue (D.Disk.is_mixing d)) (HasKeptFaith D.Disk result.1)
         (change_on D.Disk disk result.1)) }

@@ -146,7 +146,8 @@ fn drill_to<
     console: &mut Console<R, W, E>,
 ) -> (Result<(), ExitReason>, D)
     requires usable { IsTrue (D.Disk.is_usable disk) }
-    ensures { IsScripted D.Disk asked (W.contents console.old.writer) (W.contents console.new.writer)
+    ensures { IsScripted D.Disk asked (W.contents console.old.writer)
+        (W.contents console.new.writer)
         (console.new.writer ≡ console.old.writer)
         disk result.1 result.0 }
 {

@@ -81,7 +81,8 @@ fn tell<W: Write>(
     writer: &mut W,
 ) -> Result<(), ExitReason>
     ensures ok { OnOk result
-        (Appends (W.contents writer.old) (W.contents writer.new) (log_text first.now lines digest)) }
+        (Appends (W.contents writer.old) (W.contents writer.new)
+        (log_text first.now lines digest)) }
     ensures err { IfErr result (λ ending. status_of_ending ending ≢ 2) }
 {
     let first = String::from_utf8_lossy(alloc, first)?;

@@ -80,7 +80,8 @@ pub record IsUnkept (run : KeptRun) (t : Streams) (mixes in_use faith : Type 0) 
   pub front : KeepsAFront run t mixes faith c
 
 -- the lines of the reader are answered at a hub of these settings, with this log
-abbrev pub AreLinesAnswered : Mode → HubSettings → Option LogOptions → Streams → Files → Files → Type 0
+abbrev pub AreLinesAnswered : Mode → HubSettings → Option LogOptions → Streams → Files → Files →
+    Type 0
 AreLinesAnswered mode s None t old new = AnswersInput mode s t × Stay old new
 AreLinesAnswered mode s (Some log) t old new =
     KeepsLines (kept_run mode s log) t (IsTrue new.is_clean) (change_of old new log.path.now)
