@@ -1,19 +1,22 @@
 -- What a crew is given and how much it does. That a job whose ask doesn't fit is not put to the hub
 -- is this hub's own choice.
-use Rattle.std.specs.Prelude.{◌≡◌, ℕ, ◌-◌, ◌^◌, min, true, List, [], ◌∷◌, length, filter, slice_get}
-use Rattle.std.specs.Prelude.{Option, Some, None, Ok}
+use Rattle.std.specs.Prelude.{◌≡◌, ℕ, ◌+◌, ◌-◌, ◌^◌, ◌<◌, min, true, List, [], ◌∷◌, ◌++◌, length}
+use Rattle.std.specs.Prelude.{filter, slice_get, sum_by, Option, Some, None, IfSome, Ok}
 use Rattle.inst_settings.specs.Settings.{HubSettings, is_participant}
 use Rattle.inst_command.specs.Ask.{ask_fits}
 use Rattle.inst_desk.specs.declared.hand.Hand.{Hand}
 use Rattle.inst_desk.specs.declared.job.Job.{Job}
-use Rattle.inst_desk.specs.Desk.{taken_together}
+use Rattle.inst_desk.specs.declared.desk.Desk.{Desk}
+use Rattle.inst_desk.specs.Desk.{AreHandsOf, taken_together, hand_parts}
 use Rattle.inst_hub.specs.declared.hub.Hub.{Hub}
 use Rattle.inst_hub.specs.declared.teller.Teller.{Teller}
-use Rattle.inst_hub.specs.Calls.{IsTellerOf}
+use Rattle.inst_hub.specs.Calls.{IsTellerOf, AreOf}
+use Rattle.inst_hub.specs.Opening.{row_parts}
 use Rattle.inst_hub.specs.Sweeping.{IsSweep}
 use Rattle.inst_crew.specs.declared.crew.Crew.{Crew}
 use Rattle.inst_crew.specs.declared.sweep.Sweep.{Sweep}
-use Rattle.inst_crew.specs.Later.{IsLaterTeller}
+use Rattle.inst_crew.specs.declared.team.Team.{Team}
+use Rattle.inst_crew.specs.Later.{Pairs, IsLaterHand, IsLaterTeller}
 use Rattle.inst_crew.specs.Seen.{AreSeenByOne}
 use Rattle.inst_crew.specs.Served.{AreServed}
 
@@ -48,13 +51,41 @@ IsSwept hub None teller = teller ≡ None
 IsSwept hub (Some sweep) None = ⊥
 IsSwept hub (Some sweep) (Some teller) = HasSwept hub sweep teller
 
--- What a crew did with these hands and tellers answered: by how many jobs that fit the hands' lists
--- of taken jobs grew served: each job that a hand took more and that fits was put to the hub, by
--- the teller at the hand's place states: each state that was kept is known to a teller swept: the
--- sweeper swept
-pub record HasWorked (hub : Hub) (hands : List Hand) (tellers : List Teller) (sweep : Option Sweep)
-    (crew : Crew) : Type 0 where
-  pub answered : crew.answered ≡ answered_between hub.settings hands crew.hands.items
-  pub served : AreServed hub hands crew.hands.items tellers crew.tellers.items crew.states.items
+-- hands of the desk, with a teller of the hub each, and the sweeper, if there is one
+pub record IsTeamOf (hub : Hub) (d : Desk) (team : Team) : Type 0 where
+  pub some : 0 < length team.hands.items
+  pub each : length team.tellers.items ≡ length team.hands.items
+  pub hands : AreHandsOf d team.hands.items
+  pub tellers : AreOf hub team.tellers.items
+  pub sweep : IfSome team.sweep (MaySweep hub)
+
+-- all tellers of the team, the sweeper's last
+abbrev pub team_tellers : Team → List Teller
+team_tellers team = team.tellers.items ++ sweeper_of team.sweep
+
+-- What a crew did with a team
+-- hands, tellers: each came back at its place
+-- answered: by how many jobs that fit the hands' lists of taken jobs grew
+-- served: each job that a hand took more and that fits was put to the hub, by the teller at the
+-- hand's place
+-- states: each state that was kept is known to a teller
+-- swept: the sweeper swept
+pub record HasWorked (hub : Hub) (d : Desk) (team : Team) (crew : Crew) : Type 0 where
+  pub hands : Pairs (IsLaterHand d) team.hands.items crew.hands.items
+  pub tellers : Pairs (IsLaterTeller hub) (team_tellers team) crew.tellers.items
+  pub answered : crew.answered ≡ answered_between hub.settings team.hands.items crew.hands.items
+  pub served : AreServed hub team.hands.items crew.hands.items team.tellers.items crew.tellers.items
+      crew.states.items
   pub states : AreSeenByOne crew.tellers.items crew.states.items
-  pub swept : IsSwept hub sweep (slice_get crew.tellers.items (length tellers))
+  pub swept : IsSwept hub team.sweep (slice_get crew.tellers.items (length team.tellers.items))
+
+-- as many hands of the desk and tellers of the hub came back, with the parts that the team had. It
+-- follows from what a crew did.
+pub record AreBack (hub : Hub) (d : Desk) (team : Team) (crew : Crew) : Type 0 where
+  pub hands : AreHandsOf d crew.hands.items
+  pub tellers : AreOf hub crew.tellers.items
+  pub all_hands : length crew.hands.items ≡ length team.hands.items
+  pub all_tellers : length crew.tellers.items
+      ≡ length team.tellers.items + length (sweeper_of team.sweep)
+  pub parts_of_hands : sum_by hand_parts crew.hands.items ≡ sum_by hand_parts team.hands.items
+  pub parts_of_tellers : row_parts crew.tellers.items ≡ row_parts (team_tellers team)

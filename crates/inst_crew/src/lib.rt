@@ -8,8 +8,12 @@ mod meeting;
 mod running;
 mod shift;
 mod sweep;
+mod team;
 mod worker;
+mod workplace;
 
 pub use crew::Crew;
 pub use running::run_crew;
 pub use sweep::Sweep;
+pub use team::Team;
+pub use workplace::Workplace;

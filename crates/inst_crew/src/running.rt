@@ -1,11 +1,6 @@
 //! A crew, with its threads.
-ghost use Rattle.std.specs.Prelude.{◌≡◌, ◌<◌, ◌+◌, ◌++◌, length, IfOk, IfSome, option_to_list};
-ghost use Rattle.std.specs.Prelude.{sum_by};
-ghost use Rattle.inst_desk.specs.Desk.{AreHandsOf, hand_parts};
-ghost use Rattle.inst_hub.specs.Calls.{AreOf};
-ghost use Rattle.inst_hub.specs.Opening.{row_parts as parts_of_tellers};
-ghost use Rattle.inst_crew.specs.Later.{Pairs, IsLaterHand, IsLaterTeller};
-ghost use Rattle.inst_crew.specs.Crew.{MaySweep, sweeper_of, IsSwept, HasWorked};
+ghost use Rattle.std.specs.Prelude.{◌≡◌, ◌++◌, IfOk, IfSome, option_to_list};
+ghost use Rattle.inst_crew.specs.Crew.{MaySweep, IsSwept, IsTeamOf, HasWorked, AreBack};
 ghost use Rattle.inst_crew.specs.inner.Workers.{HasHandAndTeller, AreReady, HasEndedShift, AllWork};
 
 use crate::crew::Crew;
@@ -13,9 +8,10 @@ use crate::gathering::gather;
 use crate::meeting::Meeting;
 use crate::shift::{Shift, work};
 use crate::sweep::{Sweep, sweep_if};
+use crate::team::Team;
 use crate::worker::{Worker, workers};
-use inst_desk::{Desk, Hand};
-use inst_hub::{Gate, Hub, Teller};
+use crate::workplace::Workplace;
+use inst_hub::{Gate, Teller};
 use std::alloc::{AllocError, Global};
 use std::sync::Wait;
 use std::thread::{self, Threads};
@@ -24,22 +20,22 @@ use std::thread::{self, Threads};
 fn work_all<R: Threads + Wait + Sync, G: Gate + Sync>(
     rt: &R,
     alloc: Global,
-    hub: &Hub,
-    desk: &Desk,
-    gate: &G,
+    place: &Workplace<G>,
     meeting: &Meeting,
     workers: Vec<Worker>,
 ) -> Result<Vec<Result<Shift, AllocError>>, AllocError>
-    requires { AreReady hub.now desk.now workers.items }
-    ensures all { IfOk result (λ all. AllWork hub.now desk.now workers.items all.items) }
+    requires { AreReady place.now.hub.now place.now.desk.now workers.items }
+    ensures all { IfOk result (λ all.
+        AllWork place.now.hub.now place.now.desk.now workers.items all.items) }
 {
     thread::map_vec(
         rt,
         workers,
         &|worker: Worker| -> Result<Shift, AllocError>
-            requires { HasHandAndTeller hub.now desk.now worker }
-            ensures { IfOk result (HasEndedShift hub.entry.now desk.entry.now worker) }
-        { work(rt, alloc, hub, desk, gate, meeting, worker) },
+            requires { HasHandAndTeller place.now.hub.now place.now.desk.now worker }
+            ensures { IfOk result
+                (HasEndedShift place.entry.now.hub.now place.entry.now.desk.now worker) }
+        { work(rt, alloc, place, meeting, worker) },
     )
 }
 
@@ -47,32 +43,31 @@ fn work_all<R: Threads + Wait + Sync, G: Gate + Sync>(
 fn start<R: Threads + Wait + Sync, G: Gate + Sync>(
     rt: &R,
     alloc: Global,
-    hub: &Hub,
-    desk: &Desk,
-    gate: &G,
-    meeting: &Meeting,
+    place: &Workplace<G>,
     workers: Vec<Worker>,
     sweep: Option<Sweep>,
 ) -> (
     Result<Vec<Result<Shift, AllocError>>, AllocError>,
     Result<Option<Teller>, AllocError>,
 )
-    requires ready { AreReady hub.now desk.now workers.items }
-    requires sweep { IfSome sweep (MaySweep hub.now) }
-    ensures worked { IfOk result.0 (λ all. AllWork hub.now desk.now workers.items all.items) }
-    ensures swept { IfOk result.1 (IsSwept hub.now sweep) }
+    requires ready { AreReady place.now.hub.now place.now.desk.now workers.items }
+    requires sweep { IfSome sweep (MaySweep place.now.hub.now) }
+    ensures worked { IfOk result.0 (λ all.
+        AllWork place.now.hub.now place.now.desk.now workers.items all.items) }
+    ensures swept { IfOk result.1 (IsSwept place.now.hub.now sweep) }
 {
+    let meeting = &Meeting::new(&sweep);
     thread::join(
         rt,
         move || -> Result<Vec<Result<Shift, AllocError>>, AllocError>
-            requires { AreReady hub.now desk.now workers.items }
+            requires { AreReady place.now.hub.now place.now.desk.now workers.items }
             ensures all { IfOk result (λ all.
-                AllWork hub.entry.now desk.entry.now workers.items all.items) }
-        { work_all(rt, alloc, hub, desk, gate, meeting, workers) },
+                AllWork place.entry.now.hub.now place.entry.now.desk.now workers.items all.items) }
+        { work_all(rt, alloc, place, meeting, workers) },
         move || -> Result<Option<Teller>, AllocError>
-            requires { IfSome sweep (MaySweep hub.now) }
-            ensures { IfOk result (IsSwept hub.entry.now sweep) }
-        { sweep_if(rt, hub, meeting, sweep) },
+            requires { IfSome sweep (MaySweep place.now.hub.now) }
+            ensures { IfOk result (IsSwept place.entry.now.hub.now sweep) }
+        { sweep_if(rt, place.hub, meeting, sweep) },
     )
 }
 
@@ -100,35 +95,16 @@ fn with_sweeper(crew: Crew, teller: Option<Teller>) -> Result<Crew, AllocError>
 pub fn run_crew<R: Threads + Wait + Sync, G: Gate + Sync>(
     rt: &R,
     alloc: Global,
-    hub: &Hub,
-    desk: &Desk,
-    hands: Vec<Hand>,
-    tellers: Vec<Teller>,
-    gate: &G,
-    sweep: Option<Sweep>,
+    place: &Workplace<G>,
+    team: Team,
 ) -> Result<Crew, AllocError>
-    requires some { 0 < length hands.items }
-    requires each { length tellers.items ≡ length hands.items }
-    requires hands { AreHandsOf desk.now hands.items }
-    requires tellers { AreOf hub.now tellers.items }
-    requires sweep { IfSome sweep (MaySweep hub.now) }
-    ensures hands { IfOk result (λ crew.
-        Pairs (IsLaterHand desk.now) hands.items crew.hands.items) }
-    ensures tellers { IfOk result (λ crew.
-        Pairs (IsLaterTeller hub.now) (tellers.items ++ sweeper_of sweep) crew.tellers.items) }
-    ensures of { IfOk result (λ crew. AreHandsOf desk.now crew.hands.items
-        × AreOf hub.now crew.tellers.items) }
-    ensures enough { IfOk result (λ crew. (length crew.hands.items ≡ length hands.items)
-        × (length crew.tellers.items ≡ length tellers.items + length (sweeper_of sweep))) }
-    ensures parts { IfOk result (λ crew.
-        (sum_by hand_parts crew.hands.items ≡ sum_by hand_parts hands.items)
-        × (parts_of_tellers crew.tellers.items
-        ≡ parts_of_tellers (tellers.items ++ sweeper_of sweep))) }
-    ensures worked { IfOk result (HasWorked hub.now hands.items tellers.items sweep) }
+    requires { IsTeamOf place.now.hub.now place.now.desk.now team }
+    ensures worked { IfOk result (HasWorked place.now.hub.now place.now.desk.now team) }
+    ensures back { IfOk result (AreBack place.now.hub.now place.now.desk.now team) }
 {
+    let Team { hands, tellers, sweep } = team;
     let workers = workers(alloc, hands, tellers)?;
-    let meeting = Meeting::new(&sweep);
-    let (worked, swept) = start(rt, alloc, hub, desk, gate, &meeting, workers, sweep);
+    let (worked, swept) = start(rt, alloc, place, workers, sweep);
     let results = worked?;
     let crew = gather(alloc, results)?;
     let sweeper = swept?;

@@ -13,10 +13,11 @@ ghost use Rattle.inst_crew.specs.inner.Workers.{HasHandAndTeller, Works, HasEnde
 
 use crate::meeting::Meeting;
 use crate::worker::Worker;
+use crate::workplace::Workplace;
 use inst_base::mention;
 use inst_command::{Ask, Outcome, State};
-use inst_desk::{Desk, Hand};
-use inst_hub::{Gate, Hub, Teller, Ticket};
+use inst_desk::Hand;
+use inst_hub::{Gate, Teller, Ticket};
 use std::alloc::{AllocError, Global};
 use std::sync::Wait;
 
@@ -67,22 +68,23 @@ impl Shift {
     fn serve<R: Wait, G: Gate>(
         &mut self,
         rt: &R,
-        hub: &Hub,
+        place: &Workplace<G>,
         ask: &Ask,
-        gate: &G,
     ) -> Result<(), AllocError>
-        requires of { IsTellerOf hub.now self.old.teller }
-        requires fits { ask_fits hub.now.settings ask.now ≡ true }
+        requires of { IsTellerOf place.now.hub.now self.old.teller }
+        requires fits { ask_fits place.now.hub.now.settings ask.now ≡ true }
         requires seen { AreSeen self.old.teller self.old.states.items }
         ensures hand { self.new.hand ≡ self.old.hand }
-        ensures of { IsTellerOf hub.now self.new.teller }
+        ensures of { IsTellerOf place.now.hub.now self.new.teller }
         ensures knows { TellerKnowsMore self.old.teller self.new.teller }
         ensures answered { OnOk result (self.new.answered
             ≡ min (self.old.answered + 1) (2 ^ 64 - 1)) }
         ensures seen { OnOk result (AreSeen self.new.teller self.new.states.items) }
-        ensures served { OnOk result (ServesOne hub.now ask.now self.old self.new) }
+        ensures served { OnOk result (ServesOne place.now.hub.now ask.now self.old self.new) }
     {
-        let (_, ticket) = hub.call_with(rt, &mut self.teller, ask, gate)?;
+        let (_, ticket) = place
+            .hub
+            .call_with(rt, &mut self.teller, ask, place.gate)?;
         self.answered = self.answered.saturating_add(1);
         match ticket {
             Some(ticket) => self.note(ticket),
@@ -95,24 +97,23 @@ impl Shift {
     fn turn<R: Wait, G: Gate>(
         &mut self,
         rt: &R,
-        hub: &Hub,
-        desk: &Desk,
-        gate: &G,
+        place: &Workplace<G>,
         meeting: &Meeting,
     ) -> Result<bool, AllocError>
-        requires hand { IsHandOf desk.now self.old.hand }
-        requires teller { IsTellerOf hub.now self.old.teller }
+        requires hand { IsHandOf place.now.desk.now self.old.hand }
+        requires teller { IsTellerOf place.now.hub.now self.old.teller }
         requires seen { AreSeen self.old.teller self.old.states.items }
-        ensures works { OnOk result ((w : Worker) → Works hub.now desk.now w self.old →
-            Works hub.now desk.now w self.new) }
+        ensures works { OnOk result ((w : Worker) →
+            Works place.now.hub.now place.now.desk.now w self.old →
+            Works place.now.hub.now place.now.desk.now w self.new) }
         ensures emptied { result ≡ Ok false → WasEmpty self.new.hand }
     {
-        let Some(job) = desk.take(rt, &mut self.hand) else {
+        let Some(job) = place.desk.take(rt, &mut self.hand) else {
             return Ok(false);
         };
-        if job.ask.fits(hub.settings()) {
+        if job.ask.fits(place.hub.settings()) {
             meeting.come();
-            self.serve(rt, hub, &job.ask, gate)?;
+            self.serve(rt, place, &job.ask)?;
             meeting.count();
         }
         Ok(true)
@@ -124,18 +125,16 @@ impl Shift {
 pub(crate) fn work<R: Wait, G: Gate>(
     rt: &R,
     alloc: Global,
-    hub: &Hub,
-    desk: &Desk,
-    gate: &G,
+    place: &Workplace<G>,
     meeting: &Meeting,
     worker: Worker,
 ) -> Result<Shift, AllocError>
-    requires { HasHandAndTeller hub.now desk.now worker }
-    ensures { IfOk result (HasEndedShift hub.now desk.now worker) }
+    requires { HasHandAndTeller place.now.hub.now place.now.desk.now worker }
+    ensures { IfOk result (HasEndedShift place.now.hub.now place.now.desk.now worker) }
 {
     let mut shift = Shift::begin(alloc, worker);
     for _ in rt.forever() {
-        if !shift.turn(rt, hub, desk, gate, meeting)? {
+        if !shift.turn(rt, place, meeting)? {
             return Ok(shift);
         }
     }

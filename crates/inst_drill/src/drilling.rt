@@ -1,12 +1,6 @@
 //! All openings of a drill, one after the other.
-ghost use Rattle.std.specs.Prelude.{◌≡◌, ◌≢◌, ◌⊎◌, ◌↔◌, ◌≤◌, ℕ, length, OnOk, IfOk, IfErr};
-ghost use Rattle.std.specs.Prelude.{IsOkUnless, Err};
+ghost use Rattle.std.specs.Prelude.{◌≡◌, ◌≢◌, ◌⊎◌, ◌↔◌, OnOk, IfOk, IfErr, Err};
 ghost use Rattle.std.specs.Io.KnownBytes.{Appends};
-ghost use Rattle.inst_hub.specs.Calls.{AreOf};
-ghost use Rattle.inst_hub.specs.Opening.{HaveAllParts};
-ghost use Rattle.inst_drill.specs.declared.plan.TheConstants.{MOST_DRILL_OPENINGS};
-ghost use Rattle.inst_close.specs.Closing.{IsOpenedSo};
-ghost use Rattle.inst_drill.specs.inner.Chain.{AreAfter, opening_of};
 ghost use Rattle.inst_drill.specs.Plan.{MayDrill};
 ghost use Rattle.inst_drill.specs.Drilled.{EndsADrill, HasDrilledAll, HasDrilledFewer};
 ghost use Rattle.inst_drill.specs.Report.{report_text, ends_text};
@@ -16,40 +10,15 @@ use crate::explaining::DrillResult;
 use crate::opening::run_opening;
 use crate::plan::Plan;
 use crate::report::Report;
-use crate::staff::STAFF;
+use crate::request::DrillRequest;
+use crate::round::Round;
 use inst_base::Fault;
-use inst_close::Books;
 use inst_command::Step;
-use inst_hub::{Gate, Hub, Teller};
-use inst_settings::Settings;
+use inst_hub::Gate;
 use std::alloc::Global;
 use std::io::Write;
 use std::sync::Wait;
 use std::thread::Threads;
-
-/// The hub of the next opening from these books, or of the first one where there are none. `Memory`
-/// is the only fault.
-fn open(
-    alloc: Global,
-    settings: &Settings,
-    books: &Option<Books>,
-) -> Result<(Hub, Vec<Teller>), Fault>
-    requires { (n : ℕ) × (n ≤ MOST_DRILL_OPENINGS) × AreAfter settings.now n books.now }
-    ensures settings { IfOk result (λ r. r.0.settings ≡ settings.now) }
-    ensures tellers { IfOk result (λ r. AreOf r.0 r.1.items × (length r.1.items ≡ 3)) }
-    ensures parts { IfOk result (λ r. HaveAllParts r.1.items) }
-    ensures opened { IfOk result (λ r. IsOpenedSo (opening_of books.now) r.0) }
-    ensures only { IsOkUnless result Fault.Memory }
-{
-    match books {
-        Some(books) => {
-            // No effect: that books can be opened from rests on what they are.
-            let _settings = books.settings();
-            books.open_next(alloc, STAFF)
-        }
-        None => Hub::open(alloc, settings.copy()?, STAFF),
-    }
-}
 
 /// Writes what was done in an opening.
 fn tell<W: Write>(alloc: Global, report: &Report, writer: &mut W) -> Result<(), Fault>
@@ -90,9 +59,9 @@ fn if_first(opening: u8, steps: Vec<Step>, before: Vec<Step>) -> Vec<Step>
 /// half of them are confirmed, a third one begins to sweep at their deadline beside them, so that
 /// the others are accepted or time out as the threads race. Then the hub is closed, and steps of a
 /// hub in one thread are rebuilt that leave the same books. `writer` gets the four lines of a
-/// `Report`, and `progress` the line `accepted A timed_out T`. If `is_watched`, `progress` gets a
-/// line also as an opening begins; what it doesn't take is lost. Returns the books of the last
-/// opening, and the steps of the first one.
+/// `Report`, and `progress` the line `accepted A timed_out T`. If the request is watched,
+/// `progress` gets a line also as an opening begins; what it doesn't take is lost. Returns the
+/// books of the last opening, and the steps of the first one.
 ///
 /// # Errors
 ///
@@ -103,35 +72,37 @@ fn if_first(opening: u8, steps: Vec<Step>, before: Vec<Step>) -> Vec<Step>
 pub fn drill<R: Threads + Wait + Sync, G: Gate + Sync, W: Write, P: Write>(
     rt: &R,
     alloc: Global,
-    settings: Settings,
-    transfers: u16,
-    openings: u8,
-    gate: &G,
+    request: &DrillRequest<G>,
     writer: &mut W,
     progress: &mut P,
-    is_watched: bool,
 ) -> Result<DrillResult, DrillError>
     ensures bad { (result ≡ Err (DrillError.Fault Fault.BadSettings)) ↔
-        ¬ MayDrill settings transfers openings }
-    ensures ok { IfOk result
-        (HasDrilledAll settings openings (W.contents writer.old) (W.contents writer.new)) }
+        ¬ MayDrill request.now.settings request.now.transfers request.now.openings }
+    ensures ok { IfOk result (HasDrilledAll request.now.settings request.now.openings
+        (W.contents writer.old) (W.contents writer.new)) }
     ensures only { IfErr result EndsADrill }
     ensures untouched { result ≡ Err (DrillError.Fault Fault.BadSettings) →
         writer.new ≡ writer.old }
     ensures fewer { (result ≡ Err (DrillError.Fault Fault.Memory))
         ⊎ (result ≡ Err DrillError.NoInterleaving)
-        → HasDrilledFewer settings openings (W.contents writer.old) (W.contents writer.new) }
+        → HasDrilledFewer request.now.settings request.now.openings
+        (W.contents writer.old) (W.contents writer.new) }
 {
-    let plan = Plan::of(&settings, transfers, openings)?;
+    let openings = request.openings;
+    let plan = Plan::of(&request.settings, request.transfers, openings)?;
     let mut books = None;
     let mut steps = Vec::new(alloc);
     for done in 0..openings {
         let opening = done + 1;
-        if is_watched {
+        if request.is_watched {
             let _ = writeln!(progress, "opening {opening} of {openings}");
         }
-        let (hub, tellers) = open(alloc, &settings, &books)?;
-        let (report, left) = run_opening(rt, alloc, hub, tellers, &books, &plan, opening, gate)?;
+        let round = Round {
+            plan,
+            opening,
+            gate: request.gate,
+        };
+        let (report, left) = run_opening(rt, alloc, &request.settings, &books, &round)?;
         tell(alloc, &report, writer)?;
         let _ = tell_ends(alloc, &report, progress);
         books = Some(left.books);

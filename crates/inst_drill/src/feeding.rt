@@ -15,33 +15,40 @@ pub(crate) enum Phase {
     Confirming,
 }
 
-impl Phase {
-    fn ask(self, alloc: Global, plan: &Plan, number: u32) -> Result<Ask, AllocError> {
-        match self {
-            Phase::Submitting => plan.submission(alloc, number),
-            Phase::Confirming => plan.confirmation(alloc, number),
+/// The asks of a phase of an opening, the first of which is 1.
+#[derive(Clone, Copy)]
+pub(crate) struct Asks {
+    pub(crate) plan: Plan,
+    pub(crate) opening: u8,
+    pub(crate) phase: Phase,
+}
+
+impl Asks {
+    /// The ask about the transfer of this number.
+    fn ask(&self, alloc: Global, number: u32) -> Result<Ask, AllocError> {
+        match self.phase {
+            Phase::Submitting => self.plan.submission(alloc, number),
+            Phase::Confirming => self.plan.confirmation(alloc, number),
         }
     }
 }
 
-/// Puts a job for each transfer of this opening, the first of which is 1. The desk has room for
-/// them.
+/// Puts a job for each of these asks. The desk has room for them.
 pub(crate) fn feed<R: Wait>(
     rt: &R,
     alloc: Global,
     desk: &Desk,
     hand: &mut Hand,
-    plan: &Plan,
-    phase: Phase,
-    opening: u8,
+    asks: &Asks,
 ) -> Result<(), AllocError>
     requires { IsHandOf desk.now hand.old }
     ensures { OnOk result (IsHandOf desk.now hand.new × (hand_parts hand.new ≡ hand_parts hand.old)) }
 {
-    let before = u32::from(opening.saturating_sub(1)) * u32::from(plan.transfers);
-    for index in 1..=u32::from(plan.transfers) {
+    let transfers = u32::from(asks.plan.transfers);
+    let before = u32::from(asks.opening.saturating_sub(1)) * transfers;
+    for index in 1..=transfers {
         let number = before + index;
-        let ask = phase.ask(alloc, plan, number)?;
+        let ask = asks.ask(alloc, number)?;
         let _ = desk.put(rt, hand, Job { number, ask });
     }
     Ok(())

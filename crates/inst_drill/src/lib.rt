@@ -9,6 +9,8 @@ mod feeding;
 mod opening;
 mod plan;
 mod report;
+mod request;
+mod round;
 mod staff;
 
 pub use drilling::drill;
@@ -16,3 +18,4 @@ pub use error::DrillError;
 pub use explaining::DrillResult;
 pub use inst_hub::{Gate, Ungated};
 pub use report::Report;
+pub use request::DrillRequest;

@@ -1,24 +1,27 @@
 //! One opening of a drill, from its first command to its books.
-ghost use Rattle.std.specs.Prelude.{◌≡◌, ◌⊎◌, length, IfOk, IfErr, IsOkUnless};
+ghost use Rattle.std.specs.Prelude.{◌≡◌, ◌⊎◌, ◌≤◌, ℕ, length, IfOk, IfErr, IsOkUnless};
 ghost use Rattle.inst_hub.specs.Calls.{AreOf};
 ghost use Rattle.inst_hub.specs.Opening.{HaveAllParts};
 ghost use Rattle.inst_crew.specs.Seen.{AreSeenByOne};
 ghost use Rattle.inst_close.specs.Closing.{IsOpenedSo};
-ghost use Rattle.inst_drill.specs.inner.Chain.{opening_of};
+ghost use Rattle.inst_drill.specs.inner.Chain.{AreAfter, opening_of};
+ghost use Rattle.inst_drill.specs.declared.plan.TheConstants.{MOST_DRILL_OPENINGS};
 ghost use Rattle.inst_drill.specs.inner.Plan.{IsPlan};
 ghost use Rattle.inst_drill.specs.Drilled.{IsDrilled, drill_opening};
 
 use crate::counting::{contradicted, ends};
 use crate::error::DrillError;
 use crate::explaining::{DrillResult, explain};
-use crate::plan::Plan;
 use crate::report::Report;
+use crate::round::Round;
 use crate::staff::{STAFF, Staff};
 use inst_base::Fault;
 use inst_close::{Books, close};
 use inst_command::State;
+use inst_crew::Workplace;
 use inst_desk::Desk;
 use inst_hub::{Gate, Hub, Teller, Ticket};
+use inst_settings::Settings;
 use std::alloc::Global;
 use std::sync::Wait;
 use std::thread::Threads;
@@ -37,6 +40,30 @@ struct Worked {
     confirmed: Vec<(Ticket, State)>,
 }
 
+/// The hub of the next opening from these books, or of the first one where there are none. `Memory`
+/// is the only fault.
+fn open(
+    alloc: Global,
+    settings: &Settings,
+    books: &Option<Books>,
+) -> Result<(Hub, Vec<Teller>), Fault>
+    requires { (n : ℕ) × (n ≤ MOST_DRILL_OPENINGS) × AreAfter settings.now n books.now }
+    ensures settings { IfOk result (λ r. r.0.settings ≡ settings.now) }
+    ensures tellers { IfOk result (λ r. AreOf r.0 r.1.items × (length r.1.items ≡ 3)) }
+    ensures parts { IfOk result (λ r. HaveAllParts r.1.items) }
+    ensures opened { IfOk result (λ r. IsOpenedSo (opening_of books.now) r.0) }
+    ensures only { IsOkUnless result Fault.Memory }
+{
+    match books {
+        Some(books) => {
+            // No effect: that books can be opened from rests on what they are.
+            let _settings = books.settings();
+            books.open_next(alloc, STAFF)
+        }
+        None => Hub::open(alloc, settings.copy()?, STAFF),
+    }
+}
+
 /// Participant 0 is funded and submits, participant 1 confirms beside the sweeper, and both are
 /// swept.
 fn work<R: Threads + Wait + Sync, G: Gate + Sync>(
@@ -44,13 +71,11 @@ fn work<R: Threads + Wait + Sync, G: Gate + Sync>(
     alloc: Global,
     hub: &Hub,
     tellers: Vec<Teller>,
-    plan: &Plan,
-    opening: u8,
-    gate: &G,
+    round: &Round<G>,
 ) -> Result<Worked, Fault>
     requires tellers { AreOf hub.now tellers.items × (length tellers.items ≡ 3) }
     requires parts { HaveAllParts tellers.items }
-    requires plan { IsPlan hub.now.settings plan.now }
+    requires plan { IsPlan hub.now.settings round.now.plan }
     ensures of { IfOk result (λ worked. AreOf hub.now worked.tellers.items) }
     ensures parts { IfOk result (λ worked. HaveAllParts worked.tellers.items) }
     ensures submitted { IfOk result (λ worked.
@@ -59,15 +84,18 @@ fn work<R: Threads + Wait + Sync, G: Gate + Sync>(
         AreSeenByOne worked.tellers.items worked.confirmed.items) }
     ensures only { IsOkUnless result Fault.Memory }
 {
-    let (desk, hands) = Desk::open(alloc, plan.transfers, STAFF)?;
+    let (desk, hands) = Desk::open(alloc, round.plan.transfers, STAFF)?;
     let mut staff = Staff::of(hub, &desk, hands, tellers);
-    staff.fund(rt, alloc, hub, plan, opening)?;
-    let submitted = staff.submit(rt, alloc, hub, &desk, plan, opening, gate)?;
-    let confirmed = submitted
-        .staff
-        .confirm(rt, alloc, hub, &desk, plan, opening, gate)?;
+    staff.fund(rt, alloc, hub, round)?;
+    let place = Workplace {
+        hub,
+        desk: &desk,
+        gate: round.gate,
+    };
+    let submitted = staff.submit(rt, alloc, &place, round)?;
+    let confirmed = submitted.staff.confirm(rt, alloc, &place, round)?;
     let mut staff = confirmed.staff;
-    staff.sweep(rt, hub, plan)?;
+    staff.sweep(rt, hub, &round.plan)?;
     let (hands, tellers) = staff.dismiss()?;
     Ok(Worked {
         tellers,
@@ -78,8 +106,8 @@ fn work<R: Threads + Wait + Sync, G: Gate + Sync>(
     })
 }
 
-/// Runs an opening of a hub that was opened from the books `before`, and returns its report and
-/// what it leaves.
+/// Opens a hub from the books `before`, or for the first time where there are none, does what the
+/// round says, and closes it. Returns its report and what it leaves.
 ///
 /// # Errors
 ///
@@ -88,30 +116,26 @@ fn work<R: Threads + Wait + Sync, G: Gate + Sync>(
 pub(crate) fn run_opening<R: Threads + Wait + Sync, G: Gate + Sync>(
     rt: &R,
     alloc: Global,
-    hub: Hub,
-    tellers: Vec<Teller>,
+    settings: &Settings,
     before: &Option<Books>,
-    plan: &Plan,
-    opening: u8,
-    gate: &G,
+    round: &Round<G>,
 ) -> Result<(Report, DrillResult), DrillError>
-    requires tellers { AreOf hub tellers.items × (length tellers.items ≡ 3) }
-    requires parts { HaveAllParts tellers.items }
-    requires opened { IsOpenedSo (opening_of before.now) hub }
-    requires plan { IsPlan hub.settings plan.now }
+    requires before { (n : ℕ) × (n ≤ MOST_DRILL_OPENINGS) × AreAfter settings.now n before.now }
+    requires plan { IsPlan settings.now round.now.plan }
     ensures drilled { IfOk result (λ r.
-        IsDrilled hub.settings
+        IsDrilled settings.now
         (drill_opening (opening_of before.now) r.1.books r.1.steps.items r.0)) }
     ensures only { IfErr result (λ e. (e ≡ DrillError.Fault Fault.Memory)
         ⊎ (e ≡ DrillError.NoInterleaving)) }
 {
+    let (hub, tellers) = open(alloc, settings, before)?;
     let Worked {
         tellers,
         jobs,
         answered,
         submitted,
         confirmed,
-    } = work(rt, alloc, &hub, tellers, plan, opening, gate)?;
+    } = work(rt, alloc, &hub, tellers, round)?;
     let Ok(books) = close(alloc, hub, tellers) else {
         return Err(DrillError::Fault(Fault::Memory));
     };

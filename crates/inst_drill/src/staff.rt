@@ -11,8 +11,9 @@ ghost use Rattle.inst_drill.specs.inner.Staff.{IsStaffOf, tellers_of};
 
 use crate::feeding::{Phase, feed};
 use crate::plan::Plan;
+use crate::round::Round;
 use inst_command::State;
-use inst_crew::run_crew;
+use inst_crew::{Team, Workplace, run_crew};
 use inst_desk::{Desk, Hand};
 use inst_hub::{Gate, Hub, Teller, Ticket};
 use std::alloc::{AllocError, Global};
@@ -70,20 +71,19 @@ impl Staff {
     }
 
     /// Funds participant 0 for all transfers of the opening.
-    pub(crate) fn fund<R: Wait>(
+    pub(crate) fn fund<R: Wait, G>(
         &mut self,
         rt: &R,
         alloc: Global,
         hub: &Hub,
-        plan: &Plan,
-        opening: u8,
+        round: &Round<G>,
     ) -> Result<(), AllocError>
         requires staff { (desk : Desk) × IsStaffOf hub.now desk self.old }
-        requires plan { IsPlan hub.now.settings plan.now }
+        requires plan { IsPlan hub.now.settings round.now.plan }
         ensures staff { (desk : Desk) → IsStaffOf hub.now desk self.old →
             IsStaffOf hub.now desk self.new }
     {
-        let ask = plan.funding(alloc, opening)?;
+        let ask = round.plan.funding(alloc, round.opening)?;
         hub.call(rt, &mut self.sweeper, &ask)?;
         Ok(())
     }
@@ -93,14 +93,12 @@ impl Staff {
         self,
         rt: &R,
         alloc: Global,
-        hub: &Hub,
-        desk: &Desk,
-        plan: &Plan,
-        opening: u8,
-        gate: &G,
+        place: &Workplace<G>,
+        round: &Round<G>,
     ) -> Result<Work, AllocError>
-        requires { IsStaffOf hub.now desk.now self }
-        ensures staff { IfOk result (λ work. IsStaffOf hub.now desk.now work.staff) }
+        requires { IsStaffOf place.now.hub.now place.now.desk.now self }
+        ensures staff { IfOk result (λ work.
+            IsStaffOf place.now.hub.now place.now.desk.now work.staff) }
         ensures states { IfOk result (λ work.
             AreSeenByOne (tellers_of work.staff) work.states.items) }
     {
@@ -110,16 +108,14 @@ impl Staff {
             sweeper,
             tellers,
         } = self;
-        feed(
-            rt,
-            alloc,
-            desk,
-            &mut feeder,
-            plan,
-            Phase::Submitting,
-            opening,
-        )?;
-        let crew = run_crew(rt, alloc, hub, desk, hands, tellers, gate, None)?;
+        let asks = round.asks(Phase::Submitting);
+        feed(rt, alloc, place.desk, &mut feeder, &asks)?;
+        let team = Team {
+            hands,
+            tellers,
+            sweep: None,
+        };
+        let crew = run_crew(rt, alloc, place, team)?;
         Ok(Work {
             staff: Staff {
                 feeder,
@@ -138,17 +134,15 @@ impl Staff {
         self,
         rt: &R,
         alloc: Global,
-        hub: &Hub,
-        desk: &Desk,
-        plan: &Plan,
-        opening: u8,
-        gate: &G,
+        place: &Workplace<G>,
+        round: &Round<G>,
     ) -> Result<Work, AllocError>
-        requires staff { IsStaffOf hub.now desk.now self }
-        requires plan { IsPlan hub.now.settings plan.now }
-        ensures staff { IfOk result (λ work. IsStaffOf hub.now desk.now work.staff) }
+        requires staff { IsStaffOf place.now.hub.now place.now.desk.now self }
+        requires plan { IsPlan place.now.hub.now.settings round.now.plan }
+        ensures staff { IfOk result (λ work.
+            IsStaffOf place.now.hub.now place.now.desk.now work.staff) }
         ensures later { IfOk result (λ work.
-            Pairs (IsLaterTeller hub.now) (tellers_of self) (tellers_of work.staff)) }
+            Pairs (IsLaterTeller place.now.hub.now) (tellers_of self) (tellers_of work.staff)) }
         ensures states { IfOk result (λ work.
             AreSeenByOne (tellers_of work.staff) work.states.items) }
     {
@@ -158,17 +152,14 @@ impl Staff {
             sweeper,
             tellers,
         } = self;
-        feed(
-            rt,
-            alloc,
-            desk,
-            &mut feeder,
-            plan,
-            Phase::Confirming,
-            opening,
-        )?;
-        let sweep = Some(plan.sweep(sweeper));
-        let crew = run_crew(rt, alloc, hub, desk, hands, tellers, gate, sweep)?;
+        let asks = round.asks(Phase::Confirming);
+        feed(rt, alloc, place.desk, &mut feeder, &asks)?;
+        let team = Team {
+            hands,
+            tellers,
+            sweep: Some(round.plan.sweep(sweeper)),
+        };
+        let crew = run_crew(rt, alloc, place, team)?;
         let mut tellers = crew.tellers;
         let Some(sweeper) = tellers.pop() else {
             unreachable!()

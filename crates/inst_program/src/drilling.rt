@@ -14,7 +14,7 @@ ghost use Rattle.inst_program.specs.inner.ExitReason.{status_of_ending};
 use crate::exit_reason::ExitReason;
 use crate::logs::Logs;
 use inst_command::Step;
-use inst_drill::{DrillResult, Ungated, drill};
+use inst_drill::{DrillRequest, DrillResult, Ungated, drill};
 use inst_json::append_step;
 use inst_options::LogFault;
 use inst_settings::Settings;
@@ -83,10 +83,14 @@ fn run_drill<H: Threads + Wait + Sync, W: Write, E: Write>(
         openings,
         is_watched,
     } = asked;
-    let gate = &Ungated;
-    match drill(
-        rt, alloc, settings, transfers, openings, gate, writer, errors, is_watched,
-    ) {
+    let request = DrillRequest {
+        settings,
+        transfers,
+        openings,
+        gate: &Ungated,
+        is_watched,
+    };
+    match drill(rt, alloc, &request, writer, errors) {
         Ok(left) => Ok(left),
         Err(error) => Err(ExitReason::from(error)),
     }

@@ -15,9 +15,9 @@ use inst_base::Fault;
 use inst_cell::Sight;
 use inst_close::{Books, CloseFault, close};
 use inst_command::{Ask, Reply, State};
-use inst_crew::{Crew, run_crew};
+use inst_crew::{Crew, Team, Workplace, run_crew};
 use inst_desk::{Desk, Hand, Job};
-use inst_drill::{DrillError, DrillResult, drill};
+use inst_drill::{DrillError, DrillRequest, DrillResult, drill};
 use inst_hub::{Hub, Participant, Teller, Ungated};
 use inst_participant::Parts;
 use inst_settings::Settings;
@@ -108,8 +108,18 @@ pub fn crew<R: Threads + Wait + Sync>(
     requires hands { AreHandsOf desk.now hands.items }
     requires tellers { AreOf hub.now tellers.items }
 {
+    let place = Workplace {
+        hub,
+        desk,
+        gate: &Ungated, // nothing is done inside the locks
+    };
     // A thread for each hand, with a teller of its own, and no sweeper.
-    let crew = run_crew(rt, alloc, hub, desk, hands, tellers, &Ungated, None)?;
+    let team = Team {
+        hands,
+        tellers,
+        sweep: None,
+    };
+    let crew = run_crew(rt, alloc, &place, team)?;
     Ok(crew) // the jobs that were answered, what was seen, the hands and the tellers
 }
 
@@ -120,7 +130,13 @@ pub fn drilled<R: Threads + Wait + Sync, W: Write>(
     settings: Settings,
     writer: &mut W,
 ) -> Result<DrillResult, DrillError> {
-    let gate = &Ungated; // nothing is done inside the locks
+    let request = DrillRequest {
+        settings,
+        transfers: 200,
+        openings: 2,
+        gate: &Ungated, // nothing is done inside the locks
+        is_watched: false,
+    };
     let mut told = Vec::new(alloc); // how many transfers were accepted, and how many timed out
-    drill(rt, alloc, settings, 200, 2, gate, writer, &mut told, false) // eight lines for the writer
+    drill(rt, alloc, &request, writer, &mut told) // eight lines for the writer
 }

@@ -10,7 +10,7 @@ use crate::crew::setting::desk;
 use crate::tellers::last;
 use inst_base::{Fault, Moment};
 use inst_command::{Outcome, State};
-use inst_crew::{Crew, Sweep, run_crew};
+use inst_crew::{Crew, Sweep, Team, Workplace, run_crew};
 use inst_desk::Desk;
 use inst_fixtures::settings;
 use inst_hub::{Hub, Teller, Ticket, Ungated};
@@ -59,7 +59,17 @@ fn swept<R: Threads + Wait + Sync + Abort>(
     let (ticket, seen) = first_seen(&crew)?;
     same(rt, (crew.states.len(), seen), (1, State::Pending));
     let Crew { hands, tellers, .. } = crew;
-    let crew = run_crew(rt, alloc, hub, desk, hands, tellers, &Ungated, Some(sweep))?;
+    let place = Workplace {
+        hub,
+        desk,
+        gate: &Ungated,
+    };
+    let team = Team {
+        hands,
+        tellers,
+        sweep: Some(sweep),
+    };
+    let crew = run_crew(rt, alloc, &place, team)?;
     let mut tellers = crew.tellers;
     let Some(mut teller) = tellers.pop() else {
         return Err(Fault::BadSettings);
@@ -83,7 +93,17 @@ fn submitted_and_swept<R: Threads + Wait + Sync + Abort>(
     let sweep = sweep(hub, second)?;
     let submission = asked(0, Deed::Submit("T1", 20_000, 1_000), 1_000)?;
     let (desk, hands) = desk(rt, alloc, &[submission], 1)?;
-    let crew = run_crew(rt, alloc, hub, &desk, hands, tellers, &Ungated, None)?;
+    let place = Workplace {
+        hub,
+        desk: &desk,
+        gate: &Ungated,
+    };
+    let team = Team {
+        hands,
+        tellers,
+        sweep: None,
+    };
+    let crew = run_crew(rt, alloc, &place, team)?;
     swept(rt, alloc, hub, &desk, crew, sweep)
 }
 

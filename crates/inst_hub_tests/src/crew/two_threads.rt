@@ -8,7 +8,7 @@ use crate::comparing::same;
 use crate::crew::setting::desk;
 use inst_base::Fault;
 use inst_command::Ask;
-use inst_crew::run_crew;
+use inst_crew::{Team, Workplace, run_crew};
 use inst_fixtures::settings;
 use inst_hub::{Gate, Hub, Teller};
 use std::alloc::Global;
@@ -73,7 +73,17 @@ fn met<R: Threads + Wait + Sync + Abort>(
 {
     let (desk, hands) = desk(rt, alloc, asks, 2)?;
     let gate = Waits::new();
-    let crew = run_crew(rt, alloc, hub, &desk, hands, tellers, &gate, None)?;
+    let place = Workplace {
+        hub,
+        desk: &desk,
+        gate: &gate,
+    };
+    let team = Team {
+        hands,
+        tellers,
+        sweep: None,
+    };
+    let crew = run_crew(rt, alloc, &place, team)?;
     same(rt, (crew.answered, gate.met.load(Ordering::SeqCst)), (2, 1));
     Ok(())
 }

@@ -3,7 +3,7 @@ use crate::comparing::same;
 use crate::drill::kept::{Kept, funded, kept_of};
 use inst_base::Fault;
 use inst_close::Books;
-use inst_drill::{DrillError, drill};
+use inst_drill::{DrillError, DrillRequest, drill};
 use inst_fixtures::{A, B, settings_with};
 use inst_hub::Ungated;
 use std::alloc::Global;
@@ -109,10 +109,14 @@ fn drilled<R: Threads + Wait + Sync>(
     written: &mut Vec<u8>,
     progress: &mut Vec<u8>,
 ) -> Result<Books, DrillError> {
-    let settings = settings_with(alloc, TRANSFERS, 0)?;
-    let left = drill(
-        rt, alloc, settings, TRANSFERS, OPENINGS, &Ungated, written, progress, false,
-    )?;
+    let request = DrillRequest {
+        settings: settings_with(alloc, TRANSFERS, 0)?,
+        transfers: TRANSFERS,
+        openings: OPENINGS,
+        gate: &Ungated,
+        is_watched: false,
+    };
+    let left = drill(rt, alloc, &request, written, progress)?;
     Ok(left.books)
 }
 

@@ -1,4 +1,4 @@
-use Rattle.std.proofs.Common.{subst, ◌∙◌, sym, refl, ap, arith, List}
+use Rattle.std.proofs.Common.{◌≡◌, subst, ◌∙◌, sym, refl, ap, arith, List}
 use Rattle.inst_command.specs.declared.place.Place.{Place}
 use Rattle.inst_command.specs.declared.outcome.Outcome.TheVariants.{Accepted, TimedOut}
 use Rattle.inst_command.specs.declared.outcome.State.{State}
@@ -16,11 +16,13 @@ returns-clause-drilled g c =
     let told = c.in-Ok.ensures.told in
     let first = c.contradicted.ensures (subst (λ (l : List (Place × State)). NoneContradicts (histories c.in-Ok.books.books) l) (sym c.deref.ensures.value) (none_contradicts _ _ _ told c.in_ok-tellers.ensures.submitted)) in
     let then = c.contradicted-2.ensures (subst (λ (l : List (Place × State)). NoneContradicts (histories c.in-Ok.books.books) l) (sym c.deref-2.ensures.value) (none_contradicts _ _ _ told c.in_ok-tellers.ensures.confirmed)) in
+    let opening = opening_of c.args.before.now in
+    let same : c.in-Ok.books.settings ≡ c.args.settings.now = c.in-Ok.ensures.settings ∙ c.in_ok-hub.ensures.settings in
     record {
-      settings = c.in-Ok.ensures.settings;
-      opened = c.in-Ok.ensures.opened (opening_of c.args.before.now) c.requires.opened;
+      settings = same;
+      opened = c.in-Ok.ensures.opened opening c.in_ok-hub.ensures.opened;
       explained =
-          subst (λ (s : HubSettings). ExplainsBooks s (opening_of c.args.before.now) c.in-Some.steps.items (histories c.in-Ok.books.books)) c.in-Ok.ensures.settings
+          subst (λ (s : HubSettings). ExplainsBooks s opening c.in-Some.steps.items (histories c.in-Ok.books.books)) same
           (rw c.in-Some.is at c.in_ok-steps.ensures);
       report = record {
         disagree = (let added = c.saturating_add.ensures in omega (arith, added, first, then));

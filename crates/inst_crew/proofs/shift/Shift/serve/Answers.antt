@@ -21,7 +21,7 @@ returns-in-None-clause-seen g c = all_seen_more _ _ _ c.call_with.ensures.knows 
 
 pub returns-in-Some-clause-served : goal.returns-in-Some-clause-served
 returns-in-Some-clause-served g c =
-    on_ok c.note.result _ (ServesOne c.args.hub.now c.args.ask.now c.args.self.now c.note.new.self) c.note.ensures.noted
+    on_ok c.note.result _ (ServesOne c.args.place.now.hub.now c.args.ask.now c.args.self.now c.note.new.self) c.note.ensures.noted
     (λ noted. served_noted _ _ _ _ _ c.args.self.now.states.items c.note.new.self.states.items _ _ c.in_ok-ticket.ensures.call c.note.ensures.knows c.in-Some.is noted)
 
 pub returns-in-None-clause-served : goal.returns-in-None-clause-served

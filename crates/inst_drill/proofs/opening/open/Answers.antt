@@ -6,8 +6,8 @@ use Rattle.std.proofs.lemmas.Result.{IfOk-weaker}
 use Rattle.inst_drill.specs.inner.Chain.{AreAfter, IsAfter, opening_of}
 use Rattle.inst_drill.proofs.CountOfOpenings.{from_the_books, may_open}
 use Rattle.inst_drill.proofs.StaffOfOpening.{only_memory}
-use Rattle.inst_drill.proofs.drilling.open.Goals as goal
-use Rattle.inst_drill.proofs.drilling.open.Goals.{In-Some}
+use Rattle.inst_drill.proofs.opening.open.Goals as goal
+use Rattle.inst_drill.proofs.opening.open.Goals.{In-Some}
 
 after : (c : In-Some) (n : ℕ) → AreAfter c.args.settings.now n c.args.books.now → IsAfter c.args.settings.now n c.in-Some.books
 after c n so = subst (λ (b : Option ClosedHub). AreAfter c.args.settings.now n b) c.in-Some.is so
