@@ -1,5 +1,5 @@
 -- The books of all participants over one board: one of them is settled, and the others stay what they were.
-use Rattle.std.proofs.Common.{◌≡◌, ◌≢◌, ℕ, ◌+◌, ◌<◌, ◌≤◌, arith, List, [], ◌∷◌, length, length-set, set, get_or, inl, inr, ◌⊎◌, ⊎_elim, sym, ap, ◌∙◌, subst, Some}
+use Rattle.std.proofs.Common.{◌≡◌, ◌≢◌, ℕ, ◌+◌, ◌<◌, ◌≤◌, arith, List, length, length-set, set, get_or, inl, inr, ⊎_elim, sym, ap, ◌∙◌, subst, Some}
 use Rattle.std.specs.Prelude.{slice_get, ◌↔◌, Result, Ok, Err, IfOk, nat_lt}
 use Rattle.std.proofs.lemmas.Bool.{cases_eq, and_parts, ltb-true}
 use Rattle.std.proofs.lemmas.Option.{slice_get-get_or, slice_get_within}

@@ -2,7 +2,6 @@
 -- told of a transfer that the participant took or that was forwarded to it.
 use Rattle.std.proofs.Common.{◌≡◌, ℕ, Bool, true, false, ◌==◌, cond, List, [], ◌∷◌, ◌++◌, append-nil, inl, inr, ◌⊎◌, refl, sym, ap, ◌∙◌, Option, Some, None}
 use Rattle.std.specs.Prelude.{Contains, take, nat_le, nat_lt, Result, Ok, Err}
-use Rattle.std.proofs.lemmas.Bool.{false≢true}
 use Rattle.std.proofs.lemmas.List.Elements.{Contains-append_left, Contains-push}
 use Rattle.inst_base.specs.TimeLimit.{deadline_of, is_due, is_ahead}
 use Rattle.inst_base.specs.declared.fault.Fault.{Fault}
@@ -15,8 +14,7 @@ use Rattle.inst_command.specs.declared.funding.Funding.{Funding}
 use Rattle.inst_command.specs.declared.outcome.Outcome.{Outcome}
 use Rattle.inst_command.specs.declared.outcome.State.{State as StateValue}
 use Rattle.inst_command.specs.declared.outcome.State.TheVariants.{Decided}
-use Rattle.inst_command.specs.declared.reply.Reply.{Reply}
-use Rattle.inst_command.specs.declared.reply.Reply.TheVariants.{Done, Taken as TakenReply, State}
+use Rattle.inst_command.specs.declared.reply.Reply.TheVariants.{Done}
 use Rattle.inst_command.specs.declared.submission.Submission.{Submission}
 use Rattle.inst_journal.specs.declared.event.Event.{Event}
 use Rattle.inst_journal.specs.declared.event.Event.TheVariants.{Funded}

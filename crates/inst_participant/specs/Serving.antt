@@ -1,21 +1,29 @@
 -- How a participant serves an ask under its lock: the ask is put to its slot, over its board, and
 -- nothing else is done to either, so that no other transfer is decided with it. That a refusal is a
 -- reply is this hub's own choice.
-use Rattle.std.specs.Prelude.{◌≡◌, Result}
+use Rattle.std.specs.Prelude.{◌≡◌, true, Option, Result, Ok, Err, alloc_error}
 use Rattle.std.specs.declared.alloc.AllocError.{AllocError}
 use Rattle.inst_base.specs.declared.fault.Fault.{Fault}
 use Rattle.inst_command.specs.declared.ask.Ask.{Ask}
+use Rattle.inst_command.specs.declared.place.Place.{Place}
 use Rattle.inst_command.specs.declared.reply.Reply.{Reply}
+use Rattle.inst_command.specs.Ask.{ask_fits}
 use Rattle.inst_command.specs.Refusals.{refusals_told}
+use Rattle.inst_board.specs.declared.about.Fact.{Fact}
 use Rattle.inst_board.specs.Learning.{KnowTheSame}
 use Rattle.inst_cell.specs.declared.shared_board.SharedBoard.{SharedBoard}
 use Rattle.inst_cell.specs.Held.{settings_of, knows, has_role, stood, Stays}
+use Rattle.inst_journal.specs.Sound.{IsSound}
 use Rattle.inst_slot.specs.Asking.{Applies}
 use Rattle.inst_participant.specs.declared.participant.Participant.{Participant}
+use Rattle.inst_participant.specs.Answers.{Answered, IsTicket}
+use Rattle.inst_participant.specs.LockLaw.{IsReady, IsLater, HistoryGrows}
 
--- From x to y the ask is served with this answer passes_on: the slot's answer is passed on, a
--- refusal as a reply applies: the slot answered it over its board, and kept and decided what it is
--- to keep and decide, and nothing else same: its board knows no more than after that
+-- From x to y the ask is served with this answer
+-- passes_on: the slot's answer is passed on, a refusal as a reply
+-- applies: the slot answered it over its board, and kept and decided what it is to keep and decide,
+-- and nothing else
+-- same: its board knows no more than after that
 pub record Serves (x : Participant) (ask : Ask) (answer : Result Reply AllocError) (y : Participant)
     : Type 0 where
   pub result : Result Reply Fault
@@ -24,3 +32,29 @@ pub record Serves (x : Participant) (ask : Ask) (answer : Result Reply AllocErro
   pub applies : Applies (settings_of x.board).margin knows has_role stood Stays x.board x.slot ask
       result board y.slot
   pub same : KnowTheSame knows board y.board
+
+-- the participant may serve the ask: it is its own, and fits the hub
+pub record MayServe (x : Participant) (ask : Ask) : Type 0 where
+  pub ready : IsReady x
+  pub own : ask.who ≡ x.slot.who
+  pub fits : ask_fits x.slot.settings ask ≡ true
+
+-- from x to y it stays the same participant and ready, and a sound history goes on
+pub record StaysReady (x y : Participant) : Type 0 where
+  pub ready : IsReady y
+  pub later : IsLater x y
+  pub grows : HistoryGrows x y
+  pub sound : IsSound x.slot.settings x.slot.who x.slot.events
+
+-- from x to y the ask is answered by the model's reply, with its ticket, where this is known of
+-- places
+pub record AnswersAsk (x : Participant) (ask : Ask) (answer : Reply × Option Place)
+    (sees : Fact → Type 0) (y : Participant) : Type 0 where
+  pub serves : Serves x ask (Ok answer.0) y
+  pub answered : Answered x.slot.settings x.slot.who x.slot.events ask answer.0 y.slot.events
+  pub ticket : IsTicket sees x.slot.settings x.slot.who ask.command y.slot.events answer.0 answer.1
+
+-- from x to y memory was refused, and the books are as they were
+pub record LeavesUnanswered (x : Participant) (ask : Ask) (y : Participant) : Type 0 where
+  pub serves : Serves x ask (Err alloc_error) y
+  pub same : y.slot ≡ x.slot

@@ -118,3 +118,9 @@ NothingDue t y =
 -- how many events one history has more than the other, at most what an answer can say
 abbrev pub new_events : List Event → List Event → ℕ
 new_events J K = min (length K - length J) (2 ^ 32 - 1)
+
+-- a whole sweep at the reading, which brought so many new events, and left no own transfer that is
+-- due waiting
+pub record IsWholeSweep (t : ℕ) (x y : Participant) (count : ℕ) : Type 0 where
+  pub new : count ≡ new_events x.slot.events y.slot.events
+  pub due : NothingDue t y

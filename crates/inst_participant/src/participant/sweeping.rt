@@ -4,8 +4,7 @@ ghost use Rattle.inst_settings.specs.Settings.{participants};
 ghost use Rattle.inst_participant.specs.LockLaw.{IsReady, IsLater};
 ghost use Rattle.inst_participant.specs.Told.{IsToldMore};
 ghost use Rattle.inst_participant.specs.Sweeping.{MayExpire, LetsExpire, LearnsAll, LooksAt};
-ghost use Rattle.inst_participant.specs.Sweeping.{DeliversFrom, DeliversAll, Sweeps, NothingDue};
-ghost use Rattle.inst_participant.specs.Sweeping.{new_events};
+ghost use Rattle.inst_participant.specs.Sweeping.{DeliversFrom, DeliversAll, Sweeps, IsWholeSweep};
 ghost use Rattle.inst_participant.specs.Told.{IsToldAll};
 
 use super::Participant;
@@ -26,9 +25,7 @@ impl Participant {
         ensures later { IsLater self.old self.new }
         ensures told { IsToldAll self.old.slot.events self.new.slot.events }
         ensures sweeps { Sweeps at (is_ok result) self.old self.new }
-        ensures count { IfOk result (λ count.
-            count ≡ new_events self.old.slot.events self.new.slot.events) }
-        ensures due { IfOk result (λ count. NothingDue at self.new) }
+        ensures whole { IfOk result (IsWholeSweep at self.old self.new) }
     {
         let before = self.slot.journal().events().len();
         self.let_expire(at)?;

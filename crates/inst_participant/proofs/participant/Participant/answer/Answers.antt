@@ -1,4 +1,4 @@
-use Rattle.std.proofs.Common.{⊎_elim, subst, List}
+use Rattle.std.proofs.Common.{rules, ⊎_elim, subst, List}
 use Rattle.inst_cell.specs.declared.shared_board.SharedBoard.{SharedBoard}
 use Rattle.inst_cell.specs.Held.{settings_of, knows, has_role, stood, Stays, roles_same}
 use Rattle.inst_board.specs.Learning.{IsAnswer, KnowTheSame}
@@ -20,18 +20,22 @@ shared_own = record {
 
 pub apply-answer-requires-clause-adopted : goal.apply-answer-requires-clause-adopted
 apply-answer-requires-clause-adopted c =
-    asks_adopted settings_of knows has_role c.args.self.now.board c.args.self.now.slot c.args.ask.now.command c.requires.ready.lawful c.requires.ready.adopted
+    asks_adopted settings_of knows has_role c.args.self.now.board c.args.self.now.slot c.args.ask.now.command c.requires.may.ready.lawful c.requires.may.ready.adopted
 
-pub returns-clause-grows : goal.returns-clause-grows
-returns-clause-grows c =
-    grows (settings_of c.args.self.now.board).margin knows has_role stood Stays c.args.self.now.board c.apply-answer.new.board c.args.self.now.slot c.args.ask.now c.apply-answer.result c.apply-answer.new.self c.apply-answer.ensures.applies
+pub returns-clause-stays : goal.returns-clause-stays
+returns-clause-stays c = record {
+  ready = search rules;
+  later = search rules;
+  grows = grows (settings_of c.args.self.now.board).margin knows has_role stood Stays c.args.self.now.board c.apply-answer.new.board c.args.self.now.slot c.args.ask.now c.apply-answer.result c.apply-answer.new.self c.apply-answer.ensures.applies;
+  sound = subst (λ (J : List Event). IsSound c.args.self.now.slot.settings c.args.self.now.slot.who J) c.journal.ensures.events c.journal.ensures.sound;
+}
 
 pub returns-clause-answered : goal.returns-clause-answered
 returns-clause-answered c =
     told_answered c.apply-answer.result c.refusals_told.result
     (λ reply. Answered c.args.self.now.slot.settings c.args.self.now.slot.who c.args.self.now.slot.events c.args.ask.now reply c.apply-answer.new.self.events) c.refusals_told.ensures
     (answered settings_of knows has_role stood Stays shared_own c.args.self.now.board c.apply-answer.new.board c.args.self.now.slot c.args.ask.now c.apply-answer.result c.apply-answer.new.self
-    c.requires.ready.lawful (subst (λ (J : List Event). IsSound c.args.self.now.slot.settings c.args.self.now.slot.who J) c.journal.ensures.events c.journal.ensures.sound) c.apply-answer.ensures.decides c.apply-answer.ensures.applies)
+    c.requires.may.ready.lawful (subst (λ (J : List Event). IsSound c.args.self.now.slot.settings c.args.self.now.slot.who J) c.journal.ensures.events c.journal.ensures.sound) c.apply-answer.ensures.decides c.apply-answer.ensures.applies)
 
 unchanged : (b : SharedBoard) → KnowTheSame knows b b
 unchanged b f = (λ k. k, λ k. k)

@@ -1,5 +1,5 @@
 use Rattle.std.proofs.lemmas.Result.{err_from_is_err_and}
-use Rattle.std.proofs.Common.{ℕ, true, false, is_ok, sym, subst, ◌∙◌, arith}
+use Rattle.std.proofs.Common.{rules, ℕ, true, false, is_ok, sym, subst, ◌∙◌, arith}
 use Rattle.std.proofs.lemmas.Grind.{common_steps}
 use Rattle.std.specs.Prelude.{Result, None}
 use Rattle.std.specs.declared.alloc.AllocError.{AllocError}
@@ -46,10 +46,12 @@ returns-clause-sweeps c =
     (subst (λ (n : HubSettings). DeliversAll 0 (participants n) true c.learn_all.new.self c.deliver_all.new.self)
     (c.learn_all.ensures.later.settings ∙ c.let_expire.ensures.later.settings) c.in_ok-deliver_all.ensures.delivers)
 
-pub returns-clause-due : goal.returns-clause-due
-returns-clause-due c =
-    due_after c.args.at c.args.self.now c.let_expire.new.self c.deliver_all.new.self c.requires.ready c.in_ok-let_expire.ensures.expires
-    (later_twice _ _ _ c.learn_all.ensures.later c.deliver_all.ensures.later) (told_twice _ _ _ c.learn_all.ensures.told c.deliver_all.ensures.told)
+pub returns-clause-whole : goal.returns-clause-whole
+returns-clause-whole c = record {
+  new = search rules;
+  due = due_after c.args.at c.args.self.now c.let_expire.new.self c.deliver_all.new.self c.requires.ready c.in_ok-let_expire.ensures.expires
+    (later_twice _ _ _ c.learn_all.ensures.later c.deliver_all.ensures.later) (told_twice _ _ _ c.learn_all.ensures.told c.deliver_all.ensures.told);
+}
 
 pub overflow_sub-after : goal.overflow_sub-after
 overflow_sub-after c = grind (arith, common_steps)
