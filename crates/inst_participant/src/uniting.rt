@@ -1,5 +1,5 @@
 //! How the boards of all participants are joined to one.
-ghost use Rattle.std.specs.Prelude.{◌≡◌, ◌⊎◌, ◌↔◌};
+ghost use Rattle.std.specs.Prelude.{◌≡◌, ◌⊎◌, ◌↔◌, ◌<◌, length};
 ghost use Rattle.inst_board.specs.declared.about.Fact.{Fact};
 ghost use Rattle.inst_cell.specs.declared.shared_board.SharedBoard.{SharedBoard};
 ghost use Rattle.inst_cell.specs.Held.{knows, AtOneTable};
@@ -24,6 +24,7 @@ impl Parts {
         boards: Vec<SharedBoard>,
         sights: Vec<Sight>,
     ) -> Parts
+        requires some { 0 < length boards.items }
         requires one { (words : SharedBoard) × AreAtOne words settings slots.items boards.items
             × AreSights words sights.items }
         ensures settings { result.settings ≡ settings }
@@ -44,6 +45,7 @@ impl Parts {
 
 /// One board with the roles of all these, that knows exactly what one of them knew.
 fn join_all(settings: &Settings, slots: &[Slot], boards: Vec<SharedBoard>) -> SharedBoard
+    requires some { 0 < length boards.items }
     requires one { (words : SharedBoard) × AreAtOne words settings.now slots.now boards.items }
     ensures one { (words : SharedBoard) → AreAtOne words settings.now slots.now boards.items →
         AtOneTable words result }
@@ -52,8 +54,6 @@ fn join_all(settings: &Settings, slots: &[Slot], boards: Vec<SharedBoard>) -> Sh
         AreJoined words O settings.now slots.now boards.items result }
     ensures known { (f : Fact) → knows result f ↔ OneKnows boards.items f }
 {
-    // The check is told that there are participants only by a call.
-    let _ = settings.participants();
     let mut boards = boards.into_iter();
     let Some(mut whole) = boards.next() else {
         unreachable!()

@@ -11,9 +11,9 @@ ghost use Rattle.inst_participant.specs.Serving.{MayServe, StaysReady, Serves, A
 ghost use Rattle.inst_participant.specs.Serving.{LeavesUnanswered};
 
 use super::Participant;
-use inst_base::{Ident, mention};
+use inst_base::Ident;
 use inst_cell::{Sight, Ticket};
-use inst_command::{Ask, Outcome, Reply, refusals_told};
+use inst_command::{Ask, Reply, refusals_told};
 use std::alloc::AllocError;
 
 impl Participant {
@@ -83,7 +83,6 @@ impl Participant {
         ensures sees { SeesMore teller.old teller.new }
         ensures told { IsToldOf self.old from id.now teller.new result }
     {
-        mention::<Outcome>();
         let place = self.slot.place_of(from, id)?;
         Some(self.board.tell(teller, place))
     }

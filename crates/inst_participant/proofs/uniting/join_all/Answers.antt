@@ -50,4 +50,4 @@ returns-clause-one c = c.loop-board.invariant.2.1.one
 pub unreachable-requires : goal.unreachable-requires
 unreachable-requires c =
     let same : length (into_iter_items c.into_iter-boards.result) ≡ length c.args.boards.items = ap (λ (l : List SharedBoard). length l) c.into_iter-boards.ensures.rest in
-    omega (arith, same, c.requires.one.1.enough, c.participants.ensures.some, c.participants.ensures.value, c.into_iter-boards.result.rest.ok, c.in_default.ensures.cases.0)
+    omega (arith, same, c.requires.some, c.into_iter-boards.result.rest.ok, c.in_default.ensures.cases.0)

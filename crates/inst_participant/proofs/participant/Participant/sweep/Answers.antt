@@ -50,7 +50,7 @@ pub returns-clause-whole : goal.returns-clause-whole
 returns-clause-whole c = record {
   new = search rules;
   due = due_after c.args.at c.args.self.now c.let_expire.new.self c.deliver_all.new.self c.requires.ready c.in_ok-let_expire.ensures.expires
-    (later_twice _ _ _ c.learn_all.ensures.later c.deliver_all.ensures.later) (told_twice _ _ _ c.learn_all.ensures.told c.deliver_all.ensures.told);
+      (later_twice _ _ _ c.learn_all.ensures.later c.deliver_all.ensures.later) (told_twice _ _ _ c.learn_all.ensures.told c.deliver_all.ensures.told);
 }
 
 pub overflow_sub-after : goal.overflow_sub-after

@@ -9,7 +9,7 @@ use Rattle.inst_participant.proofs.parts.Parts.unite.Goals as goal
 pub join_all-requires : goal.join_all-requires
 join_all-requires c =
     let s = c.requires.one in
-    record { one = (s.0, subst (λ (l : List Book). AreAtOne s.0 c.args.settings l c.args.boards.items) (sym c.deref.ensures.value) s.1) }
+    record { some = c.requires.some; one = (s.0, subst (λ (l : List Book). AreAtOne s.0 c.args.settings l c.args.boards.items) (sym c.deref.ensures.value) s.1) }
 
 pub tell_all-board-requires : goal.tell_all-board-requires
 tell_all-board-requires c =
