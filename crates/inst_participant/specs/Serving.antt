@@ -48,7 +48,7 @@ pub record StaysReady (x y : Participant) : Type 0 where
 
 -- from x to y the ask is answered by the model's reply, with its ticket, where this is known of
 -- places
-pub record AnswersAsk (x : Participant) (ask : Ask) (answer : Reply × Option Place)
+pub record AnswersWithTicket (x : Participant) (ask : Ask) (answer : Reply × Option Place)
     (sees : Fact → Type 0) (y : Participant) : Type 0 where
   pub serves : Serves x ask (Ok answer.0) y
   pub answered : Answered x.slot.settings x.slot.who x.slot.events ask answer.0 y.slot.events

@@ -322,6 +322,16 @@ found_adopted book k (Pending t d) all = either (t.to == book.who)
     either true = still_placed k t d book.arrivals all
     either false = all
 
+pub found_same : (book : Book) (k : Place) (look : Look) → ((with_found book k look).settings ≡ book.settings) × ((with_found book k look).who ≡ book.who)
+found_same book k Unused = (refl, refl)
+found_same book k (Decided t o) = (refl, refl)
+found_same book k (Pending t d) = either (t.to == book.who)
+  where
+    either : (b : Bool) → ((cond b (with_arrivals book (map (arrival_found_at k t d) book.arrivals)) book).settings ≡ book.settings)
+        × ((cond b (with_arrivals book (map (arrival_found_at k t d) book.arrivals)) book).who ≡ book.who)
+    either true = (refl, refl)
+    either false = (refl, refl)
+
 -- what is made of a transfer that is pending at the place
 module _ (A : List Arrival) (k : Place) (t : Terms) (deadline : ℕ) (once : count_by (is_arrival_of k.owner t.id) A ≤ 1) where
   abbrev after : List Arrival

@@ -7,6 +7,7 @@ pub mod SlotMayDecideWhatIsAsked
 pub mod DecisionKeepsLawfulBoard
 pub mod CommandsThatDecideNothing
 pub mod RefusalsChangeNothing
+pub mod CallsKeepWhoAndArrivals
 pub mod BooksOfOthersStay
 pub mod ForwardedTransfersHavePlaces
 pub mod ToldPlaceIsKnown

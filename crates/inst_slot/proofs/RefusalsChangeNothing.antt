@@ -1,6 +1,6 @@
 -- What is refused leaves the books and what the board's holder knows as they were.
 use Rattle.std.proofs.Common.{◌≡◌, ◌≢◌, ℕ, List, [], ◌++◌, append-nil, ⊎_elim, refl, sym, ap, ◌∙◌, subst, Option, Some, None}
-use Rattle.std.specs.Prelude.{Result, Ok, Err, IfErr, OnErr}
+use Rattle.std.specs.Prelude.{◌↔◌, Result, Ok, Err, IfErr, OnErr}
 use Rattle.inst_base.specs.declared.fault.Fault.{Fault}
 use Rattle.inst_base.specs.declared.fault.Fault.TheVariants.{Memory}
 use Rattle.inst_settings.specs.Settings.{HubSettings}
@@ -21,7 +21,7 @@ use Rattle.inst_journal.specs.declared.handle.Handled.{Handled}
 use Rattle.inst_journal.specs.Reply.{reply_result, kept_event, kept_events}
 use Rattle.inst_slot.specs.Book.{Book}
 use Rattle.inst_slot.specs.LawfulBoard.{LiesAt, IsLawfulBoard}
-use Rattle.inst_slot.specs.Asking.{request, Finds, handle_ask, book_after, Settles}
+use Rattle.inst_slot.specs.Asking.{request, Finds, handle_ask, book_after, Opens, Enters, Settles}
 use Rattle.inst_slot.specs.Telling.{booking}
 use Rattle.inst_slot.proofs.BoardStaysLawful.{with_events, lying}
 use Rattle.inst_slot.proofs.SlotMayDecideWhatIsAsked.{asked}
@@ -46,6 +46,22 @@ as_it_was book ask found fault e =
 none_booked : (from : ℕ) (id : List ℕ) (found : Option Outcome) → kept_event (booking from id found) ≡ [] → found ≡ None
 none_booked from id None e = refl
 none_booked from id (Some o) e = let no : ⊥ = cc in absurd no
+
+module _ {B : Type 0} (margin : ℕ) (knows : B → Fact → Type 0) (b c : B) (book : Book) where
+  -- an ask that finds nothing and is refused leaves the book
+  pub enters_left : (ask : Ask) (result : Result Reply Fault) (new : Book) → Enters margin knows b book ask result c new → OnErr result (new ≡ book)
+  enters_left ask (Ok reply) new e = tt
+  enters_left ask (Err fault) new e = ⊎_elim
+      (λ answered. answered.1 ∙ as_it_was book ask None fault (sym answered.0))
+      (λ refused. refused.1) e
+
+  -- and what the board's holder knows
+  pub enters_unknown : (ask : Ask) (result : Result Reply Fault) (new : Book) (fault : Fault) → Enters margin knows b book ask result c new → result ≡ Err fault → fault ≢ Memory → KnowTheSame knows b c
+  enters_unknown ask result new fault e is other = ⊎_elim
+      (λ answered.
+      let same : c ≡ b = subst (λ (K : List Event). Opens margin knows book K b c) (nothing_kept (handle_ask book ask None) fault (sym answered.0 ∙ is)) answered.2 in
+      λ f. subst (λ (x : B). knows x f ↔ knows b f) (sym same) (λ kn. kn, λ kn. kn))
+      (λ refused. let same : fault ≡ Memory = cc in absurd (other same)) e
 
 module _ {B : Type 0} (settings : B → HubSettings) (knows : B → Fact → Type 0) (has_role : B → ℕ → Type 0) (margin : ℕ) (b c : B) (book : Book) where
   module _ (stood : B → Place → Outcome → Type 0) (stays : B → B → Type 0) (was : IsLawfulBoard settings knows has_role b book) where

@@ -2,7 +2,8 @@
 -- investigation of a transfer with nothing booked gets the board's decision of its place; a
 -- submission that is taken opens the next place; nothing else changes the board. This hub's own
 -- choice.
-use Rattle.std.specs.Prelude.{◌≡◌, ◌⊎◌, ℕ, Bool, true, false, ◌&&◌, ◌||◌, is_none, nat_lt, List}
+use Rattle.std.specs.Prelude.{◌≡◌, ◌≢◌, ◌⊎◌, ℕ, Bool, true, false, ◌&&◌, ◌||◌, is_none, is_some}
+use Rattle.std.specs.Prelude.{nat_lt, List, IfErr, OnErr}
 use Rattle.std.specs.Prelude.{◌∷◌, ◌++◌, length, position, Option, Some, None, Result, Err}
 use Rattle.inst_base.specs.TimeLimit.{deadline_of}
 use Rattle.inst_base.specs.declared.fault.Fault.{Fault}
@@ -19,7 +20,7 @@ use Rattle.inst_board.specs.declared.wish.Wish.{Wish}
 use Rattle.inst_board.specs.declared.wish.Wish.TheVariants.{Accept, Reject as WishReject, Expire}
 use Rattle.inst_board.specs.declared.about.Fact.{Fact}
 use Rattle.inst_board.specs.Standing.{pending}
-use Rattle.inst_board.specs.Learning.{Learns, Looks, Decides}
+use Rattle.inst_board.specs.Learning.{Learns, Looks, Decides, KnowTheSame}
 use Rattle.inst_board.specs.Wish.{wanted}
 use Rattle.inst_journal.specs.declared.event.Event.{Event}
 use Rattle.inst_journal.specs.declared.event.Event.TheVariants.{Taken}
@@ -149,3 +150,16 @@ abbrev pub Applies : {B : Type 0} → ℕ → (B → Fact → Type 0) → (B →
     (B → B → Type 0) → B → Book → Ask → Result Reply Fault → B → Book → Type 0
 Applies margin knows has_role stood stays b book ask result c new =
     AppliesTo margin knows has_role stood stays b book ask (request book ask.command) result c new
+
+-- applies: the ask is answered, with or without the board
+-- decides: it was asked whether the ask decides a transfer
+-- left: a refused ask leaves the book as it was
+-- unknown: and the board's holder knows what it knew, unless memory was refused
+pub record AnswersAsk {B : Type 0} (margin : ℕ) (knows : B → Fact → Type 0)
+    (has_role : B → ℕ → Type 0) (stood : B → Place → Outcome → Type 0) (stays : B → B → Type 0)
+    (b : B) (book : Book) (ask : Ask) (result : Result Reply Fault) (c : B) (new : Book)
+    : Type 0 where
+  pub applies : Applies margin knows has_role stood stays b book ask result c new
+  pub decides : is_some (request book ask.command) ≡ decides book ask.command
+  pub left : OnErr result (new ≡ book)
+  pub unknown : IfErr result (λ fault. fault ≢ Memory → KnowTheSame knows b c)

@@ -88,3 +88,25 @@ IsAdopted book from id =
 -- the places of all of them were found
 abbrev pub AllAreAdopted : Book → Type 0
 AllAreAdopted book = (x : Arrival) → Contains book.arrivals x → is_some x.index ≡ true
+
+-- A call of a participant's slot leaves its books, and those of all others, as lawful over the board
+-- as they were
+-- lawful, others: what each book has to do with the board
+-- same: the book is of the same hub and participant
+-- adopted: if all places were found, they still are
+-- holder: the board is the same holder's
+pub record KeepsLawful {B : Type 0} (settings : B → HubSettings) (knows : B → Fact → Type 0)
+    (has_role : B → ℕ → Type 0) (stays : B → B → Type 0) (b : B) (old : Book) (c : B)
+    (new : Book) : Type 0 where
+  pub lawful : IsLawfulBoard settings knows has_role c new
+  pub others : KeepsOthers settings knows has_role b old.who c
+  pub same : (new.settings ≡ old.settings) × (new.who ≡ old.who)
+  pub adopted : AllAreAdopted old → AllAreAdopted new
+  pub holder : stays b c
+
+-- the books of all others are as lawful over the board as they were, and it is the same holder's
+pub record LeavesOthers {B : Type 0} (settings : B → HubSettings) (knows : B → Fact → Type 0)
+    (has_role : B → ℕ → Type 0) (stays : B → B → Type 0) (b : B) (who : ℕ) (c : B)
+    : Type 0 where
+  pub others : KeepsOthers settings knows has_role b who c
+  pub holder : stays b c

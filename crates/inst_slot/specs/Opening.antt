@@ -20,8 +20,11 @@ use Rattle.inst_board.specs.Learning.{IsAnswer, KnowsTruly}
 use Rattle.inst_journal.specs.declared.event.Event.{Event}
 use Rattle.inst_journal.specs.declared.event.Event.TheVariants.{Taken, Opened}
 use Rattle.inst_journal.specs.Booked.{same_transfer}
+use Rattle.inst_journal.specs.Opened.{HasOpeningsLeft, live_taken}
+use Rattle.inst_journal.specs.Sound.{IsSound}
 use Rattle.inst_slot.specs.declared.arrival.Arrival.{Arrival}
 use Rattle.inst_slot.specs.Book.{Book, place_at, terms_to, live_inbox}
+use Rattle.inst_slot.specs.LawfulBoard.{IsLawfulBoard}
 
 -- a transfer that was carried over the opening: its place isn't found yet
 abbrev pub arrival_without_place : Entry → Arrival
@@ -53,7 +56,8 @@ pub record MayOpenAgain {B : Type 0} (settings : B → HubSettings) (knows : B �
 
 -- the fact is of the opening of one of these submissions, which have the first places of `who` in
 -- their order
-pub record IsOfTakenSubmission (hub : HubSettings) (who : ℕ) (taken : List Event) (f : Fact) : Type 0 where
+pub record IsOfTakenSubmission (hub : HubSettings) (who : ℕ) (taken : List Event) (f : Fact)
+    : Type 0 where
   pub index : ℕ
   pub id : List ℕ
   pub to : ℕ
@@ -73,6 +77,21 @@ pub record OpensPlaces {B : Type 0} (knows : B → Fact →
       slice_get taken index ≡ Some (Taken id to cents stamp) →
       (a : About) → knows b (about (place_at who index) a) →
       Says (pending (terms_to to cents id) (deadline_of hub.limit stamp)) a
+
+-- the books are sound, and a hub may open from them once more
+pub record IsReopenable (hub : HubSettings) (who : ℕ) (J : List Event) : Type 0 where
+  pub sound : IsSound hub who J
+  pub few : HasOpeningsLeft J
+
+-- from the board b to the board c the slot opened again from these books
+-- places: its live transfers got the first places
+-- lawful: the slot has to do with the board what it must
+pub record OpensAgain {B : Type 0} (settings : B → HubSettings) (knows : B → Fact → Type 0)
+    (has_role : B → ℕ → Type 0) (b : B) (hub : HubSettings) (who : ℕ) (J : List Event) (c : B)
+    (slot : Book) : Type 0 where
+  pub slot_is : slot ≡ opened_again hub who J
+  pub places : OpensPlaces knows hub who (live_taken who slot.events) b c
+  pub lawful : IsLawfulBoard settings knows has_role c slot
 
 -- whether the arrival is of this transfer
 abbrev pub is_arrival_of : ℕ → List ℕ → Arrival → Bool

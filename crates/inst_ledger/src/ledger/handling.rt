@@ -1,5 +1,6 @@
 //! What a command is answered, and what the history is to keep of it.
 ghost use Rattle.std.specs.Prelude.{◌≡◌, ◌≤◌, true, false, take, drop, length, IfOk, IsOk};
+ghost use Rattle.inst_base.specs.TimeLimit.{deadline_of};
 ghost use Rattle.inst_base.specs.Fault.{IsUnlessMemory};
 ghost use Rattle.inst_command.specs.Ask.{command_fits, is_count};
 ghost use Rattle.inst_journal.specs.Reply.{is_new_funding, fund, defund, submit, answer_forwarded};
@@ -71,10 +72,17 @@ impl Ledger {
         })
     }
 
-    /// Whether a submission is new, and no repeat. Refused, in this order, by `SelfTransfer`,
-    /// `Duplicate`, `StampAhead`, `Expired`, `Full` and `Shortage`. It looks once at the table.
-    pub fn is_new_submission(&self, at: Moment, submission: &Submission) -> Result<bool, Fault>
-        requires { command_fits self.now.book.settings (Command.Submit submission.now) ≡ true }
+    /// Whether a submission with this deadline is new, and no repeat. Refused, in this order, by
+    /// `SelfTransfer`, `Duplicate`, `StampAhead`, `Expired`, `Full` and `Shortage`. It looks once at
+    /// the table.
+    pub fn is_new_submission(
+        &self,
+        at: Moment,
+        submission: &Submission,
+        deadline: Moment,
+    ) -> Result<bool, Fault>
+        requires fits { command_fits self.now.book.settings (Command.Submit submission.now) ≡ true }
+        requires deadline { deadline ≡ deadline_of self.now.book.settings.limit submission.now.stamp }
         ensures answer { submit self.now.book.settings self.now.book.who self.now.book.events at
             submission.now
             ≡ submission_result self.now.book.settings submission.now result }
@@ -89,7 +97,6 @@ impl Ledger {
             cents,
             stamp,
         } = submission;
-        let deadline = stamp.deadline(settings.limit());
         if to == self.who() {
             return Err(Fault::SelfTransfer);
         }
@@ -121,7 +128,6 @@ impl Ledger {
         ensures { result ≡ submit self.now.book.settings self.now.book.who self.now.book.events at
             submission.now }
     {
-        let is_new = self.is_new_submission(at, submission)?;
         let &Submission {
             id,
             to,
@@ -129,6 +135,7 @@ impl Ledger {
             stamp,
         } = submission;
         let deadline = stamp.deadline(self.settings().limit());
+        let is_new = self.is_new_submission(at, submission, deadline)?;
         let event = Event::Taken {
             id,
             to,

@@ -7,7 +7,7 @@ ghost use Rattle.inst_participant.specs.LockLaw.{IsReady, IsLater};
 ghost use Rattle.inst_participant.specs.Telling.{SeesMore};
 ghost use Rattle.inst_participant.specs.inner.Telling.{IsToldOf, IsToldBy};
 ghost use Rattle.inst_participant.specs.Answers.{Answered};
-ghost use Rattle.inst_participant.specs.Serving.{MayServe, StaysReady, Serves, AnswersAsk};
+ghost use Rattle.inst_participant.specs.Serving.{MayServe, StaysReady, Serves, AnswersWithTicket};
 ghost use Rattle.inst_participant.specs.Serving.{LeavesUnanswered};
 
 use super::Participant;
@@ -29,7 +29,7 @@ impl Participant {
         ensures stays { StaysReady self.old self.new }
         ensures sees { SeesMore teller.old teller.new }
         ensures answers { IfOk result (λ answer.
-            AnswersAsk self.old ask.now answer (sight_knows teller.new) self.new) }
+            AnswersWithTicket self.old ask.now answer (sight_knows teller.new) self.new) }
         ensures left { OnErr result (LeavesUnanswered self.old ask.now self.new) }
     {
         let reply = self.answer(ask)?;

@@ -1,16 +1,16 @@
 //! What a participant asks of its slot.
-ghost use Rattle.std.specs.Prelude.{◌≡◌, ◌≢◌, IfErr, [], ◌∷◌, true, false, is_some, IfOk, OnErr};
+ghost use Rattle.std.specs.Prelude.{◌≡◌, ◌≢◌, [], ◌∷◌, true, false, IfOk, OnErr};
 ghost use Rattle.std.specs.Prelude.{OnOk, Some, None};
 ghost use Rattle.inst_base.specs.Fault.{IsUnlessMemory};
+ghost use Rattle.inst_base.specs.TimeLimit.{deadline_of};
 ghost use Rattle.inst_settings.specs.Settings.{is_participant};
 ghost use Rattle.inst_command.specs.Ask.{ask_fits};
-ghost use Rattle.inst_board.specs.Learning.{KnowTheSame};
 ghost use Rattle.inst_ledger.specs.Book.{submission_event};
 ghost use Rattle.inst_journal.specs.Sound.{Fits, FitAfter};
 ghost use Rattle.inst_journal.specs.Reply.{copies, kept_event};
-ghost use Rattle.inst_slot.specs.LawfulBoard.{IsLawfulBoard, KeepsOthers, AllAreAdopted};
-ghost use Rattle.inst_slot.specs.Asking.{request, decides, AsksAdopted, handle_ask, Opens, Enters};
-ghost use Rattle.inst_slot.specs.Asking.{Applies};
+ghost use Rattle.inst_slot.specs.LawfulBoard.{IsLawfulBoard, KeepsLawful};
+ghost use Rattle.inst_slot.specs.Asking.{request, AsksAdopted, handle_ask, Opens, Enters};
+ghost use Rattle.inst_slot.specs.Asking.{AnswersAsk};
 ghost use Rattle.inst_slot.specs.Telling.{with_event};
 ghost use Rattle.inst_slot.specs.inner.Entering.{EntersAlone};
 ghost use Rattle.inst_slot.specs.inner.Waiting.{is_apart};
@@ -18,7 +18,7 @@ ghost use Rattle.inst_command.specs.declared.submission.Submission.{Submission};
 
 use super::Slot;
 use crate::answering::{request_of, settle};
-use inst_base::Fault;
+use inst_base::{Fault, Moment};
 use inst_board::Board;
 use inst_command::{Ask, Command, Query, Reply, Submission};
 use inst_journal::{Event, Handled};
@@ -39,12 +39,18 @@ impl Slot {
         self.ledger.handle(self.alloc, &ask.command, ask.at, None)
     }
 
-    /// Keeps a submission, and opens the next place for it.
-    fn take<B: Board>(&mut self, board: &mut B, submission: &Submission) -> Result<(), AllocError>
+    /// Keeps a submission with this deadline, and opens the next place for it.
+    fn take<B: Board>(
+        &mut self,
+        board: &mut B,
+        submission: &Submission,
+        deadline: Moment,
+    ) -> Result<(), AllocError>
         requires lawful { IsLawfulBoard B.settings B.knows B.has_role board.old self.old }
         requires participant { is_participant self.old.settings self.old.who ≡ true }
         requires fits { Fits self.old.settings self.old.who self.old.events
             (submission_event submission.now) }
+        requires deadline { deadline ≡ deadline_of self.old.settings.limit submission.now.stamp }
         ensures ok { OnOk result (self.new
             ≡ with_event self.old (Some (submission_event submission.now))) }
         ensures opens { OnOk result
@@ -60,11 +66,10 @@ impl Slot {
             cents,
             stamp,
         } = submission;
-        let deadline = stamp.deadline(self.ledger.settings().limit());
         self.ledger.make_room_for_transfer()?;
         self.waiting.add(deadline)?;
         self.ledger.keep_taken(id, Sending { to, cents, stamp });
-        self.open_place(board, index, &Terms { to, cents, id }, stamp);
+        self.open_place(board, index, &Terms { to, cents, id }, deadline);
         Ok(())
     }
 
@@ -88,9 +93,11 @@ impl Slot {
     {
         let id = submission.id;
         let deadline = submission.stamp.deadline(self.ledger.settings().limit());
-        let is_new = self.ledger.is_new_submission(ask.at, submission)?;
+        let is_new = self
+            .ledger
+            .is_new_submission(ask.at, submission, deadline)?;
         if is_new {
-            self.take(board, submission)?;
+            self.take(board, submission, deadline)?;
         }
         Ok(Reply::Taken { id, deadline })
     }
@@ -160,18 +167,10 @@ impl Slot {
         requires fits { ask_fits self.old.settings ask.now ≡ true }
         requires lawful { IsLawfulBoard B.settings B.knows B.has_role board.old self.old }
         requires adopted { AsksAdopted self.old ask.now.command }
-        ensures applies { Applies (B.settings board.old).margin B.knows B.has_role B.stood B.stays
+        ensures applies { AnswersAsk (B.settings board.old).margin B.knows B.has_role B.stood B.stays
             board.old self.old ask.now result board.new self.new }
-        ensures decides { is_some (request self.old ask.now.command)
-            ≡ decides self.old ask.now.command }
-        ensures err { OnErr result (self.new ≡ self.old) }
-        ensures refused { IfErr result (λ fault. fault ≢ Fault.Memory →
-            KnowTheSame B.knows board.old board.new) }
-        ensures lawful { IsLawfulBoard B.settings B.knows B.has_role board.new self.new }
-        ensures others { KeepsOthers B.settings B.knows B.has_role board.old self.old.who board.new }
-        ensures same { (self.new.settings ≡ self.old.settings) × (self.new.who ≡ self.old.who) }
-        ensures adopted { AllAreAdopted self.old → AllAreAdopted self.new }
-        ensures stays { B.stays board.old board.new }
+        ensures law { KeepsLawful B.settings B.knows B.has_role B.stays board.old self.old
+            board.new self.new }
     {
         let spots = self.arrivals.as_slice();
         match request_of(&self.ledger, spots, &ask.command) {

@@ -1,6 +1,6 @@
 //! How the transfers of a slot expire.
 ghost use Rattle.std.specs.Prelude.{◌≡◌, Some};
-ghost use Rattle.inst_slot.specs.LawfulBoard.{IsLawfulBoard, KeepsOthers, AllAreAdopted};
+ghost use Rattle.inst_slot.specs.LawfulBoard.{IsLawfulBoard, KeepsLawful};
 ghost use Rattle.inst_slot.specs.inner.Answering.{book_with_spots};
 ghost use Rattle.inst_slot.specs.inner.Expiries.{IsUnbooked, FindsUnbooked};
 ghost use Rattle.inst_ledger.specs.Right.{own_ids};
@@ -42,11 +42,8 @@ impl Slot {
         requires lawful { IsLawfulBoard B.settings B.knows B.has_role board.old self.old }
         ensures expires { Expires (B.settings board.old).margin B.knows B.has_role B.stood B.stays
             board.old self.old index at result board.new self.new }
-        ensures lawful { IsLawfulBoard B.settings B.knows B.has_role board.new self.new }
-        ensures others { KeepsOthers B.settings B.knows B.has_role board.old self.old.who board.new }
-        ensures same { (self.new.settings ≡ self.old.settings) × (self.new.who ≡ self.old.who) }
-        ensures adopted { AllAreAdopted self.old → AllAreAdopted self.new }
-        ensures stays { B.stays board.old board.new }
+        ensures law { KeepsLawful B.settings B.knows B.has_role B.stays board.old self.old
+            board.new self.new }
     {
         match unbooked_at(&self.ledger, index) {
             Some(found) => let_expire(

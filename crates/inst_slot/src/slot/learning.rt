@@ -5,7 +5,7 @@ ghost use Rattle.inst_board.specs.Learning.{Looks};
 ghost use Rattle.inst_slot.specs.inner.Answering.{book_with_spots};
 ghost use Rattle.inst_slot.specs.inner.Expiries.{IsUnbooked};
 ghost use Rattle.inst_ledger.specs.Right.{own_ids};
-ghost use Rattle.inst_slot.specs.LawfulBoard.{IsLawfulBoard, KeepsOthers, AllAreAdopted};
+ghost use Rattle.inst_slot.specs.LawfulBoard.{IsLawfulBoard, KeepsLawful};
 ghost use Rattle.inst_slot.specs.inner.Resolutions.{LearnsOutcome};
 ghost use Rattle.inst_slot.specs.Spots.{rows_of, AreSpots};
 ghost use Rattle.inst_slot.specs.Telling.{resolution, with_event, Keeps};
@@ -34,11 +34,8 @@ impl Slot {
             board.new
             × Keeps (is_some (resolution self.old place look)) self.old
             (with_event self.old (resolution self.old place look)) result self.new }
-        ensures lawful { IsLawfulBoard B.settings B.knows B.has_role board.new self.new }
-        ensures others { KeepsOthers B.settings B.knows B.has_role board.old self.old.who board.new }
-        ensures same { (self.new.settings ≡ self.old.settings) × (self.new.who ≡ self.old.who) }
-        ensures adopted { AllAreAdopted self.old → AllAreAdopted self.new }
-        ensures stays { B.stays board.old board.new }
+        ensures law { KeepsLawful B.settings B.knows B.has_role B.stays board.old self.old
+            board.new self.new }
     {
         match own_unbooked(&self.ledger, place) {
             Some(found) => learn_own(
@@ -58,11 +55,8 @@ impl Slot {
         requires lawful { IsLawfulBoard B.settings B.knows B.has_role board.old self.old }
         ensures learns { LearnsOutcome (B.settings board.old).margin B.knows B.has_role B.stood
             board.old self.old place result board.new self.new }
-        ensures lawful { IsLawfulBoard B.settings B.knows B.has_role board.new self.new }
-        ensures others { KeepsOthers B.settings B.knows B.has_role board.old self.old.who board.new }
-        ensures same { (self.new.settings ≡ self.old.settings) × (self.new.who ≡ self.old.who) }
-        ensures adopted { AllAreAdopted self.old → AllAreAdopted self.new }
-        ensures stays { B.stays board.old board.new }
+        ensures law { KeepsLawful B.settings B.knows B.has_role B.stays board.old self.old
+            board.new self.new }
     {
         let look = board.look(place);
         match resolution_of(&self.ledger, self.arrivals.as_slice(), place, &look) {

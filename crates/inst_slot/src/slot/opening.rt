@@ -1,18 +1,17 @@
 //! A slot that opens again from its books, and finds the places of what was forwarded to it before.
-ghost use Rattle.std.specs.Prelude.{◌≡◌, true, map, IfOk, OnErr, IsTrue};
-ghost use Rattle.inst_base.specs.Moment.{is_moment};
-ghost use Rattle.inst_base.specs.TimeLimit.{deadline_of};
+ghost use Rattle.std.specs.Prelude.{◌≡◌, ◌≤◌, true, map, IfOk, OnErr, IsTrue};
 ghost use Rattle.inst_settings.specs.Settings.{is_participant};
 ghost use Rattle.inst_board.specs.declared.about.About.TheVariants.{Opened};
 ghost use Rattle.inst_board.specs.declared.look.Look.{Look};
 ghost use Rattle.inst_command.specs.declared.place.Place.{Place};
 ghost use Rattle.inst_board.specs.Learning.{Looks, Learns, KnowsTruly};
 ghost use Rattle.inst_board.specs.Standing.{IsPlace, about, pending};
-ghost use Rattle.inst_journal.specs.Opened.{HasOpeningsLeft, carried, live_taken};
+ghost use Rattle.inst_journal.specs.Opened.{carried, live_taken};
 ghost use Rattle.inst_journal.specs.Sound.{IsSound};
 ghost use Rattle.inst_slot.specs.Book.{place_at, live_inbox};
-ghost use Rattle.inst_slot.specs.LawfulBoard.{IsLawfulBoard, KeepsOthers, AllAreAdopted};
-ghost use Rattle.inst_slot.specs.Opening.{opened_again, MayOpenAgain, OpensPlaces, finds_carried};
+ghost use Rattle.inst_slot.specs.LawfulBoard.{IsLawfulBoard, KeepsLawful, LeavesOthers};
+ghost use Rattle.inst_slot.specs.Opening.{opened_again, MayOpenAgain, IsReopenable, OpensAgain};
+ghost use Rattle.inst_slot.specs.Opening.{OpensPlaces, finds_carried};
 ghost use Rattle.inst_slot.specs.Opening.{with_found, unfound, arrival_without_place};
 ghost use Rattle.inst_slot.specs.Spots.{rows_of, arrivals_of, AreSpots};
 ghost use Rattle.inst_slot.specs.Waiting.{IsWaiting};
@@ -42,17 +41,12 @@ impl Slot {
         journal: &Journal,
     ) -> Result<Slot, AllocError>
         requires participant { is_participant settings.now who ≡ true }
-        requires sound { IsSound settings.now who journal.now.events }
-        requires few { HasOpeningsLeft journal.now.events }
+        requires books { IsReopenable settings.now who journal.now.events }
         requires board { MayOpenAgain B.settings B.knows B.has_role board.old settings.now who }
-        ensures ok { IfOk result (λ slot. slot ≡ opened_again settings.now who journal.now.events) }
-        ensures opens { IfOk result (λ slot.
-            OpensPlaces B.knows settings.now who (live_taken who slot.events) board.old board.new) }
+        ensures ok { IfOk result (λ slot. OpensAgain B.settings B.knows B.has_role board.old
+            settings.now who journal.now.events board.new slot) }
         ensures err { OnErr result (board.new ≡ board.old) }
-        ensures lawful { IfOk result (λ slot.
-            IsLawfulBoard B.settings B.knows B.has_role board.new slot) }
-        ensures others { KeepsOthers B.settings B.knows B.has_role board.old who board.new }
-        ensures stays { B.stays board.old board.new }
+        ensures rest { LeavesOthers B.settings B.knows B.has_role B.stays board.old who board.new }
     {
         let slot = Slot::carry(alloc, settings, who, journal)?;
         slot.open_places(board);
@@ -66,8 +60,7 @@ impl Slot {
         who: u8,
         journal: &Journal,
     ) -> Result<Slot, AllocError>
-        requires sound { IsSound settings.now who journal.now.events }
-        requires few { HasOpeningsLeft journal.now.events }
+        requires books { IsReopenable settings.now who journal.now.events }
         ensures ok { IfOk result (λ slot. slot ≡ opened_again settings.now who journal.now.events) }
     {
         let ledger = Ledger::open_from(alloc, settings, who, journal)?;
@@ -86,23 +79,21 @@ impl Slot {
         board: &mut B,
         index: u16,
         terms: &Terms,
-        stamp: Moment,
+        deadline: Moment,
     )
         requires place { IsPlace (B.settings board.old) (place_at self.now.who index) }
         requires beneficiary { IsTrue (is_participant (B.settings board.old) terms.now.to) }
         requires own { B.has_role board.old self.now.who }
         requires unused { ¬ B.knows board.old (about (place_at self.now.who index) Opened) }
-        requires deadline { is_moment (deadline_of self.now.settings.limit stamp) ≡ true }
+        requires deadline { 1 ≤ deadline }
         ensures opens { Learns (B.settings board.old).margin B.knows board.old
-            (place_at self.now.who index)
-            (pending terms.now (deadline_of self.now.settings.limit stamp)) board.new }
+            (place_at self.now.who index) (pending terms.now deadline) board.new }
         ensures stays { B.stays board.old board.new }
     {
         let place = Place {
             owner: self.who(),
             index,
         };
-        let deadline = stamp.deadline(self.ledger.settings().limit());
         board.write_terms(place, terms);
         board.open(place, deadline);
     }
@@ -118,9 +109,8 @@ impl Slot {
         ensures opens { OpensPlaces B.knows self.now.settings self.now.who
             (live_taken self.now.who self.now.events) board.old board.new }
         ensures truly { (k : Place) → KnowsTruly self.now.settings.margin B.knows board.new k }
-        ensures others { KeepsOthers B.settings B.knows B.has_role board.old self.now.who board.new }
-        ensures stays { B.stays board.old board.new }
-        ensures sound { IsSound self.now.settings self.now.who self.now.events }
+        ensures rest { LeavesOthers B.settings B.knows B.has_role B.stays board.old self.now.who
+            board.new }
     {
         let mut index = 0;
         for event in self.ledger.journal().events() {
@@ -137,7 +127,8 @@ impl Slot {
                         cents: *cents,
                         id: *id,
                     };
-                    self.open_place(board, index, &terms, *stamp);
+                    let deadline = stamp.deadline(self.settings().limit());
+                    self.open_place(board, index, &terms, deadline);
                     index += 1;
                 }
             }
@@ -163,11 +154,8 @@ impl Slot {
             board.new
             × (result ≡ finds_carried self.old place look)
             × (self.new ≡ with_found self.old place look) }
-        ensures lawful { IsLawfulBoard B.settings B.knows B.has_role board.new self.new }
-        ensures others { KeepsOthers B.settings B.knows B.has_role board.old self.old.who board.new }
-        ensures same { (self.new.settings ≡ self.old.settings) × (self.new.who ≡ self.old.who) }
-        ensures adopted { AllAreAdopted self.old → AllAreAdopted self.new }
-        ensures stays { B.stays board.old board.new }
+        ensures law { KeepsLawful B.settings B.knows B.has_role B.stays board.old self.old
+            board.new self.new }
     {
         let look = board.look(place);
         self.find(place, &look)

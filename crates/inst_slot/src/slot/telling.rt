@@ -3,7 +3,7 @@ ghost use Rattle.std.specs.Prelude.{◌≡◌, true, is_some, OnErr, OnOk, Some}
 ghost use Rattle.inst_board.specs.declared.look.Look.{Look};
 ghost use Rattle.inst_board.specs.Learning.{Looks};
 ghost use Rattle.inst_journal.specs.Sound.{IsSound, Fits};
-ghost use Rattle.inst_slot.specs.LawfulBoard.{IsLawfulBoard, KeepsOthers, AllAreAdopted};
+ghost use Rattle.inst_slot.specs.LawfulBoard.{IsLawfulBoard, KeepsLawful, AllAreAdopted};
 ghost use Rattle.inst_slot.specs.Telling.{delivery, with_delivery, Keeps};
 
 use super::Slot;
@@ -76,11 +76,8 @@ impl Slot {
             board.new
             × Keeps (is_some (delivery self.old place look)) self.old
             (with_delivery self.old place (delivery self.old place look)) result self.new }
-        ensures lawful { IsLawfulBoard B.settings B.knows B.has_role board.new self.new }
-        ensures others { KeepsOthers B.settings B.knows B.has_role board.old self.old.who board.new }
-        ensures same { (self.new.settings ≡ self.old.settings) × (self.new.who ≡ self.old.who) }
-        ensures adopted { AllAreAdopted self.old → AllAreAdopted self.new }
-        ensures stays { B.stays board.old board.new }
+        ensures law { KeepsLawful B.settings B.knows B.has_role B.stays board.old self.old
+            board.new self.new }
     {
         let look = board.look(place);
         match self.delivery(place, &look) {

@@ -47,7 +47,7 @@ open_from-requires-2-clause-board c =
     let n = c.in_ok-board.ensures.unused in
     let s = c.args.settings in
     let x = c.in_ok-open_from in
-    next_may c.in_ok-board.board c.open_from.new.board s 0 1 c.args.first.now.events x.field-0 x.ensures.stays (λ e. cc) x.ensures.ok x.ensures.opens x.ensures.lawful
+    next_may c.in_ok-board.board c.open_from.new.board s 0 1 c.args.first.now.events x.field-0 x.ensures.rest.holder (λ e. cc) x.ensures.ok.slot_is x.ensures.ok.places x.ensures.ok.lawful
     (first_may c.in_ok-board.board s 1 n.0 n.1)
 
 pub open_from-requires-3-clause-board : goal.open_from-requires-3-clause-board
@@ -56,13 +56,13 @@ open_from-requires-3-clause-board c =
     let s = c.args.settings in
     let x = c.in_ok-open_from in
     let y = c.in_ok-open_from-2 in
-    next_may c.open_from.new.board c.open_from-2.new.board s 1 2 c.args.second.now.events y.field-0 y.ensures.stays (λ e. cc) y.ensures.ok y.ensures.opens y.ensures.lawful
-    (next_may c.in_ok-board.board c.open_from.new.board s 0 2 c.args.first.now.events x.field-0 x.ensures.stays (λ e. cc) x.ensures.ok x.ensures.opens x.ensures.lawful
+    next_may c.open_from.new.board c.open_from-2.new.board s 1 2 c.args.second.now.events y.field-0 y.ensures.rest.holder (λ e. cc) y.ensures.ok.slot_is y.ensures.ok.places y.ensures.ok.lawful
+    (next_may c.in_ok-board.board c.open_from.new.board s 0 2 c.args.first.now.events x.field-0 x.ensures.rest.holder (λ e. cc) x.ensures.ok.slot_is x.ensures.ok.places x.ensures.ok.lawful
     (first_may c.in_ok-board.board s 2 n.0 n.1))
 
-pub open_from-requires-3-clause-few : goal.open_from-requires-3-clause-few
-open_from-requires-3-clause-few c = elim c.if-has_openings_left-2.branch [
-  | then-has_openings_left-2 w ↦ w.has_openings_left-are_few.ensures.left (sym w.are_few-is ∙ c.if-not-are_few.false)
+pub open_from-requires-3-clause-books : goal.open_from-requires-3-clause-books
+open_from-requires-3-clause-books c = elim c.if-has_openings_left-2.branch [
+  | then-has_openings_left-2 w ↦ record { sound = c.requires.third; few = w.has_openings_left-are_few.ensures.left (sym w.are_few-is ∙ c.if-not-are_few.false) }
   | else-has_openings_left-2 w ↦ absurd (true≢false (sym c.if-not-are_few.false ∙ w.are_few-is ∙ w.if-has_openings_left-2.false))
 ]
 
@@ -77,13 +77,13 @@ invariant_of-result c =
     let b = c.open_from.new.board in
     let d = c.open_from-2.new.board in
     let e = c.open_from-3.new.board in
-    let first = stands b s 0 c.args.first.now.events x.field-0 x.ensures.ok x.ensures.lawful in
-    let second = stands d s 1 c.args.second.now.events y.field-0 y.ensures.ok y.ensures.lawful in
-    let third = stands e s 2 c.args.third.now.events z.field-0 z.ensures.ok z.ensures.lawful in
+    let first = stands b s 0 c.args.first.now.events x.field-0 x.ensures.ok.slot_is x.ensures.ok.lawful in
+    let second = stands d s 1 c.args.second.now.events y.field-0 y.ensures.ok.slot_is y.ensures.ok.lawful in
+    let third = stands e s 2 c.args.third.now.events z.field-0 z.ensures.ok.slot_is z.ensures.ok.lawful in
     let books : c.push-3.new.self.items ≡ x.field-0 ∷ y.field-0 ∷ z.field-0 ∷ [] =
     c.in_ok-push-3.ensures.items ∙ ap (λ (l : List Book). l ++ z.field-0 ∷ []) (c.in_ok-push-2.ensures.items ∙ ap (λ (l : List Book). l ++ y.field-0 ∷ []) (c.in_ok-push.ensures.items ∙ ap (λ (l : List Book). l ++ x.field-0 ∷ []) c.new-slots.ensures.items)) in
     subst (λ (l : List Book). AreBooks S plain_knows R e s l) (sym books)
     (three S plain_knows R e s x.field-0 y.field-0 z.field-0
-    (stayed S plain_knows R d e 0 2 s x.field-0 (stayed S plain_knows R b d 0 1 s x.field-0 first 1 refl y.ensures.others (λ q. cc)) 2 refl z.ensures.others (λ q. cc))
-    (stayed S plain_knows R d e 1 2 s y.field-0 second 2 refl z.ensures.others (λ q. cc))
+    (stayed S plain_knows R d e 0 2 s x.field-0 (stayed S plain_knows R b d 0 1 s x.field-0 first 1 refl y.ensures.rest.others (λ q. cc)) 2 refl z.ensures.rest.others (λ q. cc))
+    (stayed S plain_knows R d e 1 2 s y.field-0 second 2 refl z.ensures.rest.others (λ q. cc))
     third)

@@ -41,7 +41,7 @@ loop-slot-preserved c = λ books are.
     let below : c.loop-slot.slot-index < length c.args.slots.now = omega arith in
     let e = c.open_places.ensures in
     more_opened s books k c.args.whole.now c.loop-slot.whole c.open_places.new.board c.slot-item.result (c.loop-slot.invariant books are) (few_carried s books c.args.slots.now k are below)
-    (carried_at s books c.args.slots.now k c.slot-item.result are below c.slot-item.is) e.stays e.truly e.opens
+    (carried_at s books c.args.slots.now k c.slot-item.result are below c.slot-item.is) e.rest.holder e.truly e.opens
 
 pub returns-clause-stays : goal.returns-clause-stays
 returns-clause-stays c = (c.loop-slot.invariant c.requires.carried.0 c.requires.carried.1).stays

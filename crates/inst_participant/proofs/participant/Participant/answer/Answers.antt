@@ -26,7 +26,7 @@ pub returns-clause-stays : goal.returns-clause-stays
 returns-clause-stays c = record {
   ready = search rules;
   later = search rules;
-  grows = grows (settings_of c.args.self.now.board).margin knows has_role stood Stays c.args.self.now.board c.apply-answer.new.board c.args.self.now.slot c.args.ask.now c.apply-answer.result c.apply-answer.new.self c.apply-answer.ensures.applies;
+  grows = grows (settings_of c.args.self.now.board).margin knows has_role stood Stays c.args.self.now.board c.apply-answer.new.board c.args.self.now.slot c.args.ask.now c.apply-answer.result c.apply-answer.new.self c.apply-answer.ensures.applies.applies;
   sound = subst (λ (J : List Event). IsSound c.args.self.now.slot.settings c.args.self.now.slot.who J) c.journal.ensures.events c.journal.ensures.sound;
 }
 
@@ -35,7 +35,7 @@ returns-clause-answered c =
     told_answered c.apply-answer.result c.refusals_told.result
     (λ reply. Answered c.args.self.now.slot.settings c.args.self.now.slot.who c.args.self.now.slot.events c.args.ask.now reply c.apply-answer.new.self.events) c.refusals_told.ensures
     (answered settings_of knows has_role stood Stays shared_own c.args.self.now.board c.apply-answer.new.board c.args.self.now.slot c.args.ask.now c.apply-answer.result c.apply-answer.new.self
-    c.requires.may.ready.lawful (subst (λ (J : List Event). IsSound c.args.self.now.slot.settings c.args.self.now.slot.who J) c.journal.ensures.events c.journal.ensures.sound) c.apply-answer.ensures.decides c.apply-answer.ensures.applies)
+    c.requires.may.ready.lawful (subst (λ (J : List Event). IsSound c.args.self.now.slot.settings c.args.self.now.slot.who J) c.journal.ensures.events c.journal.ensures.sound) c.apply-answer.ensures.applies.decides c.apply-answer.ensures.applies.applies)
 
 unchanged : (b : SharedBoard) → KnowTheSame knows b b
 unchanged b f = (λ k. k, λ k. k)
@@ -45,9 +45,9 @@ returns-clause-serves c = record {
   result = c.apply-answer.result;
   board = c.apply-answer.new.board;
   passes_on = c.refusals_told.ensures;
-  applies = c.apply-answer.ensures.applies;
+  applies = c.apply-answer.ensures.applies.applies;
   same = unchanged c.apply-answer.new.board;
 }
 
 pub returns-clause-err : goal.returns-clause-err
-returns-clause-err c = told_left c.apply-answer.result c.refusals_told.result _ c.refusals_told.ensures c.apply-answer.ensures.err
+returns-clause-err c = told_left c.apply-answer.result c.refusals_told.result _ c.refusals_told.ensures c.apply-answer.ensures.applies.left

@@ -52,38 +52,41 @@ returns-in_err-book-in-Some-clause-learns g c =
       ),
     )
 
-pub returns-in_err-book-in-Some-clause-lawful : goal.returns-in_err-book-in-Some-clause-lawful
-returns-in_err-book-in-Some-clause-lawful g c =
-    let b = g.B.Board in
-    let e = c.look-look.ensures in
-    let book : Book = c.args.self.now in
-    subst (λ (x : Book). IsLawfulBoard b.settings b.knows b.has_role c.look-look.new.self x) (sym (ap (λ (x : Kept). book_with_spots x c.self.inside.arrivals.items) c.in_err-book-in-Some.ensures.err ∙ c.self.view_is))
-    (looked_on b.settings b.knows b.has_role (b.settings c.args.board.now).margin b.stood c.args.board.now c.look-look.new.self c.args.place c.look-look.result e.look book
-    (g.met.B.Board.stays_settings c.args.board.now c.look-look.new.self e.stays) refl (λ r. (g.met.B.Board.stays_roles c.args.board.now c.look-look.new.self book.who e.stays).0 r) c.requires.lawful)
+pub returns-in_err-book-in-Some-clause-law : goal.returns-in_err-book-in-Some-clause-law
+returns-in_err-book-in-Some-clause-law g c = record {
+  lawful =
+      let b = g.B.Board in
+      let e = c.look-look.ensures in
+      let book : Book = c.args.self.now in
+      subst (λ (x : Book). IsLawfulBoard b.settings b.knows b.has_role c.look-look.new.self x) (sym (ap (λ (x : Kept). book_with_spots x c.self.inside.arrivals.items) c.in_err-book-in-Some.ensures.err ∙ c.self.view_is))
+      (looked_on b.settings b.knows b.has_role (b.settings c.args.board.now).margin b.stood c.args.board.now c.look-look.new.self c.args.place c.look-look.result e.look book
+      (g.met.B.Board.stays_settings c.args.board.now c.look-look.new.self e.stays) refl (λ r. (g.met.B.Board.stays_roles c.args.board.now c.look-look.new.self book.who e.stays).0 r) c.requires.lawful);
+  others =
+      let b = g.B.Board in
+      others_look b.settings b.knows b.has_role (b.settings c.args.board.now).margin b.stood b.stays (λ x y. g.met.B.Board.stays_settings x y) (λ x y p. g.met.B.Board.stays_roles x y p) (λ x k t o. g.met.B.Board.stood_seldom x k t o)
+      c.args.board.now c.look-look.new.self c.look-look.ensures.stays refl c.args.place c.look-look.result c.args.self.now.who c.look-look.ensures.look;
+  same = (ap (λ (x : Book). x.settings) (ap (λ (x : Kept). book_with_spots x c.self.inside.arrivals.items) c.in_err-book-in-Some.ensures.err ∙ c.self.view_is), ap (λ (x : Book). x.who) (ap (λ (x : Kept). book_with_spots x c.self.inside.arrivals.items) c.in_err-book-in-Some.ensures.err ∙ c.self.view_is));
+  adopted = λ all.
+      subst (λ (x : Book). AllAreAdopted x) (sym (ap (λ (x : Kept). book_with_spots x c.self.inside.arrivals.items) c.in_err-book-in-Some.ensures.err ∙ c.self.view_is)) all;
+  holder = c.look-look.ensures.stays;
+}
 
-pub returns-in_err-book-in-Some-clause-others : goal.returns-in_err-book-in-Some-clause-others
-returns-in_err-book-in-Some-clause-others g c =
-    let b = g.B.Board in
-    others_look b.settings b.knows b.has_role (b.settings c.args.board.now).margin b.stood b.stays (λ x y. g.met.B.Board.stays_settings x y) (λ x y p. g.met.B.Board.stays_roles x y p) (λ x k t o. g.met.B.Board.stood_seldom x k t o)
-    c.args.board.now c.look-look.new.self c.look-look.ensures.stays refl c.args.place c.look-look.result c.args.self.now.who c.look-look.ensures.look
-
-pub returns-in_err-book-in-Some-clause-adopted : goal.returns-in_err-book-in-Some-clause-adopted
-returns-in_err-book-in-Some-clause-adopted g c = λ all.
-    subst (λ (x : Book). AllAreAdopted x) (sym (ap (λ (x : Kept). book_with_spots x c.self.inside.arrivals.items) c.in_err-book-in-Some.ensures.err ∙ c.self.view_is)) all
-
-pub returns-in-None-clause-lawful : goal.returns-in-None-clause-lawful
-returns-in-None-clause-lawful g c =
-    let b = g.B.Board in
-    let e = c.look-look.ensures in
-    let book : Book = c.args.self.now in
-    looked_on b.settings b.knows b.has_role (b.settings c.args.board.now).margin b.stood c.args.board.now c.look-look.new.self c.args.place c.look-look.result e.look book
-    (g.met.B.Board.stays_settings c.args.board.now c.look-look.new.self e.stays) refl (λ r. (g.met.B.Board.stays_roles c.args.board.now c.look-look.new.self book.who e.stays).0 r) c.requires.lawful
-
-pub returns-in-None-clause-others : goal.returns-in-None-clause-others
-returns-in-None-clause-others g c =
-    let b = g.B.Board in
-    others_look b.settings b.knows b.has_role (b.settings c.args.board.now).margin b.stood b.stays (λ x y. g.met.B.Board.stays_settings x y) (λ x y p. g.met.B.Board.stays_roles x y p) (λ x k t o. g.met.B.Board.stood_seldom x k t o)
-    c.args.board.now c.look-look.new.self c.look-look.ensures.stays refl c.args.place c.look-look.result c.args.self.now.who c.look-look.ensures.look
+pub returns-in-None-clause-law : goal.returns-in-None-clause-law
+returns-in-None-clause-law g c = record {
+  lawful =
+      let b = g.B.Board in
+      let e = c.look-look.ensures in
+      let book : Book = c.args.self.now in
+      looked_on b.settings b.knows b.has_role (b.settings c.args.board.now).margin b.stood c.args.board.now c.look-look.new.self c.args.place c.look-look.result e.look book
+      (g.met.B.Board.stays_settings c.args.board.now c.look-look.new.self e.stays) refl (λ r. (g.met.B.Board.stays_roles c.args.board.now c.look-look.new.self book.who e.stays).0 r) c.requires.lawful;
+  others =
+      let b = g.B.Board in
+      others_look b.settings b.knows b.has_role (b.settings c.args.board.now).margin b.stood b.stays (λ x y. g.met.B.Board.stays_settings x y) (λ x y p. g.met.B.Board.stays_roles x y p) (λ x k t o. g.met.B.Board.stood_seldom x k t o)
+      c.args.board.now c.look-look.new.self c.look-look.ensures.stays refl c.args.place c.look-look.result c.args.self.now.who c.look-look.ensures.look;
+  same = (refl, refl);
+  adopted = λ all. all;
+  holder = c.look-look.ensures.stays;
+}
 
 pub returns-in_ok-book-in-Some-clause-learns : goal.returns-in_ok-book-in-Some-clause-learns
 returns-in_ok-book-in-Some-clause-learns g c =
@@ -101,31 +104,34 @@ returns-in_ok-book-in-Some-clause-learns g c =
       ),
     )
 
-pub returns-in_ok-book-in-Some-clause-lawful : goal.returns-in_ok-book-in-Some-clause-lawful
-returns-in_ok-book-in-Some-clause-lawful g c =
-    let b = g.B.Board in
-    let e = c.look-look.ensures in
-    let book : Book = c.args.self.now in
-    let S = c.self.inside.arrivals.items in
-    let x = c.in-Some.field-0 in
-    let event : Event = Booked x.found.from x.found.id x.outcome in
-    let is = ap (λ (x : Book). resolution x c.args.place c.look-look.result) (sym c.self.view_is)
-    ∙ ap (λ (l : List Spot). resolution (book_with_spots c.self.inside.ledger.book l) c.args.place c.look-look.result) (sym c.as_slice.ensures.value) ∙ c.in-Some.ensures.is in
-    let new = over_after c.self.inside.ledger.book c.book.new.ledger.book event S c.in_ok-book-in-Some.ensures.ok c.self.invariant.1 ∙ ap (λ (x : Book). with_event x (Some event)) c.self.view_is in
-    subst (λ (x : Book). IsLawfulBoard b.settings b.knows b.has_role c.look-look.new.self x) (sym new)
-    (resolution_keeps b.settings b.knows b.has_role (b.settings c.args.board.now).margin b.stood c.args.board.now c.look-look.new.self c.args.place c.look-look.result e.look book c.requires.lawful event is
-    (g.met.B.Board.stays_settings c.args.board.now c.look-look.new.self e.stays) refl (λ r. (g.met.B.Board.stays_roles c.args.board.now c.look-look.new.self book.who e.stays).0 r))
-
-pub returns-in_ok-book-in-Some-clause-others : goal.returns-in_ok-book-in-Some-clause-others
-returns-in_ok-book-in-Some-clause-others g c =
-    let b = g.B.Board in
-    others_look b.settings b.knows b.has_role (b.settings c.args.board.now).margin b.stood b.stays (λ x y. g.met.B.Board.stays_settings x y) (λ x y p. g.met.B.Board.stays_roles x y p) (λ x k t o. g.met.B.Board.stood_seldom x k t o)
-    c.args.board.now c.look-look.new.self c.look-look.ensures.stays refl c.args.place c.look-look.result c.args.self.now.who c.look-look.ensures.look
-
-pub returns-in_ok-book-in-Some-clause-adopted : goal.returns-in_ok-book-in-Some-clause-adopted
-returns-in_ok-book-in-Some-clause-adopted g c = λ all.
-    let x = c.in-Some.field-0 in
-    let event : Event = Booked x.found.from x.found.id x.outcome in
-    let new = over_after c.self.inside.ledger.book c.book.new.ledger.book event c.self.inside.arrivals.items c.in_ok-book-in-Some.ensures.ok c.self.invariant.1
-    ∙ ap (λ (x : Book). with_event x (Some event)) c.self.view_is in
-    subst (λ (x : Book). AllAreAdopted x) (sym new) all
+pub returns-in_ok-book-in-Some-clause-law : goal.returns-in_ok-book-in-Some-clause-law
+returns-in_ok-book-in-Some-clause-law g c = record {
+  lawful =
+      let b = g.B.Board in
+      let e = c.look-look.ensures in
+      let book : Book = c.args.self.now in
+      let S = c.self.inside.arrivals.items in
+      let x = c.in-Some.field-0 in
+      let event : Event = Booked x.found.from x.found.id x.outcome in
+      let is = ap (λ (x : Book). resolution x c.args.place c.look-look.result) (sym c.self.view_is)
+      ∙ ap (λ (l : List Spot). resolution (book_with_spots c.self.inside.ledger.book l) c.args.place c.look-look.result) (sym c.as_slice.ensures.value) ∙ c.in-Some.ensures.is in
+      let new = over_after c.self.inside.ledger.book c.book.new.ledger.book event S c.in_ok-book-in-Some.ensures.ok c.self.invariant.1 ∙ ap (λ (x : Book). with_event x (Some event)) c.self.view_is in
+      subst (λ (x : Book). IsLawfulBoard b.settings b.knows b.has_role c.look-look.new.self x) (sym new)
+      (resolution_keeps b.settings b.knows b.has_role (b.settings c.args.board.now).margin b.stood c.args.board.now c.look-look.new.self c.args.place c.look-look.result e.look book c.requires.lawful event is
+      (g.met.B.Board.stays_settings c.args.board.now c.look-look.new.self e.stays) refl (λ r. (g.met.B.Board.stays_roles c.args.board.now c.look-look.new.self book.who e.stays).0 r));
+  others =
+      let b = g.B.Board in
+      others_look b.settings b.knows b.has_role (b.settings c.args.board.now).margin b.stood b.stays (λ x y. g.met.B.Board.stays_settings x y) (λ x y p. g.met.B.Board.stays_roles x y p) (λ x k t o. g.met.B.Board.stood_seldom x k t o)
+      c.args.board.now c.look-look.new.self c.look-look.ensures.stays refl c.args.place c.look-look.result c.args.self.now.who c.look-look.ensures.look;
+  same = 
+      let event : Event = Booked c.in-Some.field-0.found.from c.in-Some.field-0.found.id c.in-Some.field-0.outcome in
+      let new = over_after c.self.inside.ledger.book c.book.new.ledger.book event c.self.inside.arrivals.items c.in_ok-book-in-Some.ensures.ok c.self.invariant.1 ∙ ap (λ (x : Book). with_event x (Some event)) c.self.view_is in
+      (ap (λ (x : Book). x.settings) new, ap (λ (x : Book). x.who) new);
+  adopted = λ all.
+      let x = c.in-Some.field-0 in
+      let event : Event = Booked x.found.from x.found.id x.outcome in
+      let new = over_after c.self.inside.ledger.book c.book.new.ledger.book event c.self.inside.arrivals.items c.in_ok-book-in-Some.ensures.ok c.self.invariant.1
+      ∙ ap (λ (x : Book). with_event x (Some event)) c.self.view_is in
+      subst (λ (x : Book). AllAreAdopted x) (sym new) all;
+  holder = c.look-look.ensures.stays;
+}

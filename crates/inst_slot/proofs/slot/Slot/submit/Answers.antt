@@ -58,3 +58,11 @@ returns-clause-enters g c =
 
 pub returns-in_err-is_new-clause-stays : goal.returns-in_err-is_new-clause-stays
 returns-in_err-is_new-clause-stays g c = grind (arith, common_steps)
+
+pub is_new_submission-requires-clause-deadline : goal.is_new_submission-requires-clause-deadline
+is_new_submission-requires-clause-deadline g c =
+    c.deadline-deadline.ensures ∙ ap (λ (n : ℕ). deadline_of n c.args.submission.now.stamp) (c.limit.ensures.value ∙ ap (λ (s : HubSettings). s.limit) c.settings.ensures.value)
+
+pub take-requires-clause-deadline : goal.take-requires-clause-deadline
+take-requires-clause-deadline g c =
+    c.deadline-deadline.ensures ∙ ap (λ (n : ℕ). deadline_of n c.args.submission.now.stamp) (c.limit.ensures.value ∙ ap (λ (s : HubSettings). s.limit) c.settings.ensures.value ∙ ap (λ (k : Book). k.settings.limit) c.self.view_is)

@@ -37,7 +37,7 @@ invariant_of-self-2 g c =
     let old = c.self.inside.ledger.book in
     let event = submission_event t in
     let kept = in_room event c.make_room_for_transfer.ensures.book c.keep_taken.ensures in
-    let due : c.deadline-deadline.result ≡ deadline_of old.settings.limit t.stamp = c.deadline-deadline.ensures ∙ ap (λ (n : ℕ). deadline_of n t.stamp) (c.limit.ensures.value ∙ ap (λ (s : HubSettings). s.limit) c.settings.ensures.value) in (
+    let due : c.args.deadline ≡ deadline_of old.settings.limit t.stamp = c.requires.deadline ∙ ap (λ (x : Book). deadline_of x.settings.limit t.stamp) (sym c.self.view_is) in (
       takes_over old c.keep_taken.new.self.book c.self.inside.waiting c.add.new.self t.id t.to t.cents t.stamp c.self.invariant.0
           (subst (λ (x : Book). Fits x.settings x.who x.events (submission_event t)) (sym c.self.view_is) c.requires.fits)
           (c.in_ok-add.ensures.deadlines ∙ ap (λ (n : ℕ). c.self.inside.waiting.deadlines ++ n ∷ []) due)
@@ -72,10 +72,9 @@ returns-clause-opens g c =
     let margin = (b.settings c.args.board.now).margin in
     let next : c.live_submissions-index.result ≡ live_submissions book.who book.events = c.live_submissions-index.ensures ∙ ap (λ (x : Book). live_submissions x.who x.events) c.self.view_is in
     let who : c.keep_taken.new.self.book.who ≡ book.who = ap (λ (x : Kept). x.who) (in_room (submission_event t) c.make_room_for_transfer.ensures.book c.keep_taken.ensures) ∙ ap (λ (x : Book). x.who) c.self.view_is in
-    let limit : c.keep_taken.new.self.book.settings.limit ≡ book.settings.limit = ap (λ (x : Kept). x.settings.limit) (in_room (submission_event t) c.make_room_for_transfer.ensures.book c.keep_taken.ensures) ∙ ap (λ (x : Book). x.settings.limit) c.self.view_is in
     subst (λ (n : ℕ). Learns margin b.knows c.args.board.now (place_at book.who n) (pending (terms_to t.to t.cents t.id) (deadline_of book.settings.limit t.stamp)) c.open_place.new.board) next
-    (subst (λ (n : ℕ). Learns margin b.knows c.args.board.now (place_at book.who c.live_submissions-index.result) (pending (terms_to t.to t.cents t.id) (deadline_of n t.stamp)) c.open_place.new.board) limit
-    (subst (λ (n : ℕ). Learns margin b.knows c.args.board.now (place_at n c.live_submissions-index.result) (pending (terms_to t.to t.cents t.id) (deadline_of c.keep_taken.new.self.book.settings.limit t.stamp)) c.open_place.new.board) who c.open_place.ensures.opens))
+    (subst (λ (d : ℕ). Learns margin b.knows c.args.board.now (place_at book.who c.live_submissions-index.result) (pending (terms_to t.to t.cents t.id) d) c.open_place.new.board) c.requires.deadline
+    (subst (λ (n : ℕ). Learns margin b.knows c.args.board.now (place_at n c.live_submissions-index.result) (pending (terms_to t.to t.cents t.id) c.args.deadline) c.open_place.new.board) who c.open_place.ensures.opens))
 
 pub returns-clause-ok : goal.returns-clause-ok
 returns-clause-ok g c =

@@ -31,11 +31,11 @@ invariant_of-self c =
     let l = leads_to _ _ _ _ _ c.self.invariant.0 c.self.view_is (asker c.args.self.now.board.settings c.args.ask.now c.requires.fits) c.from.ensures c.index_mut.ensures.value in
     let e = c.apply.ensures in
     still_kept _ _ _ _ _ _ _ c.self.invariant c.self.view_is
-    (acted _ _ _ _ _ _ _ c.self.invariant.0 l e.stays e.lawful e.others e.same e.adopted)
-    (asked _ _ _ _ _ _ _ c.self.view_is e.stays c.args.ask.now c.apply.result c.refusals_told.result (λ a d. d.settings ≡ a.settings) l c.requires.fits e.decides e.applies c.refusals_told.ensures)
+    (acted _ _ _ _ _ _ _ c.self.invariant.0 l e.law.holder e.law.lawful e.law.others e.law.same e.law.adopted)
+    (asked _ _ _ _ _ _ _ c.self.view_is e.law.holder c.args.ask.now c.apply.result c.refusals_told.result (λ a d. d.settings ≡ a.settings) l c.requires.fits e.applies.decides e.applies.applies c.refusals_told.ensures)
 
 pub returns : goal.returns
 returns c =
     let l = leads_to _ _ _ _ _ c.self.invariant.0 c.self.view_is (asker c.args.self.now.board.settings c.args.ask.now c.requires.fits) c.from.ensures c.index_mut.ensures.value in
     let e = c.apply.ensures in
-    asked _ _ _ _ _ _ _ c.self.view_is e.stays c.args.ask.now c.apply.result c.refusals_told.result (λ a d. d.settings ≡ a.settings) l c.requires.fits e.decides e.applies c.refusals_told.ensures
+    asked _ _ _ _ _ _ _ c.self.view_is e.law.holder c.args.ask.now c.apply.result c.refusals_told.result (λ a d. d.settings ≡ a.settings) l c.requires.fits e.applies.decides e.applies.applies c.refusals_told.ensures

@@ -13,11 +13,11 @@ invariant_of-self c =
     let l = leads_to _ _ _ _ _ c.self.invariant.0 c.self.view_is c.requires.participant c.from.ensures c.index_mut.ensures.value in
     let e = c.expire.ensures in
     still_kept _ _ _ _ _ _ _ c.self.invariant c.self.view_is
-    (acted _ _ _ _ _ _ _ c.self.invariant.0 l e.stays e.lawful e.others e.same e.adopted)
-    (expired _ _ _ _ _ _ _ c.self.view_is e.stays c.args.who c.args.index c.args.at (λ a d. d.settings ≡ a.settings) l c.requires.participant c.expire.result e.expires)
+    (acted _ _ _ _ _ _ _ c.self.invariant.0 l e.law.holder e.law.lawful e.law.others e.law.same e.law.adopted)
+    (expired _ _ _ _ _ _ _ c.self.view_is e.law.holder c.args.who c.args.index c.args.at (λ a d. d.settings ≡ a.settings) l c.requires.participant c.expire.result e.expires)
 
 pub returns : goal.returns
 returns c =
     let l = leads_to _ _ _ _ _ c.self.invariant.0 c.self.view_is c.requires.participant c.from.ensures c.index_mut.ensures.value in
     let e = c.expire.ensures in
-    expired _ _ _ _ _ _ _ c.self.view_is e.stays c.args.who c.args.index c.args.at (λ a d. d.settings ≡ a.settings) l c.requires.participant c.expire.result e.expires
+    expired _ _ _ _ _ _ _ c.self.view_is e.law.holder c.args.who c.args.index c.args.at (λ a d. d.settings ≡ a.settings) l c.requires.participant c.expire.result e.expires

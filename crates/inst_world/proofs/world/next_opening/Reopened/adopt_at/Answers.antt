@@ -18,7 +18,7 @@ invariant_of-self c =
     let e = c.in-Pending.ensures.exact in
     let a = c.adopt.ensures in
     adopted_carrying c.self.inside.slots.items c.self.inside.board c.look.new.self c.adopt.new.board c.args.place c.in-Pending.terms c.in-Pending.field-1 c.from.result c.index_mut.result.now c.adopt.new.self a.finds.0
-    c.self.invariant e.1 e.0 c.from.ensures c.index_mut.ensures.value c.look.new.self.settings.margin a.finds.1 a.finds.3 a.stays a.lawful a.others
+    c.self.invariant e.1 e.0 c.from.ensures c.index_mut.ensures.value c.look.new.self.settings.margin a.finds.1 a.finds.3 a.law.holder a.law.lawful a.law.others
 
 pub returns-in-Pending-clause-found : goal.returns-in-Pending-clause-found
 returns-in-Pending-clause-found c =
@@ -35,7 +35,7 @@ returns-in-Pending-clause-finds c =
     let new : World = record { books = set c.self.inside.slots.items c.from.result c.adopt.new.self; board = c.adopt.new.board } in
     subst (λ (w : World). OnlyFinds w new) c.self.view_is
     (adopted_finds c.self.inside.slots.items c.self.inside.board c.look.new.self c.adopt.new.board c.args.place c.in-Pending.terms c.in-Pending.field-1 c.from.result c.index_mut.result.now c.adopt.new.self a.finds.0
-    c.self.invariant e.1 e.0 c.from.ensures c.index_mut.ensures.value c.look.new.self.settings.margin a.finds.1 a.finds.3 a.stays)
+    c.self.invariant e.1 e.0 c.from.ensures c.index_mut.ensures.value c.look.new.self.settings.margin a.finds.1 a.finds.3 a.law.holder)
 
 pub invariant_of-self-in_default : goal.invariant_of-self-in_default
 invariant_of-self-in_default c = subst (λ (b : Contents). IsCarryingWorld (record { books = c.self.inside.slots.items; board = b })) (sym c.look.ensures.exact.1) c.self.invariant

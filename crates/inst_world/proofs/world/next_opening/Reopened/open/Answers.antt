@@ -20,17 +20,14 @@ loop-who-init c =
 pub open_from-requires-clause-board : goal.open_from-requires-clause-board
 open_from-requires-clause-board c = c.loop-who.invariant.next c.loop-who.who (omega arith)
 
-pub open_from-requires-clause-sound : goal.open_from-requires-clause-sound
-open_from-requires-clause-sound c =
+pub open_from-requires-clause-books : goal.open_from-requires-clause-books
+open_from-requires-clause-books c =
     let below : c.from.result < length c.args.journals.now = omega arith in
     let its = book_at c.args.journals.now c.from.result c.loop-who.who c.index-journals-from.result below c.from.ensures c.index-journals-from.is in
-    subst (λ (J : List Event). IsSound c.args.settings.now c.loop-who.who J) its (c.requires.journals.books.sound c.loop-who.who)
-
-pub open_from-requires-clause-few : goal.open_from-requires-clause-few
-open_from-requires-clause-few c =
-    let below : c.from.result < length c.args.journals.now = omega arith in
-    let its = book_at c.args.journals.now c.from.result c.loop-who.who c.index-journals-from.result below c.from.ensures c.index-journals-from.is in
-    subst (λ (J : List Event). HasOpeningsLeft J) its (c.requires.journals.books.few c.loop-who.who)
+    record {
+      sound = subst (λ (J : List Event). IsSound c.args.settings.now c.loop-who.who J) its (c.requires.journals.books.sound c.loop-who.who);
+      few = subst (λ (J : List Event). HasOpeningsLeft J) its (c.requires.journals.books.few c.loop-who.who);
+    }
 
 pub loop-who-preserved : goal.loop-who-preserved
 loop-who-preserved c =
@@ -38,9 +35,9 @@ loop-who-preserved c =
     let its = book_at c.args.journals.now c.from.result c.loop-who.who c.index-journals-from.result below c.from.ensures c.index-journals-from.is in
     let e = c.open_from.ensures in
     let f = c.in_ok-open_from.ensures in
-    let is = f.ok ∙ ap (opened_again c.args.settings.now c.loop-who.who) (sym its) in
+    let is = f.ok.slot_is ∙ ap (opened_again c.args.settings.now c.loop-who.who) (sym its) in
     next_opened c.args.settings.now (books_of c.args.journals.now) c.loop-who.who c.loop-who.slots.items c.push.new.self.items c.loop-who.board c.open_from.new.board c.in_ok-open_from.field-0
-    c.loop-who.invariant c.in_ok-push.ensures.items is f.opens f.lawful e.others e.stays
+    c.loop-who.invariant c.in_ok-push.ensures.items is f.ok.places f.ok.lawful e.rest.others e.rest.holder
 
 pub invariant_of-result : goal.invariant_of-result
 invariant_of-result c =
