@@ -1,6 +1,6 @@
 -- A call under a lock: what lies behind it stays lawful, and what the caller has then seen.
 use Rattle.std.proofs.Common.{◌≡◌, ℕ, ◌<◌, true, ltb-true, IfSome, List, [], ◌∷◌, sym, refl, ◌∙◌, subst, Option, Some, None, ◌++◌, append_assoc, ap}
-use Rattle.std.specs.Prelude.{Bool, Contains, Result, Ok, Err, OnErr, alloc_error}
+use Rattle.std.specs.Prelude.{Bool, Contains, Result, Ok, Err, OnErr}
 use Rattle.std.proofs.lemmas.List.Elements.{Contains-append_left}
 use Rattle.inst_settings.specs.Settings.{HubSettings, participants, is_participant}
 use Rattle.inst_command.specs.declared.ask.Ask.{Ask}
@@ -29,7 +29,7 @@ use Rattle.inst_participant.specs.LockLaw.{IsLater}
 use Rattle.inst_participant.specs.Answers.{Answered, IsSubmitted, IsTicket, IsTicketOf}
 use Rattle.inst_participant.specs.declared.follow_up.FollowUp.{FollowUp}
 use Rattle.inst_participant.specs.Following.{follow_up_of, Does}
-use Rattle.inst_participant.specs.Serving.{Serves}
+use Rattle.inst_participant.specs.Serving.{AnswersWithTicket, LeavesUnanswered}
 use Rattle.inst_hub.specs.Calls.{IsCall, Calls, IsLeftUnanswered, TellerKnowsMore, IsFollowed, knows_of, fronts_seen}
 use Rattle.inst_hub.specs.Founding.{IsSince}
 use Rattle.inst_hub.specs.inner.Calls.{Asks, Follows}
@@ -68,12 +68,9 @@ still_knows t mid sight last p h l kept first second = record {
 -- what was answered under the lock of the asker
 pub call_of : (h : Hub) (t u : Teller) (ask : Ask) (answer : Reply × Option Place) (x y : Participant) → IsSince (key_of h.row) ask.who x
     → GoesOn ask.who x.slot.events t.seat → fronts_seen u ≡ fronts_seen t ++ front ask.who x.slot.events ∷ front ask.who y.slot.events ∷ []
-    → IsSound x.slot.settings x.slot.who x.slot.events
-    → Serves x ask (Ok answer.0) y
-    → Answered x.slot.settings x.slot.who x.slot.events ask answer.0 y.slot.events
-    → IsTicket (sight_knows u.sight) x.slot.settings x.slot.who ask.command y.slot.events answer.0 answer.1
+    → IsSound x.slot.settings x.slot.who x.slot.events → AnswersWithTicket x ask answer (sight_knows u.sight) y
     → IsCall h t ask answer [] u
-call_of h t u ask answer x y behind goes_on seen sound serves answered ticket =
+call_of h t u ask answer x y behind goes_on seen sound answers =
     let settled : x.slot.settings ≡ h.settings = sym behind.behind.ready.lawful.same_settings ∙ (behind.behind.one.1 ∙ h.same) in record {
       found = x;
       left = y;
@@ -81,36 +78,30 @@ call_of h t u ask answer x y behind goes_on seen sound serves answered ticket =
       sound = subst (λ (s : HubSettings). IsSound s ask.who x.slot.events) settled (subst (λ (n : ℕ). IsSound x.slot.settings n x.slot.events) behind.behind.who sound);
       goes_on = goes_on;
       seen = seen;
-      serves = serves;
+      serves = answers.serves;
       answered = subst (λ (s : HubSettings). Answered s ask.who x.slot.events ask answer.0 y.slot.events) settled
-          (subst (λ (n : ℕ). Answered x.slot.settings n x.slot.events ask answer.0 y.slot.events) behind.behind.who answered);
+          (subst (λ (n : ℕ). Answered x.slot.settings n x.slot.events ask answer.0 y.slot.events) behind.behind.who answers.answered);
       ticket = subst (λ (s : HubSettings). IsTicket (sight_knows u.sight) s ask.who ask.command y.slot.events answer.0 answer.1) settled
-          (subst (λ (n : ℕ). IsTicket (sight_knows u.sight) x.slot.settings n ask.command y.slot.events answer.0 answer.1) behind.behind.who ticket);
+          (subst (λ (n : ℕ). IsTicket (sight_knows u.sight) x.slot.settings n ask.command y.slot.events answer.0 answer.1) behind.behind.who answers.ticket);
     }
 
 -- the same at the lock p, which is the asker's
 pub call_at : (h : Hub) (t u : Teller) (ask : Ask) (answer : Reply × Option Place) (x y : Participant) (p : ℕ) → p ≡ ask.who → IsSince (key_of h.row) p x
     → GoesOn p x.slot.events t.seat → fronts_seen u ≡ fronts_seen t ++ front p x.slot.events ∷ front p y.slot.events ∷ []
-    → IsSound x.slot.settings x.slot.who x.slot.events
-    → Serves x ask (Ok answer.0) y
-    → Answered x.slot.settings x.slot.who x.slot.events ask answer.0 y.slot.events
-    → IsTicket (sight_knows u.sight) x.slot.settings x.slot.who ask.command y.slot.events answer.0 answer.1
+    → IsSound x.slot.settings x.slot.who x.slot.events → AnswersWithTicket x ask answer (sight_knows u.sight) y
     → IsCall h t ask answer [] u
-call_at h t u ask answer x y p is behind goes_on seen sound serves answered ticket =
+call_at h t u ask answer x y p is behind goes_on seen sound answers =
     call_of h t u ask answer x y (subst (λ (n : ℕ). IsSince (key_of h.row) n x) is behind) (subst (λ (n : ℕ). GoesOn n x.slot.events t.seat) is goes_on)
-    (subst (λ (n : ℕ). fronts_seen u ≡ fronts_seen t ++ front n x.slot.events ∷ front n y.slot.events ∷ []) is seen) sound serves answered ticket
+    (subst (λ (n : ℕ). fronts_seen u ≡ fronts_seen t ++ front n x.slot.events ∷ front n y.slot.events ∷ []) is seen) sound answers
 
 -- the same, with what is to follow
 pub asks_at : (h : Hub) (t u : Teller) (ask : Ask) (answer : Reply × Option Place) (f : Option FollowUp) (x y : Participant) (p : ℕ) → p ≡ ask.who → IsSince (key_of h.row) p x
     → GoesOn p x.slot.events t.seat → fronts_seen u ≡ fronts_seen t ++ front p x.slot.events ∷ front p y.slot.events ∷ []
-    → IsSound x.slot.settings x.slot.who x.slot.events
-    → Serves x ask (Ok answer.0) y
-    → Answered x.slot.settings x.slot.who x.slot.events ask answer.0 y.slot.events
-    → IsTicket (sight_knows u.sight) x.slot.settings x.slot.who ask.command y.slot.events answer.0 answer.1
+    → IsSound x.slot.settings x.slot.who x.slot.events → AnswersWithTicket x ask answer (sight_knows u.sight) y
     → f ≡ follow_up_of y.slot.events ask.command answer.0 answer.1 → Asks h t ask (answer, f) u
 unfolding call_at call_of
-asks_at h t u ask answer f x y p is behind goes_on seen sound serves answered ticket follows =
-    (call_at h t u ask answer x y p is behind goes_on seen sound serves answered ticket, follows)
+asks_at h t u ask answer f x y p is behind goes_on seen sound answers follows =
+    (call_at h t u ask answer x y p is behind goes_on seen sound answers, follows)
 
 -- who follows up is one of the hub's participants, and so has a lock
 pub lock_of : (h : Hub) (p : ℕ) (x y : Participant) (f : Option FollowUp) → IsSince (key_of h.row) p x → IsLater x y → IfSome f (λ g. is_participant y.slot.settings g.who ≡ true) → IfSome f (λ g. g.who < size h.row)
@@ -123,15 +114,15 @@ lock_of h p x y (Some g) behind later fits =
 -- what was left where memory was refused
 pub left_at : (h : Hub) (t u : Teller) (ask : Ask) (x y : Participant) (p : ℕ) → p ≡ ask.who → IsSince (key_of h.row) p x
     → GoesOn p x.slot.events t.seat → fronts_seen u ≡ fronts_seen t ++ front p x.slot.events ∷ front p y.slot.events ∷ []
-    → Serves x ask (Err alloc_error) y → y.slot ≡ x.slot → IsLeftUnanswered h t ask u
-left_at h t u ask x y p is behind goes_on seen serves same = record {
+    → LeavesUnanswered x ask y → IsLeftUnanswered h t ask u
+left_at h t u ask x y p is behind goes_on seen leaves = record {
   found = x;
   left = y;
   behind = subst (λ (n : ℕ). IsSince (key_of h.row) n x) is behind;
   goes_on = subst (λ (n : ℕ). GoesOn n x.slot.events t.seat) is goes_on;
   seen = subst (λ (n : ℕ). fronts_seen u ≡ fronts_seen t ++ front n x.slot.events ∷ front n y.slot.events ∷ []) is seen;
-  serves = serves;
-  same = same;
+  serves = leaves.serves;
+  same = leaves.same;
 }
 
 -- who took a lock and gave it back has seen what was found and what was left

@@ -11,6 +11,7 @@ use Rattle.inst_command.specs.declared.outcome.Outcome.{Outcome}
 use Rattle.inst_command.specs.declared.reply.Reply.{Reply}
 use Rattle.inst_command.specs.declared.place.Place.{Place}
 use Rattle.inst_cell.specs.declared.shared_board.SharedBoard.{SharedBoard}
+use Rattle.inst_board.specs.declared.about.Fact.{Fact}
 use Rattle.inst_journal.specs.declared.event.Event.{Event}
 use Rattle.inst_journal.specs.declared.event.Event.TheVariants.{Funded, Defunded, Taken, Forwarded, Booked, Fetched, Opened}
 use Rattle.inst_journal.specs.Opened.{is_opening, carried}
@@ -19,7 +20,7 @@ use Rattle.inst_journal.proofs.EventsCarriedOverOpening.{carried_push}
 use Rattle.inst_model.proofs.KeptCases.{kept_cases}
 use Rattle.inst_hub.specs.declared.initial_state.InitialState.{InitialState}
 use Rattle.inst_participant.specs.declared.participant.Participant.{Participant}
-use Rattle.inst_participant.specs.Answers.{Answered}
+use Rattle.inst_participant.specs.Serving.{AnswersWithTicket, LeavesUnanswered}
 use Rattle.inst_participant.specs.LockLaw.{IsBehind}
 use Rattle.inst_participant.specs.Told.{TellsOfTransfer, IsToldMore}
 use Rattle.inst_hub.specs.Founding.{IsSince, history_in, outset_of}
@@ -68,11 +69,11 @@ kept_carries s who J command at found = kept_cases s who J command at found (λ 
 })
 
 -- a participant that served an ask
-pub serve_carries : (ask : Ask) (x y : Participant) (r : Result (Reply × Option Place) AllocError)
-    → IfOk r (λ answer. Answered x.slot.settings x.slot.who x.slot.events ask answer.0 y.slot.events) → OnErr r (y.slot ≡ x.slot)
+pub serve_carries : (ask : Ask) (sees : Fact → Type 0) (x y : Participant) (r : Result (Reply × Option Place) AllocError)
+    → IfOk r (λ answer. AnswersWithTicket x ask answer sees y) → OnErr r (LeavesUnanswered x ask y)
     → carried y.slot.events ≡ carried x.slot.events
-serve_carries ask x y (Ok answer) answered same = ap carried answered.kept ∙ kept_carries x.slot.settings x.slot.who x.slot.events ask.command ask.at answered.found
-serve_carries ask x y (Err fault) answered same = ap (λ b. carried b.events) same
+serve_carries ask sees x y (Ok answer) answers leaves = ap carried answers.answered.kept ∙ kept_carries x.slot.settings x.slot.who x.slot.events ask.command ask.at answers.answered.found
+serve_carries ask sees x y (Err fault) answers leaves = ap (λ b. carried b.events) leaves.same
 
 -- what was found behind a lock, and what is left there
 pub since_later : (key : InitialState) (p : ℕ) (b : Box Participant) (x y : Participant) → x ≡ b.value → IsSince key p b.value → IsBehind key.words.value p y → carried y.slot.events ≡ carried x.slot.events → IsSince key p y

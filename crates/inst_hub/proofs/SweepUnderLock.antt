@@ -7,7 +7,7 @@ use Rattle.inst_row.specs.Row.{key_of}
 use Rattle.inst_row.specs.Seated.{GoesOn}
 use Rattle.inst_participant.specs.declared.participant.Participant.{Participant}
 use Rattle.inst_participant.specs.Told.{IsToldAll}
-use Rattle.inst_participant.specs.Sweeping.{Sweeps, NothingDue, new_events}
+use Rattle.inst_participant.specs.Sweeping.{Sweeps, IsWholeSweep}
 use Rattle.inst_hub.specs.declared.hub.Hub.{Hub}
 use Rattle.inst_hub.specs.declared.teller.Teller.{Teller}
 use Rattle.inst_hub.specs.Calls.{fronts_seen}
@@ -17,9 +17,8 @@ use Rattle.inst_hub.specs.Sweeping.{IsSweep}
 -- the same at the lock p, which is that of `who`
 pub sweep_at : (h : Hub) (t u : Teller) (who at : ℕ) (result : Result ℕ AllocError) (x y : Participant) (p : ℕ) → p ≡ who → IsSince (key_of h.row) p x
     → GoesOn p x.slot.events t.seat → fronts_seen u ≡ fronts_seen t ++ front p x.slot.events ∷ front p y.slot.events ∷ []
-    → IsToldAll x.slot.events y.slot.events → Sweeps at (is_ok result) x y → IfOk result (λ count. count ≡ new_events x.slot.events y.slot.events)
-    → IfOk result (λ count. NothingDue at y) → IsSweep h t who at result u
-sweep_at h t u who at result x y p is behind goes_on seen told sweeps count due = record {
+    → IsToldAll x.slot.events y.slot.events → Sweeps at (is_ok result) x y → IfOk result (IsWholeSweep at x y) → IsSweep h t who at result u
+sweep_at h t u who at result x y p is behind goes_on seen told sweeps whole = record {
   found = x;
   left = y;
   behind = subst (λ (n : ℕ). IsSince (key_of h.row) n x) is behind;
@@ -27,6 +26,5 @@ sweep_at h t u who at result x y p is behind goes_on seen told sweeps count due 
   seen = subst (λ (n : ℕ). fronts_seen u ≡ fronts_seen t ++ front n x.slot.events ∷ front n y.slot.events ∷ []) is seen;
   told = told;
   sweeps = sweeps;
-  count = count;
-  due = due;
+  whole = whole;
 }

@@ -1,6 +1,6 @@
 -- The tellers of a hub that opens: they have seen how the histories begin, the first time with no
 -- events, and know of no place. This hub's own choice.
-use Rattle.std.specs.Prelude.{◌≡◌, ℕ, zero, suc, List, [], ◌∷◌, slice_get, sum_by, Some}
+use Rattle.std.specs.Prelude.{◌≡◌, ℕ, zero, suc, List, [], ◌∷◌, length, slice_get, sum_by, Some}
 use Rattle.atomic_table.specs.Seated.{TableId}
 use Rattle.inst_cell.specs.declared.shared_board.SharedBoard.{SharedBoard}
 use Rattle.inst_hub.specs.declared.initial_state.InitialState.{InitialState}
@@ -11,8 +11,12 @@ use Rattle.inst_cell.specs.Seen.{board_of_sight, sight_knows}
 use Rattle.inst_journal.specs.declared.event.Event.{Event}
 use Rattle.inst_row.specs.declared.view.Front.{Front}
 use Rattle.inst_row.specs.View.{front}
+use Rattle.inst_row.specs.Row.{row_id, key_of}
 use Rattle.inst_row.specs.Seated.{IsOn, IsFree, view_of}
+use Rattle.inst_settings.specs.Settings.{participants}
+use Rattle.inst_hub.specs.declared.hub.Hub.{Hub}
 use Rattle.inst_hub.specs.declared.teller.Teller.{Teller}
+use Rattle.inst_hub.specs.Calls.{AreOf}
 use Rattle.inst_row.specs.declared.row.TheConstants.{MOST_SEATS}
 
 -- what a teller sees with at first: over these words, and it knows of no place
@@ -48,3 +52,12 @@ row_parts tellers = sum_by (λ t. (view_of t.seat).parts) tellers
 -- they have all parts of the row
 abbrev pub HaveAllParts : List Teller → Type 0
 HaveAllParts tellers = row_parts tellers ≡ MOST_SEATS
+
+-- so many tellers of a hub that opens, with all parts of its row: they have seen these histories,
+-- and know of no place
+pub record AreFirstTellers (hub : Hub) (tellers : ℕ) (J : ℕ → List Event) (all : List Teller)
+    : Type 0 where
+  pub enough : length all ≡ tellers
+  pub of : AreOf hub all
+  pub new : AreNew (row_id hub.row) (key_of hub.row) (first_fronts (participants hub.settings) J) all
+  pub parts : HaveAllParts all

@@ -7,18 +7,21 @@ use Rattle.inst_row.specs.Row.{key_of}
 use Rattle.inst_row.specs.Seated.{GoesOn}
 use Rattle.inst_participant.specs.declared.participant.Participant.{Participant}
 use Rattle.inst_participant.specs.Told.{IsToldAll}
-use Rattle.inst_participant.specs.Sweeping.{Sweeps, NothingDue, new_events}
+use Rattle.inst_participant.specs.Sweeping.{Sweeps, IsWholeSweep}
 use Rattle.inst_hub.specs.declared.hub.Hub.{Hub}
 use Rattle.inst_hub.specs.declared.teller.Teller.{Teller}
 use Rattle.inst_hub.specs.Founding.{IsSince}
 use Rattle.inst_hub.specs.Calls.{fronts_seen}
 
--- A sweep of the participant `who` at the reading found, left: what was found behind its lock, and
--- what was left there behind: it is that participant's, and there was no opening since the hub's
--- goes_on: the history that was found goes on from all that the teller had seen of it seen: the
--- teller has seen these two histories, and nothing else told, sweeps: what was left is what was
--- found, swept whole, or until memory was refused and no further count: this is how much was new
--- due: after a whole sweep no own transfer that is due at the reading waits any more
+-- A sweep of the participant `who` at the reading
+-- found, left: what was found behind its lock, and what was left there
+-- behind: it is that participant's, and there was no opening since the hub's
+-- goes_on: the history that was found goes on from all that the teller had seen of it
+-- seen: the teller has seen these two histories, and nothing else
+-- told, sweeps: what was left is what was found, swept whole, or until memory was refused and no
+-- further
+-- whole: how much was new, and that after a whole sweep no own transfer that is due at the reading
+-- waits any more
 pub record IsSweep (h : Hub) (t : Teller) (who at : ℕ) (result : Result ℕ AllocError) (u : Teller) :
     Type 0 where
   pub found : Participant
@@ -29,5 +32,4 @@ pub record IsSweep (h : Hub) (t : Teller) (who at : ℕ) (result : Result ℕ Al
       ≡ fronts_seen t ++ front who found.slot.events ∷ front who left.slot.events ∷ []
   pub told : IsToldAll found.slot.events left.slot.events
   pub sweeps : Sweeps at (is_ok result) found left
-  pub count : IfOk result (λ count. count ≡ new_events found.slot.events left.slot.events)
-  pub due : IfOk result (λ count. NothingDue at left)
+  pub whole : IfOk result (IsWholeSweep at found left)

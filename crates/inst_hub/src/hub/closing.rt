@@ -1,29 +1,22 @@
 //! How a hub is taken apart when it closes.
-ghost use Rattle.std.specs.Prelude.{◌≡◌, ◌↔◌, ℕ, ◌<◌, ◌≤◌, [], List, map, length, slice_get, Some};
-ghost use Rattle.std.specs.Prelude.{IfOk, IfErr, vec_capacity};
-ghost use mathlib.Core.List.{IsPrefix};
-ghost use Rattle.inst_board.specs.declared.about.Fact.{Fact};
-ghost use Rattle.inst_cell.specs.Held.{knows};
+ghost use Rattle.std.specs.Prelude.{◌≡◌, ◌↔◌, ℕ, ◌<◌, ◌≤◌, [], List, map, length, IfOk, IfErr};
+ghost use Rattle.std.specs.Prelude.{vec_capacity};
 ghost use Rattle.inst_journal.specs.declared.event.Event.{Event};
 ghost use Rattle.inst_model.specs.Opening.{Opening, IsOpening};
 ghost use Rattle.inst_row.specs.Row.{row_id, key_of, size};
 ghost use Rattle.inst_row.specs.Seated.{IsOn, HasAll, HasSeen};
-ghost use Rattle.inst_participant.specs.Apart.{IsPartsOf, histories_of, board_of, hub_of};
-ghost use Rattle.inst_hub.specs.declared.teller.Teller.{Teller};
-ghost use Rattle.inst_hub.specs.Calls.{AreOf, knows_of};
+ghost use Rattle.inst_participant.specs.Apart.{IsPartsOf, hub_of};
+ghost use Rattle.inst_hub.specs.Calls.{AreOf};
 ghost use Rattle.inst_hub.specs.Opening.{HaveAllParts};
-ghost use Rattle.inst_settings.specs.Settings.{participants};
 ghost use Rattle.inst_hub.specs.Founding.{HasOpenedHub};
-ghost use Rattle.inst_hub.specs.Closing.{OneHasSeen, HandsBack};
+ghost use Rattle.inst_hub.specs.Closing.{OneHasSeen, HaveWhatWasSeen, HandsBack};
 ghost use Rattle.inst_hub.specs.inner.Closing.{AreSeated, AreTakenOut};
 
 use super::Hub;
 use crate::initial_state::InitialState;
 use crate::lock_law::LockLaw;
 use crate::teller::Teller;
-use inst_base::mention;
 use inst_cell::SharedBoard;
-use inst_command::Outcome;
 use inst_journal::Event;
 use inst_participant::{Participant, Parts};
 use inst_row::{LockRow, RowSeat};
@@ -86,7 +79,6 @@ fn empty(row: Row, seat: Seat, slots: &mut Vec<Slot>, boards: &mut Vec<SharedBoa
     requires room { (size row ≤ vec_capacity slots.old) × (size row ≤ vec_capacity boards.old) }
     ensures taken { AreTakenOut (key_of row) (size row) seat slots.new.items boards.new.items }
 {
-    mention::<Outcome>();
     let mut ended = row.take_apart(seat);
     for lock in 0..ended.len() {
         let Participant { slot, board } = Box::into_inner(ended.take(lock));
@@ -109,22 +101,14 @@ impl Hub {
         ensures settings { IfOk result (λ parts. hub_of parts ≡ self.settings) }
         ensures parts { IfOk result (λ parts. (O : Opening) → IsOpening self.settings O →
             HasOpenedHub O self → IsPartsOf O parts) }
-        ensures goes_on { IfOk result (λ parts. (i : ℕ) (t : Teller) (p : ℕ) (h : List Event) →
-            slice_get tellers.items i ≡ Some t → p < participants self.settings →
-            HasSeen p h t.seat → IsPrefix h (histories_of parts p)) }
-        ensures last { IfOk result (λ parts. (p : ℕ) → p < participants self.settings →
-            OneHasSeen tellers.items p (histories_of parts p)) }
-        ensures knows { IfOk result (λ parts. (i : ℕ) (t : Teller) (f : Fact) →
-            slice_get tellers.items i ≡ Some t → knows_of t f → knows (board_of parts) f) }
+        ensures seen { IfOk result (HaveWhatWasSeen self.settings tellers.items) }
         ensures err { IfErr result (HandsBack self tellers.items) }
     {
-        let locks = self.row.len();
+        let locks = usize::from(self.settings.participants());
         let rooms = rooms(alloc, locks, tellers.as_slice().len());
         let Ok((mut slots, mut boards, mut sights)) = rooms else {
             return Err(TakeFault::Memory { hub: self, tellers });
         };
-        // The check is told that there are participants only by a call.
-        let _ = self.settings.participants();
         let Hub { settings, row } = self;
         let seat = gather(&row, tellers, &mut sights);
         empty(row, seat, &mut slots, &mut boards);

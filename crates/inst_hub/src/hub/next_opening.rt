@@ -8,10 +8,8 @@ ghost use Rattle.inst_cell.specs.Opening.{MayOpen, IsWhole};
 ghost use Rattle.inst_model.specs.Opening.{FromBooks};
 ghost use Rattle.inst_world.specs.NextOpening.{CanOpenFrom, books_of};
 ghost use Rattle.inst_world.specs.inner.NextOpening.{IsOpenedBelow};
-ghost use Rattle.inst_row.specs.Row.{row_id, key_of};
-ghost use Rattle.inst_hub.specs.Calls.{AreOf};
 ghost use Rattle.inst_hub.specs.Founding.{HasOpenedHub};
-ghost use Rattle.inst_hub.specs.Opening.{AreNew, first_fronts, HaveAllParts};
+ghost use Rattle.inst_hub.specs.Opening.{AreFirstTellers};
 ghost use Rattle.inst_hub.specs.inner.Opening.{unboxed, AreBehind};
 ghost use Rattle.inst_hub.specs.NextOpening.{histories_from};
 ghost use Rattle.inst_hub.specs.inner.NextOpening.{AreCarriedSlots, pairs, seated};
@@ -20,9 +18,8 @@ use super::Hub;
 use super::opening::admit;
 use crate::initial_state::InitialState;
 use crate::teller::Teller;
-use inst_base::{Fault, mention};
+use inst_base::Fault;
 use inst_cell::SharedBoard;
-use inst_command::Outcome;
 use inst_journal::Journal;
 use inst_participant::Participant;
 use inst_row::LockRow;
@@ -56,7 +53,6 @@ fn seat(
     requires { length boards.items ≡ length slots.items }
     ensures ok { IfOk result (λ all. unboxed all.items ≡ pairs seated slots.items boards.items) }
 {
-    mention::<Outcome>();
     let mut all = Vec::new(alloc);
     let mut boards = boards.into_iter();
     for slot in slots {
@@ -103,12 +99,8 @@ impl Hub {
     ) -> Result<(Hub, Vec<Teller>), Fault>
         requires journals { CanOpenFrom settings journals.now }
         ensures settings { IfOk result (λ r. r.0.settings ≡ settings) }
-        ensures enough { IfOk result (λ r. length r.1.items ≡ tellers) }
-        ensures of { IfOk result (λ r. AreOf r.0 r.1.items) }
-        ensures new { IfOk result (λ r.
-            AreNew (row_id r.0.row) (key_of r.0.row)
-            (first_fronts (participants settings) (histories_from journals.now)) r.1.items) }
-        ensures parts { IfOk result (λ r. HaveAllParts r.1.items) }
+        ensures tellers { IfOk result (λ r.
+            AreFirstTellers r.0 tellers (histories_from journals.now) r.1.items) }
         ensures opened { IfOk result (λ r. HasOpenedHub (FromBooks (books_of journals.now)) r.0) }
         ensures bad { (result ≡ Err Fault.BadSettings) ↔ ¬ MayOpen tellers }
         ensures only { IfErr result (λ e. (e ≡ Fault.Memory) ⊎ (e ≡ Fault.BadSettings)) }

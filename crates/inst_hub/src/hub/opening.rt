@@ -1,24 +1,21 @@
 //! How a hub opens, with its tellers.
 ghost use Rattle.std.specs.Prelude.{◌≡◌, ◌⊎◌, ◌↔◌, [], Err, IfOk, IfErr, length, ◌<◌};
 ghost use Rattle.atomic_table.specs.Seated.{TableId};
-ghost use Rattle.inst_settings.specs.Settings.{participants};
 ghost use Rattle.inst_cell.specs.Opening.{MayOpen, IsOpened};
 ghost use Rattle.inst_row.specs.Row.{row_id, key_of, size};
 ghost use Rattle.inst_row.specs.Seated.{IsOn, HasAll, view_of};
 ghost use Rattle.inst_model.specs.Opening.{First};
 ghost use Rattle.inst_participant.specs.LockLaw.{IsBehind};
 ghost use Rattle.inst_hub.specs.Founding.{HasOpenedHub};
-ghost use Rattle.inst_hub.specs.Calls.{AreOf};
-ghost use Rattle.inst_hub.specs.Opening.{AreNew, first_fronts, HaveAllParts};
+ghost use Rattle.inst_hub.specs.Opening.{AreNew, HaveAllParts, AreFirstTellers};
 ghost use Rattle.inst_hub.specs.inner.Opening.{AreBoards, unboxed, AreParticipants, AreBlank};
 
 use super::Hub;
 use crate::initial_state::InitialState;
 use crate::lock_law::LockLaw;
 use crate::teller::Teller;
-use inst_base::{Fault, mention};
+use inst_base::Fault;
 use inst_cell::SharedBoard;
-use inst_command::Outcome;
 use inst_journal::Event;
 use inst_participant::Participant;
 use inst_row::{LockRow, RowSeat};
@@ -38,7 +35,6 @@ fn participant(
     ensures ok { IfOk result (λ x. IsBehind board who x.value) }
     ensures new { IfOk result (λ x. x.value.slot.events ≡ []) }
 {
-    mention::<Outcome>();
     let slot = Slot::open(alloc, settings, who)?;
     Ok(Box::new(alloc, Participant { slot, board })?)
 }
@@ -102,12 +98,7 @@ impl Hub {
     /// `Memory` where there is no room.
     pub fn open(alloc: Global, settings: Settings, tellers: u8) -> Result<(Hub, Vec<Teller>), Fault>
         ensures settings { IfOk result (λ r. r.0.settings ≡ settings) }
-        ensures enough { IfOk result (λ r. length r.1.items ≡ tellers) }
-        ensures of { IfOk result (λ r. AreOf r.0 r.1.items) }
-        ensures new { IfOk result (λ r.
-            AreNew (row_id r.0.row) (key_of r.0.row) (first_fronts (participants settings) (λ p.
-            [])) r.1.items) }
-        ensures parts { IfOk result (λ r. HaveAllParts r.1.items) }
+        ensures tellers { IfOk result (λ r. AreFirstTellers r.0 tellers (λ p. []) r.1.items) }
         ensures opened { IfOk result (λ r. HasOpenedHub First r.0) }
         ensures bad { (result ≡ Err Fault.BadSettings) ↔ ¬ MayOpen tellers }
         ensures only { IfErr result (λ e. (e ≡ Fault.Memory) ⊎ (e ≡ Fault.BadSettings)) }

@@ -1,4 +1,4 @@
-use Rattle.std.proofs.Common.{ℕ, ◌<◌, length, [], refl, ap, ◌≡◌, ◌∙◌, Some, rules, sym, subst, List, arith}
+use Rattle.std.proofs.Common.{ℕ, ◌<◌, length, [], refl, ap, ◌≡◌, ◌∙◌, Some, sym, subst, List, arith}
 use Rattle.std.proofs.lemmas.Grind.{common_steps}
 use Rattle.std.specs.Prelude.{slice_get}
 use Rattle.inst_journal.specs.declared.event.Event.{Event}
@@ -47,21 +47,17 @@ pub invariant_of-result-clause-sized : goal.invariant_of-result-clause-sized
 invariant_of-result-clause-sized c =
     c.in_ok-row.ensures.row.0 ∙ (sym (unboxed_length c.in_ok-all.all.items) ∙ (c.in_ok-all.ensures.ok.enough ∙ c.in_ok-boards.ensures.ok.participants))
 
-pub returns-clause-enough : goal.returns-clause-enough
-returns-clause-enough c = c.in_ok-tellers.ensures.enough ∙ c.in_ok-boards.ensures.ok.enough
-
-pub returns-clause-parts : goal.returns-clause-parts
-returns-clause-parts c = c.in_ok-tellers.ensures.parts
-
-pub returns-clause-of : goal.returns-clause-of
-returns-clause-of c = new_are_of _ _ c.in_ok-tellers.tellers.items c.in_ok-tellers.ensures.new
-
-pub returns-clause-new : goal.returns-clause-new
-returns-clause-new c =
+pub returns-clause-tellers : goal.returns-clause-tellers
+returns-clause-tellers c =
     let at : slice_get c.in_ok-boards.boards.items 0 ≡ Some c.in-Some.first.now = ap (λ (l : List SharedBoard). slice_get l 0) (sym c.deref.ensures.value) ∙ sym c.in-Some.ensures.value in
     let is : c.of-words.result.value ≡ c.in-Some.first.now = c.of-words.ensures in
     let are = opened_behind c.args.settings c.args.tellers c.in_ok-boards.boards.items c.in_ok-boards.sights.items (unboxed c.in_ok-all.all.items) c.in-Some.first.now c.of-words.result.value c.in_ok-boards.ensures.ok c.in_ok-all.ensures.ok at is in
-    subst (λ (fs : List (Front Event)). AreNew (row_id c.in_ok-row.row) (key_of c.in_ok-row.row) fs c.in_ok-tellers.tellers.items) (c.in_ok-row.ensures.seen ∙ behind_fronts _ _ _ c.in_ok-all.all.items are) c.in_ok-tellers.ensures.new
+    record {
+      enough = c.in_ok-tellers.ensures.enough ∙ c.in_ok-boards.ensures.ok.enough;
+      of = new_are_of _ _ c.in_ok-tellers.tellers.items c.in_ok-tellers.ensures.new;
+      new = subst (λ (fs : List (Front Event)). AreNew (row_id c.in_ok-row.row) (key_of c.in_ok-row.row) fs c.in_ok-tellers.tellers.items) (c.in_ok-row.ensures.seen ∙ behind_fronts _ _ _ c.in_ok-all.all.items are) c.in_ok-tellers.ensures.new;
+      parts = c.in_ok-tellers.ensures.parts;
+    }
 
 pub returns-clause-opened : goal.returns-clause-opened
 returns-clause-opened c = λ p below.

@@ -39,19 +39,14 @@ admit-requires-clause-sights c =
 pub invariant_of-result-clause-sized : goal.invariant_of-result-clause-sized
 invariant_of-result-clause-sized c = c.in_ok-row.ensures.row.0 ∙ (sym (unboxed_length c.in_ok-all.all.items) ∙ c.in_ok-all.ensures.ok.enough)
 
-pub returns-clause-enough : goal.returns-clause-enough
-returns-clause-enough c = c.in_ok-tellers.ensures.enough ∙ c.in_ok-whole.ensures.sights.enough
-
-pub returns-clause-parts : goal.returns-clause-parts
-returns-clause-parts c = c.in_ok-tellers.ensures.parts
-
-pub returns-clause-of : goal.returns-clause-of
-returns-clause-of c = new_are_of _ _ c.in_ok-tellers.tellers.items c.in_ok-tellers.ensures.new
-
-pub returns-clause-new : goal.returns-clause-new
-returns-clause-new c =
-    subst (λ (fs : List (Front Event)). AreNew (row_id c.in_ok-row.row) (key_of c.in_ok-row.row) fs c.in_ok-tellers.tellers.items)
-    (c.in_ok-row.ensures.seen ∙ behind_fronts c.in_ok-whole.whole (participants c.args.settings) (histories_from c.args.journals.now) c.in_ok-all.all.items c.in_ok-all.ensures.ok) c.in_ok-tellers.ensures.new
+pub returns-clause-tellers : goal.returns-clause-tellers
+returns-clause-tellers c = record {
+  enough = c.in_ok-tellers.ensures.enough ∙ c.in_ok-whole.ensures.sights.enough;
+  of = new_are_of _ _ c.in_ok-tellers.tellers.items c.in_ok-tellers.ensures.new;
+  new = subst (λ (fs : List (Front Event)). AreNew (row_id c.in_ok-row.row) (key_of c.in_ok-row.row) fs c.in_ok-tellers.tellers.items)
+      (c.in_ok-row.ensures.seen ∙ behind_fronts c.in_ok-whole.whole (participants c.args.settings) (histories_from c.args.journals.now) c.in_ok-all.all.items c.in_ok-all.ensures.ok) c.in_ok-tellers.ensures.new;
+  parts = c.in_ok-tellers.ensures.parts;
+}
 
 pub returns-clause-opened : goal.returns-clause-opened
 returns-clause-opened c = λ p below.

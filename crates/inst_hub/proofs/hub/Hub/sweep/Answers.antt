@@ -36,4 +36,4 @@ returns-clause-sweep g c =
     sweep_at c.args.self.now c.args.teller.now u c.args.who c.args.at c.sweep-answer.result x c.sweep-answer.new.self c.from-lock.result c.from-lock.ensures
     found.law found.goes_on
     (seen_both c.args.teller.now.seat c.take-participant.new.seat c.give.new.seat c.from-lock.result x.slot.events c.sweep-answer.new.self.slot.events found.sees c.give.ensures.sees)
-    c.sweep-answer.ensures.told c.sweep-answer.ensures.sweeps c.sweep-answer.ensures.count c.sweep-answer.ensures.due
+    c.sweep-answer.ensures.told c.sweep-answer.ensures.sweeps c.sweep-answer.ensures.whole
