@@ -20,10 +20,9 @@ use Rattle.inst_row.specs.declared.view.Front.{Front}
 use Rattle.inst_row.specs.Row.{row_id, key_of}
 use Rattle.inst_hub.specs.declared.hub.Hub.{Hub}
 use Rattle.inst_hub.specs.declared.teller.Teller.{Teller}
-use Rattle.inst_hub.specs.Calls.{AreOf}
 use Rattle.inst_hub.specs.Founding.{HasOpenedHub}
 use Rattle.inst_hub.specs.NextOpening.{histories_from}
-use Rattle.inst_hub.specs.Opening.{AreNew, HaveAllParts, first_fronts}
+use Rattle.inst_hub.specs.Opening.{AreNew, AreFirstTellers, first_fronts}
 use Rattle.inst_close.specs.ClosedHub.{ClosedHub, IsClosed}
 use Rattle.inst_close.specs.Closing.{IsNextOf, AreNextTellers, next_fronts}
 use Rattle.inst_close.specs.inner.NextOpening.{AreCopiesAnd}
@@ -54,12 +53,11 @@ next_is books journals s h can same settings_are opened = record {
   opened = (subst (λ (t : HubSettings). BooksCanOpen t (books_of journals)) (sym settings_are) can.books, opened);
 }
 
-pub next_tellers : (books : List Book) (journals : List History) (s : HubSettings) (h : Hub) (tellers : List Teller) → ((p : ℕ) → books_of journals p ≡ histories books p) → h.settings ≡ s
-    → AreOf h tellers → HaveAllParts tellers → AreNew (row_id h.row) (key_of h.row) (first_fronts (participants s) (histories_from journals)) tellers → AreNextTellers books h tellers
-next_tellers books journals s h tellers same settings_are of parts new =
-    let fronts : first_fronts (participants s) (histories_from journals) ≡ next_fronts books (participants s) = λ k. first_fronts (participants s) (λ p. same p k ++ Opened ∷ []) in
-    let those : first_fronts (participants s) (histories_from journals) ≡ next_fronts books (participants h.settings) = fronts ∙ ap (λ (t : HubSettings). next_fronts books (participants t)) (sym settings_are) in
-    record { of = of; parts = parts; new = subst (λ (fs : List (Front Event)). AreNew (row_id h.row) (key_of h.row) fs tellers) those new }
+pub next_tellers : (books : List Book) (journals : List History) (h : Hub) (n : ℕ) (tellers : List Teller) → ((p : ℕ) → books_of journals p ≡ histories books p)
+    → AreFirstTellers h n (histories_from journals) tellers → AreNextTellers books h tellers
+next_tellers books journals h n tellers same first =
+    let fronts : first_fronts (participants h.settings) (histories_from journals) ≡ next_fronts books (participants h.settings) = λ k. first_fronts (participants h.settings) (λ p. same p k ++ Opened ∷ []) in
+    record { of = first.of; parts = first.parts; new = subst (λ (fs : List (Front Event)). AreNew (row_id h.row) (key_of h.row) fs tellers) fronts first.new }
 
 pub seats_if_ok : {A : Type 0} (r : Result A Fault) (tellers : ℕ) → ((MayOpen tellers → ⊥) → r ≡ Err BadSettings) → IfOk r (λ v. MayOpen tellers)
 seats_if_ok (Err e) tellers bad = tt

@@ -85,14 +85,11 @@ books_of_parts p (Ok books) same further told = λ h tellers of. record {
 books_of_parts p (Err e) same further told = tt
 
 -- the books that a hub's closing gives, of what is left of the hub where that is the hub
-pub books_of_whole : (hub : Hub) (handed : List Teller) (r : Result ClosedHub CloseFault) → IfOk r (λ books. books.settings ≡ hub.settings)
-    → IfOk r (λ books. (O : Opening) → IsOpenedSo O hub → HaveOpened O books) → IfOk r (λ books. GoOnFrom handed (participants hub.settings) (histories books.books))
-    → IfOk r (λ books. AreOnlyTold handed (participants hub.settings) (histories books.books)) → IfOk r (λ books. TellAll handed (histories books.books))
+pub books_of_whole : (hub : Hub) (handed : List Teller) (r : Result ClosedHub CloseFault) → IfOk r (λ books. IsClosedFrom hub handed books)
     → IfOk r (λ books. (h : Hub) (tellers : List Teller) → (hub ≡ h) × (handed ≡ tellers) → IsClosedFrom h tellers books)
-books_of_whole hub handed (Ok books) same began on only told = λ h tellers left.
-    subst (λ (l : List Teller). IsClosedFrom h l books) left.1
-    (subst (λ (x : Hub). IsClosedFrom x handed books) left.0 record { settings = same; opened = began; goes_on = on; only_told = only; told = told })
-books_of_whole hub handed (Err e) same began on only told = tt
+books_of_whole hub handed (Ok books) closed = λ h tellers left.
+    subst (λ (l : List Teller). IsClosedFrom h l books) left.1 (subst (λ (x : Hub). IsClosedFrom x handed books) left.0 closed)
+books_of_whole hub handed (Err e) closed = tt
 
 pub if_err : {A E : Type 0} (r : Result A E) (P Q : E → Type 0) → ((e : E) → P e → Q e) → IfErr r P → IfErr r Q
 if_err (Ok v) P Q f h = tt

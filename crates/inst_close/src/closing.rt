@@ -8,14 +8,12 @@ ghost use Rattle.inst_model.specs.Closing.{OnlyTold};
 ghost use Rattle.inst_model.specs.Opening.{Opening};
 ghost use Rattle.inst_participant.specs.Together.{histories};
 ghost use Rattle.inst_participant.specs.InTheBooks.{IsInTheBooks};
-ghost use Rattle.inst_settings.specs.Settings.{participants};
 ghost use Rattle.inst_hub.specs.declared.hub.Hub.{Hub};
 ghost use Rattle.inst_hub.specs.declared.teller.Teller.{Teller};
 ghost use Rattle.inst_hub.specs.Calls.{AreOf};
 ghost use Rattle.inst_hub.specs.Opening.{HaveAllParts};
 ghost use Rattle.inst_participant.specs.Apart.{IsPartsOf, histories_of, board_of, hub_of};
-ghost use Rattle.inst_close.specs.Closing.{IsOpenedSo, HaveOpened, GoOnFrom, AreOnlyTold, TellAll};
-ghost use Rattle.inst_close.specs.Closing.{IsLeftOf, MayClose, IsClosedFrom, rest_of};
+ghost use Rattle.inst_close.specs.Closing.{IsOpenedSo, IsLeftOf, MayClose, IsClosedFrom, rest_of};
 ghost use Rattle.inst_close.specs.inner.Closing.{IsPartly};
 
 use crate::Books;
@@ -57,13 +55,7 @@ pub fn close(alloc: Global, hub: Hub, tellers: Vec<Teller>) -> Result<Books, Clo
     requires of { AreOf hub tellers.items }
     requires parts { HaveAllParts tellers.items }
     requires opened { (O : Opening) × IsOpenedSo O hub }
-    ensures settings { IfOk result (λ books. books.settings ≡ hub.settings) }
-    ensures opened { IfOk result (λ books. (O : Opening) → IsOpenedSo O hub → HaveOpened O books) }
-    ensures goes_on { IfOk result (λ books.
-        GoOnFrom tellers.items (participants hub.settings) (histories books.books)) }
-    ensures only_told { IfOk result (λ books.
-        AreOnlyTold tellers.items (participants hub.settings) (histories books.books)) }
-    ensures told { IfOk result (λ books. TellAll tellers.items (histories books.books)) }
+    ensures books { IfOk result (IsClosedFrom hub tellers.items) }
     ensures left { IfErr result (λ e. IsLeftOf hub tellers.items (rest_of e)
         × MayClose (rest_of e)) }
 {

@@ -10,7 +10,7 @@ use Rattle.inst_participant.proofs.OneBookSettlesOthersStay.{if_ok}
 use Rattle.inst_participant.specs.Wider.{widened}
 use Rattle.inst_close.specs.Closing.{IsNextOf, AreNextTellers}
 use Rattle.inst_close.specs.NextOpening.{MayOpenWider}
-use Rattle.inst_close.proofs.NextHubFromCopies.{if_both, both, widened_as, can_open_as, next_is, next_tellers, seats_if_ok}
+use Rattle.inst_close.proofs.NextHubFromCopies.{if_both, widened_as, can_open_as, next_is, next_tellers, seats_if_ok}
 use Rattle.inst_close.proofs.books.Books.open_wider.Goals as goal
 use Rattle.inst_close.proofs.books.Books.open_wider.Goals.{After-deref-2}
 
@@ -33,13 +33,8 @@ copied c p = ap (λ (l : List History). books_of l p) c.deref-2.ensures.value �
 pub returns-clause-tellers : goal.returns-clause-tellers
 returns-clause-tellers c =
     let here = (goal.at.returns-clause-tellers c).After-deref-2 in
-    if_both c.open_from.result _ _ (λ r. (length r.1.items ≡ c.args.tellers) × AreNextTellers c.args.self.now.books r.0 r.1.items)
-    (λ r enough rest. (enough, rest))
-    c.open_from.ensures.enough
-    (if_both c.open_from.result _ _ (λ r. AreNextTellers c.args.self.now.books r.0 r.1.items)
-    (λ r settings_are rest. next_tellers c.args.self.now.books c.deref-2.result.now c.in_ok-settings.settings r.0 r.1.items (copied here) settings_are rest.0 rest.1.0 rest.1.1)
-    c.open_from.ensures.settings
-    (both c.open_from.result _ _ c.open_from.ensures.of (both c.open_from.result _ _ c.open_from.ensures.parts c.open_from.ensures.new)))
+    if_ok c.open_from.result _ (λ r. (length r.1.items ≡ c.args.tellers) × AreNextTellers c.args.self.now.books r.0 r.1.items)
+    (λ r first. (first.enough, next_tellers c.args.self.now.books c.deref-2.result.now r.0 c.args.tellers r.1.items (copied here) first)) c.open_from.ensures.tellers
 
 pub returns-clause-opened : goal.returns-clause-opened
 returns-clause-opened c =

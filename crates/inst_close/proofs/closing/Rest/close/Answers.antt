@@ -12,7 +12,7 @@ pub returns-in-Whole-clause-books : goal.returns-in-Whole-clause-books
 returns-in-Whole-clause-books c =
     if_ok c.close.result _ (λ books. (h : Hub) (tellers : List Teller) → IsLeftOf h tellers c.args.self → IsClosedFrom h tellers books)
     (λ books closed h tellers left. closed h tellers (subst (λ (x : Rest). IsLeftOf h tellers x) c.in-Whole.is left))
-    (books_of_whole c.in-Whole.hub c.in-Whole.tellers.items c.close.result c.close.ensures.settings c.close.ensures.opened c.close.ensures.goes_on c.close.ensures.only_told c.close.ensures.told)
+    (books_of_whole c.in-Whole.hub c.in-Whole.tellers.items c.close.result c.close.ensures.books)
 
 pub returns-in-Apart-clause-books : goal.returns-in-Apart-clause-books
 returns-in-Apart-clause-books c =
