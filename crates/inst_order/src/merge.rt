@@ -12,8 +12,8 @@ ghost use Rattle.inst_settings.specs.declared.ranges.TheConstants.{MOST_PARTICIP
 
 use crate::asking::{answer, ask_first, ask_last, submit};
 use crate::progress::Progress;
-use inst_base::{Ident, mention};
-use inst_command::{Ask, Command, Outcome, Step, Submission};
+use inst_base::Ident;
+use inst_command::{Command, Outcome, Step, Submission};
 use inst_journal::{Event, Journal};
 use inst_settings::MOST_PARTICIPANTS;
 use std::alloc::{AllocError, Global};
@@ -103,14 +103,12 @@ impl Merge {
         Ok(())
     }
 
-    /// Finds the steps of the participant's next events, up to one that waits, and returns those
-    /// that are left.
+    /// Goes over the participant's next events, up to one that waits, and returns those that are
+    /// left.
     fn advance<'a>(&mut self, who: u8, events: &'a [Event]) -> Result<&'a [Event], AllocError> {
-        mention::<(Ask, Command)>();
         for (index, event) in events.iter().enumerate() {
-            match self.step_of(who, event)? {
-                Some(step) => self.steps.push(step)?,
-                None => return Ok(&events[index..]),
+            if !self.go_over(who, event)? {
+                return Ok(&events[index..]);
             }
         }
         Ok(&[])
@@ -129,9 +127,9 @@ impl Merge {
         Ok(())
     }
 
-    /// Returns the step that keeps this event, or `None` if the event waits for another.
-    fn step_of(&mut self, who: u8, event: &Event) -> Result<Option<Step>, AllocError> {
-        Ok(match *event {
+    /// Finds the step that keeps this event: `false` if the event waits for another.
+    fn go_over(&mut self, who: u8, event: &Event) -> Result<bool, AllocError> {
+        let step = match *event {
             Event::Funded(funding) => Some(ask_first(who, Command::Fund(funding))),
             Event::Defunded(funding) => Some(ask_first(who, Command::Defund(funding))),
             Event::Taken {
@@ -156,7 +154,12 @@ impl Merge {
             Event::Booked { from, id, outcome } => self.answer(who, from, id, outcome)?,
             Event::Fetched { count } => Some(ask_first(who, Command::Fetch { max: count })),
             Event::Opened => None,
-        })
+        };
+        let Some(step) = step else {
+            return Ok(false);
+        };
+        self.steps.push(step)?;
+        Ok(true)
     }
 
     /// Gives the transfer the originator's next place, unless it was settled before the opening.
@@ -225,7 +228,6 @@ pub(crate) fn find_steps(
 ) -> Result<Option<Vec<Step>>, AllocError>
     requires { length journals.now ≤ MOST_PARTICIPANTS }
 {
-    mention::<(Ask, Command)>();
     let mut merge = Merge::new(alloc);
     let mut left = add_all(alloc, &mut merge, journals)?;
     // Each event wakes one participant at most.

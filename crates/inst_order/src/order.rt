@@ -7,8 +7,7 @@ ghost use Rattle.inst_world.specs.NextOpening.{opening_from, CanOpenFrom, AreJou
 ghost use Rattle.inst_order.specs.Order.{ExplainsJournals};
 
 use crate::merge::find_steps;
-use inst_base::mention;
-use inst_command::{Outcome, Step};
+use inst_command::Step;
 use inst_journal::Journal;
 use inst_settings::Settings;
 use inst_world::World;
@@ -45,7 +44,6 @@ fn fitting_steps(
 fn are_equal(one: &Journal, other: &Journal) -> bool
     ensures { IsTrue result ↔ (one.now.events ≡ other.now.events) }
 {
-    mention::<Outcome>();
     one.events() == other.events()
 }
 
