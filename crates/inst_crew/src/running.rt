@@ -7,9 +7,9 @@ use crate::crew::Crew;
 use crate::gathering::gather;
 use crate::meeting::Meeting;
 use crate::shift::{Shift, work};
-use crate::sweep::{Sweep, sweep_if};
+use crate::sweep::sweep_if;
 use crate::team::Team;
-use crate::worker::{Worker, workers};
+use crate::worker::{Roster, Worker, workers};
 use crate::workplace::Workplace;
 use inst_hub::{Gate, Teller};
 use std::alloc::{AllocError, Global};
@@ -44,30 +44,36 @@ fn start<R: Threads + Wait + Sync, G: Gate + Sync>(
     rt: &R,
     alloc: Global,
     place: &Workplace<G>,
-    workers: Vec<Worker>,
-    sweep: Option<Sweep>,
+    meeting: &Meeting,
+    roster: Roster,
 ) -> (
     Result<Vec<Result<Shift, AllocError>>, AllocError>,
     Result<Option<Teller>, AllocError>,
 )
-    requires ready { AreReady place.now.hub.now place.now.desk.now workers.items }
-    requires sweep { IfSome sweep (MaySweep place.now.hub.now) }
+    requires ready { AreReady place.now.hub.now place.now.desk.now roster.workers.items }
+    requires sweep { IfSome roster.sweep (MaySweep place.now.hub.now) }
     ensures worked { IfOk result.0 (λ all.
-        AllWork place.now.hub.now place.now.desk.now workers.items all.items) }
-    ensures swept { IfOk result.1 (IsSwept place.now.hub.now sweep) }
+        AllWork place.now.hub.now place.now.desk.now roster.workers.items all.items) }
+    ensures swept { IfOk result.1 (IsSwept place.now.hub.now roster.sweep) }
 {
-    let meeting = &Meeting::new(&sweep);
+    let Roster { workers, sweep } = roster;
+    let hub = place.hub;
+    let desk = place.desk;
+    let gate = place.gate;
     thread::join(
         rt,
         move || -> Result<Vec<Result<Shift, AllocError>>, AllocError>
-            requires { AreReady place.now.hub.now place.now.desk.now workers.items }
+            requires { AreReady hub.now desk.now workers.items }
             ensures all { IfOk result (λ all.
-                AllWork place.entry.now.hub.now place.entry.now.desk.now workers.items all.items) }
-        { work_all(rt, alloc, place, meeting, workers) },
+                AllWork hub.entry.now desk.entry.now workers.items all.items) }
+        {
+            let place = Workplace { hub, desk, gate };
+            work_all(rt, alloc, &place, meeting, workers)
+        },
         move || -> Result<Option<Teller>, AllocError>
-            requires { IfSome sweep (MaySweep place.now.hub.now) }
-            ensures { IfOk result (IsSwept place.entry.now.hub.now sweep) }
-        { sweep_if(rt, place.hub, meeting, sweep) },
+            requires { IfSome sweep (MaySweep hub.now) }
+            ensures { IfOk result (IsSwept hub.entry.now sweep) }
+        { sweep_if(rt, hub, meeting, sweep) },
     )
 }
 
@@ -102,9 +108,15 @@ pub fn run_crew<R: Threads + Wait + Sync, G: Gate + Sync>(
     ensures worked { IfOk result (HasWorked place.now.hub.now place.now.desk.now team) }
     ensures back { IfOk result (AreBack place.now.hub.now place.now.desk.now team) }
 {
-    let Team { hands, tellers, sweep } = team;
+    let Team {
+        hands,
+        tellers,
+        sweep,
+    } = team;
     let workers = workers(alloc, hands, tellers)?;
-    let (worked, swept) = start(rt, alloc, place, workers, sweep);
+    let meeting = Meeting::new(&sweep);
+    let roster = Roster { workers, sweep };
+    let (worked, swept) = start(rt, alloc, place, &meeting, roster);
     let results = worked?;
     let crew = gather(alloc, results)?;
     let sweeper = swept?;

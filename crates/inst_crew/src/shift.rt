@@ -6,6 +6,7 @@ ghost use Rattle.inst_board.specs.declared.about.About.TheVariants.{Opened};
 ghost use Rattle.inst_board.specs.Standing.{about};
 ghost use Rattle.inst_command.specs.declared.outcome.State.{State as SomeState};
 ghost use Rattle.inst_desk.specs.Desk.{IsHandOf, WasEmpty};
+ghost use Rattle.inst_hub.specs.declared.hub.Hub.{Hub};
 ghost use Rattle.inst_hub.specs.Calls.{IsTellerOf, TellerKnowsMore, knows_of};
 ghost use Rattle.inst_crew.specs.declared.worker.Worker.{Worker};
 ghost use Rattle.inst_crew.specs.inner.Seen.{AreSeen};
@@ -82,9 +83,7 @@ impl Shift {
         ensures seen { OnOk result (AreSeen self.new.teller self.new.states.items) }
         ensures served { OnOk result (ServesOne place.now.hub.now ask.now self.old self.new) }
     {
-        let (_, ticket) = place
-            .hub
-            .call_with(rt, &mut self.teller, ask, place.gate)?;
+        let (_, ticket) = place.hub.call_with(rt, &mut self.teller, ask, place.gate)?;
         self.answered = self.answered.saturating_add(1);
         match ticket {
             Some(ticket) => self.note(ticket),

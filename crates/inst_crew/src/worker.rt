@@ -2,6 +2,7 @@
 ghost use Rattle.std.specs.Prelude.{◌≡◌, length, IfOk};
 ghost use Rattle.inst_crew.specs.inner.Workers.{hands_of, workers_tellers};
 
+use crate::sweep::Sweep;
 use inst_desk::Hand;
 use inst_hub::Teller;
 use std::alloc::{AllocError, Global};
@@ -11,6 +12,14 @@ use std::alloc::{AllocError, Global};
 pub(crate) struct Worker {
     pub(crate) hand: Hand,
     pub(crate) teller: Teller,
+}
+
+/// Who works in which thread of a crew.
+#[derive(Drop)]
+pub(crate) struct Roster {
+    /// One for each hand.
+    pub(crate) workers: Vec<Worker>,
+    pub(crate) sweep: Option<Sweep>,
 }
 
 /// A worker for each hand, with the teller at its place.

@@ -6,7 +6,6 @@ ghost use Rattle.inst_journal.specs.Opened.{is_opening};
 ghost use Rattle.inst_drill.specs.Report.{books_end, ended, is_same_end};
 ghost use Rattle.inst_drill.specs.inner.Report.{Contradicts, NoneContradicts, counted_after};
 
-use inst_base::mention;
 use inst_close::Books;
 use inst_command::{Outcome, State};
 use inst_hub::Ticket;
@@ -75,7 +74,6 @@ fn contradicts(books: &Books, ticket: &Ticket, seen: State) -> bool
     ensures yes { result ≡ true → Contradicts (histories books.now.books) (ticket.now, seen) }
     ensures no { result ≡ false → ¬ Contradicts (histories books.now.books) (ticket.now, seen) }
 {
-    mention::<Outcome>();
     match seen {
         State::Decided(outcome) => books.told(ticket) != State::Decided(outcome),
         _ => false,

@@ -1,19 +1,17 @@
-use Rattle.std.proofs.Common.{sym, subst, List, ◌∙◌}
-use Rattle.std.proofs.lemmas.List.{length-append}
+use Rattle.std.proofs.Common.{sym, subst, List}
 use Rattle.std.specs.Prelude.{IfOk, Option}
 use Rattle.inst_desk.specs.declared.hand.Hand.{Hand}
 use Rattle.inst_desk.specs.Desk.{AreHandsOf}
 use Rattle.inst_hub.specs.declared.teller.Teller.{Teller}
 use Rattle.inst_hub.specs.Calls.{AreOf}
-use Rattle.inst_crew.specs.Crew.{IsSwept, HasWorked}
+use Rattle.inst_crew.specs.Crew.{IsSwept}
 use Rattle.inst_crew.specs.inner.Workers.{AllWork}
 use Rattle.inst_crew.proofs.PairsOfWorkersAndShifts.{all_ready}
 use Rattle.inst_crew.proofs.WorkOfCrew.{worked_together, are_back}
-use Rattle.inst_crew.proofs.running.run_crew.Given.{Over}
 use Rattle.inst_crew.proofs.running.run_crew.Goals as goal
 
 pub start-worked-requires-clause-ready : goal.start-worked-requires-clause-ready
-start-worked-requires-clause-ready g c =
+start-worked-requires-clause-ready g c κs within =
     let hands = subst (λ (l : List Hand). AreHandsOf c.args.place.now.desk.now l) (sym c.in_ok-workers.ensures.hands) c.requires.hands in
     let tellers = subst (λ (l : List Teller). AreOf c.args.place.now.hub.now l) (sym c.in_ok-workers.ensures.tellers) c.requires.tellers in
     all_ready _ _ _ hands tellers

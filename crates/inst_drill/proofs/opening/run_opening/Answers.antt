@@ -13,14 +13,14 @@ use Rattle.inst_drill.proofs.opening.run_opening.Goals as goal
 
 pub returns-clause-drilled : goal.returns-clause-drilled
 returns-clause-drilled g c =
-    let told = c.in-Ok.ensures.told in
+    let told = c.in-Ok.ensures.books.told in
     let first = c.contradicted.ensures (subst (λ (l : List (Place × State)). NoneContradicts (histories c.in-Ok.books.books) l) (sym c.deref.ensures.value) (none_contradicts _ _ _ told c.in_ok-tellers.ensures.submitted)) in
     let then = c.contradicted-2.ensures (subst (λ (l : List (Place × State)). NoneContradicts (histories c.in-Ok.books.books) l) (sym c.deref-2.ensures.value) (none_contradicts _ _ _ told c.in_ok-tellers.ensures.confirmed)) in
     let opening = opening_of c.args.before.now in
-    let same : c.in-Ok.books.settings ≡ c.args.settings.now = c.in-Ok.ensures.settings ∙ c.in_ok-hub.ensures.settings in
+    let same : c.in-Ok.books.settings ≡ c.args.settings.now = c.in-Ok.ensures.books.settings ∙ c.in_ok-hub.ensures.settings in
     record {
       settings = same;
-      opened = c.in-Ok.ensures.opened opening c.in_ok-hub.ensures.opened;
+      opened = c.in-Ok.ensures.books.opened opening c.in_ok-hub.ensures.opened;
       explained =
           subst (λ (s : HubSettings). ExplainsBooks s opening c.in-Some.steps.items (histories c.in-Ok.books.books)) same
           (rw c.in-Some.is at c.in_ok-steps.ensures);
