@@ -98,7 +98,7 @@ pub fn drill<R: Threads + Wait + Sync, G: Gate + Sync, W: Write, P: Write>(
             let _ = writeln!(progress, "opening {opening} of {openings}");
         }
         let round = Round {
-            plan,
+            plan: &plan,
             opening,
             gate: request.gate,
         };

@@ -17,13 +17,13 @@ pub(crate) enum Phase {
 
 /// The asks of a phase of an opening, the first of which is 1.
 #[derive(Clone, Copy)]
-pub(crate) struct Asks {
-    pub(crate) plan: Plan,
+pub(crate) struct Asks<'a> {
+    pub(crate) plan: &'a Plan,
     pub(crate) opening: u8,
     pub(crate) phase: Phase,
 }
 
-impl Asks {
+impl<'a> Asks<'a> {
     /// The ask about the transfer of this number.
     fn ask(&self, alloc: Global, number: u32) -> Result<Ask, AllocError> {
         match self.phase {

@@ -75,7 +75,7 @@ fn work<R: Threads + Wait + Sync, G: Gate + Sync>(
 ) -> Result<Worked, Fault>
     requires tellers { AreOf hub.now tellers.items × (length tellers.items ≡ 3) }
     requires parts { HaveAllParts tellers.items }
-    requires plan { IsPlan hub.now.settings round.now.plan }
+    requires plan { IsPlan hub.now.settings round.now.plan.now }
     ensures of { IfOk result (λ worked. AreOf hub.now worked.tellers.items) }
     ensures parts { IfOk result (λ worked. HaveAllParts worked.tellers.items) }
     ensures submitted { IfOk result (λ worked.
@@ -95,7 +95,7 @@ fn work<R: Threads + Wait + Sync, G: Gate + Sync>(
     let submitted = staff.submit(rt, alloc, &place, round)?;
     let confirmed = submitted.staff.confirm(rt, alloc, &place, round)?;
     let mut staff = confirmed.staff;
-    staff.sweep(rt, hub, &round.plan)?;
+    staff.sweep(rt, hub, round.plan)?;
     let (hands, tellers) = staff.dismiss()?;
     Ok(Worked {
         tellers,
@@ -121,7 +121,7 @@ pub(crate) fn run_opening<R: Threads + Wait + Sync, G: Gate + Sync>(
     round: &Round<G>,
 ) -> Result<(Report, DrillResult), DrillError>
     requires before { (n : ℕ) × (n ≤ MOST_DRILL_OPENINGS) × AreAfter settings.now n before.now }
-    requires plan { IsPlan settings.now round.now.plan }
+    requires plan { IsPlan settings.now round.now.plan.now }
     ensures drilled { IfOk result (λ r.
         IsDrilled settings.now
         (drill_opening (opening_of before.now) r.1.books r.1.steps.items r.0)) }

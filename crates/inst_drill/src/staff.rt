@@ -79,7 +79,7 @@ impl Staff {
         round: &Round<G>,
     ) -> Result<(), AllocError>
         requires staff { (desk : Desk) × IsStaffOf hub.now desk self.old }
-        requires plan { IsPlan hub.now.settings round.now.plan }
+        requires plan { IsPlan hub.now.settings round.now.plan.now }
         ensures staff { (desk : Desk) → IsStaffOf hub.now desk self.old →
             IsStaffOf hub.now desk self.new }
     {
@@ -138,7 +138,7 @@ impl Staff {
         round: &Round<G>,
     ) -> Result<Work, AllocError>
         requires staff { IsStaffOf place.now.hub.now place.now.desk.now self }
-        requires plan { IsPlan place.now.hub.now.settings round.now.plan }
+        requires plan { IsPlan place.now.hub.now.settings round.now.plan.now }
         ensures staff { IfOk result (λ work.
             IsStaffOf place.now.hub.now place.now.desk.now work.staff) }
         ensures later { IfOk result (λ work.

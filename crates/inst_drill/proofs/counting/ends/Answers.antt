@@ -1,4 +1,4 @@
-use Rattle.std.proofs.Common.{List, ◌++◌, ◌∷◌, [], ◌∙◌, take, ap, sym}
+use Rattle.std.proofs.Common.{◌++◌, ◌∷◌, [], ◌∙◌, take, ap, sym}
 use Rattle.std.proofs.lemmas.List.{take_more}
 use Rattle.inst_journal.specs.declared.event.Event.{Event}
 use Rattle.inst_drill.proofs.TransferEnds.{one_more_counted}

@@ -1,4 +1,4 @@
-use Rattle.std.proofs.Common.{◌≡◌, ◌≤◌, ◌+◌, ℕ, arith}
+use Rattle.std.proofs.Common.{◌≤◌, arith}
 use Rattle.inst_drill.specs.Drilled.{IsDrilled, drill_opening}
 use Rattle.inst_drill.specs.inner.Chain.{opening_of}
 use Rattle.inst_drill.proofs.CountOfOpenings.{after_next}
@@ -9,7 +9,7 @@ pub loop-done-init : goal.loop-done-init
 loop-done-init g c = none_drilled c.args.request.now.settings _ _
 
 pub run_opening-requires-clause-before : goal.run_opening-requires-clause-before
-run_opening-requires-clause-before g c =
+run_opening-requires-clause-before g c κs within =
     let few : c.loop-done.done ≤ 10 = (let below = c.loop-done-test.true in let most = c.in_ok-plan.ensures.may.most_openings in omega (arith, below, most)) in
     (c.loop-done.done, few, c.loop-done.invariant.after)
 
