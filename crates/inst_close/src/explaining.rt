@@ -44,7 +44,8 @@ impl Books {
     ) -> Result<Option<Vec<Step>>, AllocError>
         ensures headline { IfOk result (λ found.
             IfSome found (λ steps.
-            ExplainsBooks self.now.settings (Opening.FromBooks (histories before.now.books)) steps.items
+            ExplainsBooks self.now.settings
+            (Opening.FromBooks (histories before.now.books)) steps.items
             (histories self.now.books))) }
     {
         let joined = self.slots.len().saturating_sub(before.slots.len());

@@ -1,5 +1,6 @@
 -- What contracts see of a desk and of its hands. Desks are this hub's own choice.
-use Rattle.std.specs.Prelude.{◌≡◌, ℕ, ◌<◌, ◌≤◌, List, [], ◌∷◌, ◌++◌, length, sum_by, slice_get, Some}
+use Rattle.std.specs.Prelude.{◌≡◌, ℕ, ◌<◌, ◌≤◌, List, [], ◌∷◌, ◌++◌, length, sum_by, slice_get}
+use Rattle.std.specs.Prelude.{Some}
 use Rattle.crossbeam_queue.specs.Passes.{view, IsPassOf, ruled_capacity}
 use Rattle.inst_desk.specs.declared.account.Account.{Account}
 use Rattle.inst_desk.specs.declared.desk.Desk.{Desk}

@@ -35,7 +35,8 @@ ended outcome J = count_by (books_end outcome) (current J)
 -- accepted and so many timed out
 pub record IsReportOf (closed : ClosedHub) (report : Report) : Type 0 where
   pub disagree : report.disagree ≡ 0
-  pub sum : report.sum ≡ sum_over_participants closed.settings (λ p. position (histories closed.books p))
+  pub sum : report.sum
+      ≡ sum_over_participants closed.settings (λ p. position (histories closed.books p))
   pub net : pos report.net ≡ signed_total closed.settings (λ p. net (histories closed.books p))
   pub balanced : report.sum ≡ report.net
   pub accepted : report.accepted ≡ ended Accepted (histories closed.books 0)

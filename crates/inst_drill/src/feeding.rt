@@ -42,7 +42,8 @@ pub(crate) fn feed<R: Wait>(
     asks: &Asks,
 ) -> Result<(), AllocError>
     requires { IsHandOf desk.now hand.old }
-    ensures { OnOk result (IsHandOf desk.now hand.new × (hand_parts hand.new ≡ hand_parts hand.old)) }
+    ensures { OnOk result
+        (IsHandOf desk.now hand.new × (hand_parts hand.new ≡ hand_parts hand.old)) }
 {
     let transfers = u32::from(asks.plan.transfers);
     let before = u32::from(asks.opening.saturating_sub(1)) * transfers;

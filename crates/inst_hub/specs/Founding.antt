@@ -30,4 +30,5 @@ pub record IsSince (key : InitialState) (p : ℕ) (x : Participant) : Type 0 whe
 
 -- the hub opened so: each history began as this opening says
 abbrev pub HasOpenedHub : Opening → Hub → Type 0
-HasOpenedHub O h = (p : ℕ) → p < participants h.settings → outset_of (key_of h.row) p ≡ beginning O p
+HasOpenedHub O h = (p : ℕ) → p < participants h.settings →
+    outset_of (key_of h.row) p ≡ beginning O p

@@ -59,5 +59,6 @@ pub record AreFirstTellers (hub : Hub) (tellers : ℕ) (J : ℕ → List Event) 
     : Type 0 where
   pub enough : length all ≡ tellers
   pub of : AreOf hub all
-  pub new : AreNew (row_id hub.row) (key_of hub.row) (first_fronts (participants hub.settings) J) all
+  pub new : AreNew (row_id hub.row) (key_of hub.row)
+      (first_fronts (participants hub.settings) J) all
   pub parts : HaveAllParts all

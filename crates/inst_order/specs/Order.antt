@@ -17,7 +17,8 @@ use Rattle.inst_world.specs.NextOpening.{books_of}
 -- the headline is kept by a run of these steps from this opening whose journals are the books; by
 -- `is_run` each step fits, and the books are the model's histories, event by event
 abbrev pub ExplainsBooks : HubSettings → Opening → List Step → (ℕ → List Event) → Type 0
-ExplainsBooks s O steps books = KeepsTheHeadline s (run_of O steps books (trace s O (reverse steps)))
+ExplainsBooks s O steps books = KeepsTheHeadline s
+    (run_of O steps books (trace s O (reverse steps)))
 
 -- the same of journals, one for each participant by number
 pub record ExplainsJournals (s : HubSettings) (O : Opening) (steps : List Step)

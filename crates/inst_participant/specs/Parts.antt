@@ -19,7 +19,8 @@ pub record AreParts {B : Type 0} (settings : B → HubSettings) (knows : B → F
 
 -- the participant's book is settled
 abbrev pub IsSettledAt : {B : Type 0} → (B → Fact → Type 0) → B → ℕ → List Book → Type 0
-IsSettledAt knows b p books = (book : Book) → slice_get books p ≡ Some book → HasSettledAll knows b book
+IsSettledAt knows b p books = (book : Book) → slice_get books p ≡ Some book →
+    HasSettledAll knows b book
 
 -- From the books over the board b to the others over the board c
 -- parts: they are the books of the same hub

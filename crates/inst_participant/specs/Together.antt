@@ -52,7 +52,8 @@ pub record AreTogether {B : Type 0} (settings : B → HubSettings) (knows : B �
 -- own: a live transfer of its own is booked, where its outcome is known
 -- arrived: so is one that came to it
 -- come: a transfer for it has come, or its outcome is known
-pub record HasSettledAll {B : Type 0} (knows : B → Fact → Type 0) (b : B) (book : Book) : Type 0 where
+pub record HasSettledAll {B : Type 0} (knows : B → Fact → Type 0) (b : B)
+    (book : Book) : Type 0 where
   pub own : (index : ℕ) (id : List ℕ) (to cents stamp : ℕ) (o : Outcome) →
       slice_get (live_taken book.who book.events) index ≡ Some (Taken id to cents stamp) →
       knows b (about (place_at book.who index) (Decided o)) →

@@ -16,4 +16,5 @@ IsToldMore J K = (K ≡ J) ⊎ ((e : Event) × TellsOfTransfer e × (K ≡ J ++ 
 
 -- the history has more events, each of which says that a transfer came, or how one ended
 abbrev pub IsToldAll : List Event → List Event → Type 0
-IsToldAll J K = (more : List Event) × (K ≡ J ++ more) × ((e : Event) → Contains more e → TellsOfTransfer e)
+IsToldAll J K = (more : List Event) × (K ≡ J ++ more)
+    × ((e : Event) → Contains more e → TellsOfTransfer e)

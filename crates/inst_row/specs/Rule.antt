@@ -53,6 +53,8 @@ pub record Guarded {T E K : Type 0} (law : K → ℕ → T → Type 0) (history 
       Contains v.held f →
       f.history ≡ latest f.lock
   pub dealt : parts s.views ≡ MOST_SEATS
-  pub holder : (id : ℕ) (v : RowView E K) → get_elem? s.views id ≡ some v → v.parts ≡ 0 → v.held ≡ []
-  pub named : (id : ℕ) (v : RowView E K) → get_elem? s.views id ≡ some v → (k : K) → v.about ≡ Some k →
+  pub holder : (id : ℕ) (v : RowView E K) → get_elem? s.views id ≡ some v → v.parts ≡ 0 →
+      v.held ≡ []
+  pub named : (id : ℕ) (v : RowView E K) → get_elem? s.views id ≡ some v → (k : K) →
+      v.about ≡ Some k →
       k ≡ key

@@ -6,4 +6,5 @@ use Rattle.inst_hub.specs.declared.teller.Teller.{Teller}
 use Rattle.inst_crew.specs.Seen.{IsOutcomeSeen}
 
 abbrev pub AreSeen : Teller → List (Place × State) → Type 0
-AreSeen t states = (i : ℕ) (pair : Place × State) → slice_get states i ≡ Some pair → IsOutcomeSeen t pair
+AreSeen t states = (i : ℕ) (pair : Place × State) → slice_get states i ≡ Some pair →
+    IsOutcomeSeen t pair

@@ -15,7 +15,8 @@ pub record IsCarriedBook (s : HubSettings) (books : ℕ →
   pub events_are : book.events ≡ books p ++ Opened ∷ []
 
 -- those of all participants, by number
-pub record AreCarriedSlots (s : HubSettings) (books : ℕ → List Event) (slots : List Book) : Type 0 where
+pub record AreCarriedSlots (s : HubSettings) (books : ℕ → List Event)
+    (slots : List Book) : Type 0 where
   pub enough : length slots ≡ participants s
   pub each : (p : ℕ) (book : Book) → slice_get slots p ≡ Some book → IsCarriedBook s books p book
 

@@ -35,7 +35,8 @@ fn open_places(slots: &[Slot], whole: &mut SharedBoard)
     requires carried { (books : ℕ → List Event)
         × AreCarriedSlots (settings_of whole.old) books slots.now }
     ensures stays { Stays whole.old whole.new }
-    ensures known { (books : ℕ → List Event) → AreCarriedSlots (settings_of whole.old) books slots.now →
+    ensures known { (books : ℕ → List Event) →
+        AreCarriedSlots (settings_of whole.old) books slots.now →
         (f : Fact) → knows whole.new f ↔
         IsOpenedBelow (settings_of whole.old) books (participants (settings_of whole.old)) f }
 {
