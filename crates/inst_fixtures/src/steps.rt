@@ -17,7 +17,7 @@ pub fn ask(who: u8, command: Command, at: u64) -> Result<Step, Fault>
 
 /// The step in which it funds so many cents under this reference; refused as its parts are.
 pub fn fund(who: u8, reference: &str, cents: u64, at: u64) -> Result<Step, Fault>
-    ensures { IfOk result (λ step. step ≡ rows.fund who reference.now cents at) }
+    ensures { IfOk result (λ step. step ≡ rows.fund_step who reference.now cents at) }
 {
     let reference = Ident::new(reference)?;
     let cents = Cents::new(cents)?;
@@ -26,7 +26,7 @@ pub fn fund(who: u8, reference: &str, cents: u64, at: u64) -> Result<Step, Fault
 
 /// The step in which it submits a transfer to the participant `to`; refused as its parts are.
 pub fn submit(who: u8, id: &str, to: u8, cents: u64, stamp: u64, at: u64) -> Result<Step, Fault>
-    ensures { IfOk result (λ step. step ≡ rows.submit who id.now to cents stamp at) }
+    ensures { IfOk result (λ step. step ≡ rows.submit_step who id.now to cents stamp at) }
 {
     let id = Ident::new(id)?;
     let cents = Cents::new(cents)?;
@@ -42,7 +42,7 @@ pub fn submit(who: u8, id: &str, to: u8, cents: u64, stamp: u64, at: u64) -> Res
 
 /// The step in which it confirms a transfer of the participant `from`; refused as its parts are.
 pub fn confirm(who: u8, from: u8, id: &str, at: u64) -> Result<Step, Fault>
-    ensures { IfOk result (λ step. step ≡ rows.confirm who from id.now at) }
+    ensures { IfOk result (λ step. step ≡ rows.confirm_step who from id.now at) }
 {
     let id = Ident::new(id)?;
     ask(who, Command::Confirm { from, id }, at)
