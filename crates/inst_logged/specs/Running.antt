@@ -104,7 +104,7 @@ pub record StopsBy {D : Type 0} (disks : Ghosts D) (told : Option ℕ) (wanted :
       ⊎ HasSameFile disks (disk_of old) (disk_of new)) error
 
 -- It took the log, which has the lines that it had, and has answered these again.
-pub record OpensAgain {D : Type 0} (disks : Ghosts D) (wanted : Option Digest)
+pub record OpensLogAgain {D : Type 0} (disks : Ghosts D) (wanted : Option Digest)
     (old new : LoggedHub D) : Type 0 where
   pub taken : Takes disks old None wanted
   pub state : (past : HubPast) → HasGone old past

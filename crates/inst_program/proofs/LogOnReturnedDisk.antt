@@ -27,7 +27,7 @@ use Rattle.inst_logged.specs.Marking.{IsIntact}
 use Rattle.inst_logged.specs.Logged.{HasBegun, HasLogged, SurvivesACrash}
 use Rattle.inst_logged.specs.Refused.{IsCause, IsRefused, IsLogTaken}
 use Rattle.inst_log.specs.Disks.{HasKeptFaith, HasSameFile}
-use Rattle.inst_logged.specs.Running.{disk_of, file_of, HasGone, HasNoRoom, SurvivesEachCrash, OpensAgain, RunsThrough, StaysAlike, StopsBy}
+use Rattle.inst_logged.specs.Running.{disk_of, file_of, HasGone, HasNoRoom, SurvivesEachCrash, OpensLogAgain, RunsThrough, StaysAlike, StopsBy}
 use Rattle.inst_logged.specs.Streams.{Streams}
 use Rattle.inst_program.specs.Files.{Change, IsAsItWas, MayBe, change_on}
 use Rattle.inst_program.specs.Keeping.{AnswersAFront, AsksFor, CarriesBooks, HasNoOpeningLeft, IsAtMost, IsBeginning, IsBegun, IsLogOfAHub, IsSafe, IsSpared, IsSparedLog, IsTakenFor, IsUntaken, KeepsLines, KeptRun}
@@ -250,7 +250,7 @@ module _ {D : Type 0} (disks : Ghosts D) (mode : Mode) (s : HubSettings) (hub af
   }
 
   -- a log of version 2 was opened with its first lines
-  pub begun_on : hub.version ≡ Two → OpensAgain disks None hub after → IsBegun hub.header.items (change_on disks disk disk')
+  pub begun_on : hub.version ≡ Two → OpensLogAgain disks None hub after → IsBegun hub.header.items (change_on disks disk disk')
   begun_on two opens =
       let taken = subst (λ (v : Version). IsLogTaken v hub.header.items None None (file_of disks hub)) two opens.taken in
       let intact = subst (λ (v : Version). IsIntact v (file_of disks after)) two opens.intact in

@@ -5,7 +5,7 @@ ghost use Rattle.inst_world.specs.HasRun.{world_settings};
 ghost use Rattle.inst_world.specs.NextOpening.{CanOpenFrom};
 ghost use Rattle.inst_logged.specs.Closing.{ClosesWith};
 ghost use Rattle.inst_log.specs.Disks.{HasKeptFaith};
-ghost use Rattle.inst_logged.specs.Running.{disk_of, StopsBy, IsReadyHub, OpensAgain};
+ghost use Rattle.inst_logged.specs.Running.{disk_of, StopsBy, IsReadyHub, OpensLogAgain};
 ghost use Rattle.inst_logged.specs.Running.{StaysAlike};
 
 use super::LoggedHub;
@@ -24,7 +24,7 @@ impl<D: Disk + Drop> LoggedHub<D> {
     pub fn open(&mut self, wanted: Option<Digest>) -> Result<(), LoggedError>
         requires ready { IsReadyHub D.Disk self.old }
         ensures ok { OnOk result (HasKeptFaith D.Disk (disk_of self.new) →
-            OpensAgain D.Disk wanted self.old self.new) }
+            OpensLogAgain D.Disk wanted self.old self.new) }
         ensures any_moment { HasKeptFaith D.Disk (disk_of self.new) →
             StaysAlike D.Disk self.old self.new }
         ensures err { IfErr result (StopsBy D.Disk None wanted self.old self.new (Unit {0}) ⊥) }
