@@ -57,6 +57,7 @@ pub(crate) fn drill_hub<
     ensures err { IfErr result
         (IsUndrilled asked (option_map (λ file. file.now) script.entry)
         (console.new.writer ≡ console.old.writer) (L.files logs.old) (L.files logs.new)) }
+    ensures unread { console.new.reader ≡ console.old.reader }
     ensures all_in { AllAreIn (L.files logs.new) }
 {
     match script {
@@ -79,6 +80,7 @@ fn run_drill<
         (HasDrilledAll asked.settings asked.openings (W.contents console.old.writer)
         (W.contents console.new.writer)) }
     ensures err { IfErr result (IsDrillStopped asked (console.new.writer ≡ console.old.writer)) }
+    ensures unread { console.new.reader ≡ console.old.reader }
 {
     let DrillTask {
         settings,
@@ -124,6 +126,7 @@ fn drill_to_file<
         (L.files logs.new)) }
     ensures err { IfErr result (IsUndrilled asked (Some path.now)
         (console.new.writer ≡ console.old.writer) (L.files logs.old) (L.files logs.new)) }
+    ensures unread { console.new.reader ≡ console.old.reader }
     ensures all_in { AllAreIn (L.files logs.new) }
 {
     let disk = logs.open(path)?;
@@ -146,10 +149,11 @@ fn drill_to<
     console: &mut Console<R, W, E>,
 ) -> (Result<(), ExitReason>, D)
     requires usable { IsTrue (D.Disk.is_usable disk) }
-    ensures { IsScripted D.Disk asked (W.contents console.old.writer)
+    ensures scripted { IsScripted D.Disk asked (W.contents console.old.writer)
         (W.contents console.new.writer)
         (console.new.writer ≡ console.old.writer)
         disk result.1 result.0 }
+    ensures unread { console.new.reader ≡ console.old.reader }
 {
     match is_empty(&mut disk) {
         Ok(true) => {}

@@ -89,9 +89,7 @@ pub(crate) fn keep<L: Logs, R: Read + Drop, W: Write + Drop, E: Write + Drop>(
     let (outcome, disk) = keep_on(alloc, task, wanted, disk, console);
     logs.close(disk);
     let mut runner = outcome?;
-    if task.sums {
-        sum_up(&mut runner, None, &mut console.errors);
-    }
+    sum_up(task, &mut runner, None, &mut console.errors);
     Ok(())
 }
 

@@ -2,15 +2,25 @@
 ghost use Rattle.std.specs.Prelude.{◌≡◌, true};
 ghost use Rattle.inst_settings.specs.Settings.{is_participant};
 
+use crate::keeping::LineTask;
 use inst_agenda::Runner;
 use inst_base::Moment;
 use inst_command::{Answer, Ask, Command, Query, Reply, Step};
 use inst_lines::Counts;
 use std::io::Write;
 
-/// Tells how many lines there were, where they were counted, and what each participant would be
-/// answered that asks for its position, in cents. What `errors` doesn't take is lost.
-pub(crate) fn sum_up<E: Write>(runner: &mut Runner, counts: Option<Counts>, errors: &mut E) {
+/// Tells, if the task wants it, how many lines there were, where they were counted, and what each
+/// participant would be answered that asks for its position, in cents. What `errors` doesn't take
+/// is lost.
+pub(crate) fn sum_up<E: Write>(
+    task: &LineTask,
+    runner: &mut Runner,
+    counts: Option<Counts>,
+    errors: &mut E,
+) {
+    if !task.sums {
+        return;
+    }
     if let Some(counts) = counts {
         let _ = writeln!(errors, "lines {} refused {}", counts.lines, counts.refused);
     }

@@ -295,9 +295,12 @@ fn answer_unkept<R: Read + Drop, W: Write + Drop, E: Write + Drop>(
         &mut console.reader,
         &mut console.writer,
     )?;
-    if task.sums {
-        sum_up(&mut served.runner, Some(served.counts), &mut console.errors);
-    }
+    sum_up(
+        task,
+        &mut served.runner,
+        Some(served.counts),
+        &mut console.errors,
+    );
     Ok(())
 }
 

@@ -8,8 +8,8 @@ use Rattle.inst_program.proofs.carrying.close_on.Goals as goal
 
 pub close_hub-requires-clause-read : goal.close_hub-requires-clause-read
 close_hub-requires-clause-read g c clean =
-    subst (IsReadAsLog c.in-Ok-Some.field-0-0.mode c.in-Ok-Some.field-0-0.settings) (sym c.beginning_of.ensures.read.left.same)
-    (is_read (g.D.Disk.seen c.args.disk) c.beginning_of.result c.in-Ok-Some.field-0-0 (c.in-Ok-Some.ensures.there clean) (c.beginning_of.ensures.found clean)
+    subst (IsReadAsLog c.in-Ok-Some.header.mode c.in-Ok-Some.header.settings) (sym c.beginning_of.ensures.read.left.same)
+    (is_read (g.D.Disk.seen c.args.disk) c.beginning_of.result c.in-Ok-Some.header (c.in-Ok-Some.ensures.there clean) (c.beginning_of.ensures.found clean)
     (c.in-Ok-Some.is ∙ ap Ok c.in-Ok-Some.field-0-is))
 
 pub returns-in-Ok-Some : goal.returns-in-Ok-Some

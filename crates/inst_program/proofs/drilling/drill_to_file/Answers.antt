@@ -14,7 +14,7 @@ returns-clause-ok g c =
     let disk = c.in_ok-disk.disk in
     let disk' = c.drill_to-outcome.result.1 in
     let v : IsVisitedAs g.L.Log.Disk old new c.args.path.now disk disk' = visited g.L.Log.Disk old _ new c.args.path.now disk disk' c.in_ok-disk.ensures.opened c.close.ensures.closed c.close.ensures.clean in
-    drills_in old new c.args.path.now g.L.Log.Disk disk disk' c.args.asked _ _ _ c.drill_to-outcome.result.0 v c.drill_to-outcome.ensures
+    drills_in old new c.args.path.now g.L.Log.Disk disk disk' c.args.asked _ _ _ c.drill_to-outcome.result.0 v c.drill_to-outcome.ensures.scripted
 
 pub returns-clause-err : goal.returns-clause-err
 returns-clause-err g c =
@@ -23,7 +23,7 @@ returns-clause-err g c =
     let disk = c.in_ok-disk.disk in
     let disk' = c.drill_to-outcome.result.1 in
     let v : IsVisitedAs g.L.Log.Disk old new c.args.path.now disk disk' = visited g.L.Log.Disk old _ new c.args.path.now disk disk' c.in_ok-disk.ensures.opened c.close.ensures.closed c.close.ensures.clean in
-    undrilled_in old new c.args.path.now g.L.Log.Disk disk disk' c.args.asked _ _ _ c.drill_to-outcome.result.0 v c.drill_to-outcome.ensures
+    undrilled_in old new c.args.path.now g.L.Log.Disk disk disk' c.args.asked _ _ _ c.drill_to-outcome.result.0 v c.drill_to-outcome.ensures.scripted
 
 pub returns-clause-all_in : goal.returns-clause-all_in
 returns-clause-all_in g c =

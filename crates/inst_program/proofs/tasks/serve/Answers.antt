@@ -29,12 +29,12 @@ returns-in-Play-clause-err g c words wished =
 pub returns-in-Drill-clause-ok : goal.returns-in-Drill-clause-ok
 returns-in-Drill-clause-ok g c words wished =
     let is = rw c.in-Drill.is at wished in
-    on_ok_weaker c.drill_hub.result (drilled words _ _ _ c.in-Drill.settings c.in-Drill.transfers c.in-Drill.openings (option_map (λ (f : Bor (List ℕ)). f.now) c.in-Drill.script) is.0 is.1 is.2 is.3 refl) c.drill_hub.ensures.ok
+    on_ok_weaker c.drill_hub.result (drilled words _ _ _ c.in-Drill.settings c.in-Drill.transfers c.in-Drill.openings (option_map (λ (f : Bor (List ℕ)). f.now) c.in-Drill.script) is.0 is.1 is.2 is.3 c.drill_hub.ensures.unread) c.drill_hub.ensures.ok
 
 pub returns-in-Drill-clause-err : goal.returns-in-Drill-clause-err
 returns-in-Drill-clause-err g c words wished =
     let is = rw c.in-Drill.is at wished in
-    undrilled_err words _ _ _ _ (option_map (λ (f : Bor (List ℕ)). f.now) c.in-Drill.script) c.drill_hub.result is.0 is.1 is.2 is.3 refl c.drill_hub.ensures.err
+    undrilled_err words _ _ _ _ (option_map (λ (f : Bor (List ℕ)). f.now) c.in-Drill.script) c.drill_hub.result is.0 is.1 is.2 is.3 c.drill_hub.ensures.unread c.drill_hub.ensures.err
 
 pub returns-in-Log-clause-ok : goal.returns-in-Log-clause-ok
 returns-in-Log-clause-ok g c words wished =
