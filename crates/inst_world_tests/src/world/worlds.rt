@@ -5,12 +5,13 @@ use crate::ledger::asked::outcome;
 use crate::world::told::{ExpectedAnswer, answers};
 use inst_agenda::{Runner, follow_up};
 use inst_base::{Cents, Fault, Ident, Moment, mention};
-use inst_command::{Answer, Ask, Command, Outcome, Place, Reply, Step, Submission};
-use inst_fixtures::{End, confirm, fund, settings, submit};
+use inst_command::{Answer, Ask, Command, LineKind, Outcome, Place, Reply, Step, Submission};
+use inst_fixtures::{End, Shown, are_lines, confirm, fund, settings, submit};
 use inst_journal::Event;
 use inst_json::LineReader;
 use inst_settings::Settings;
 use inst_world::World;
+use std::alloc::Global;
 use std::process::Abort;
 use std::test::Fail;
 
@@ -27,8 +28,7 @@ fn money_of(world: &World, who: u8) -> Option<(u128, u128)> {
     if !world.settings().has_participant(who) {
         return None;
     }
-    let journal = world.journal(who);
-    Some((journal.position(), journal.reserved()))
+    Some((world.position(who), world.journal(who).reserved()))
 }
 
 /// Compares the money of the three participants: position, and what of it is reserved.
@@ -126,10 +126,37 @@ fn goes_step_by_step(rt: &impl Abort, world: &mut World) -> Result<(), Fail> {
     is_learnt(rt, world)
 }
 
+/// The statements of the three participants after that.
+const STATEMENTS: [&[Shown]; 3] = [
+    &[
+        (1, LineKind::Funded, None, "F1", 500, 500),
+        (2, LineKind::Paid, Some(1), "T1", 200, 300),
+    ],
+    &[(1, LineKind::Received, Some(0), "T1", 200, 200)],
+    &[],
+];
+
+/// Compares the statements of all participants: none is refused.
+fn statements_are(rt: &impl Abort, alloc: Global, world: &World) -> Result<(), Fail> {
+    for (who, wanted) in STATEMENTS.iter().enumerate() {
+        let who = who as u8;
+        assert!(rt; world.settings().has_participant(who));
+        let lines = world.statement(alloc, who, 0, 10)?;
+        same_at(
+            rt,
+            usize::from(who),
+            are_lines(lines.as_slice(), wanted),
+            true,
+        );
+    }
+    Ok(())
+}
+
 #[test]
 fn a_world_goes_step_by_step(rt: HostRuntime) -> Result<(), Fail> {
     let mut world = World::open(rt.alloc(), &settings(rt.alloc())?)?;
-    goes_step_by_step(&rt, &mut world)
+    goes_step_by_step(&rt, &mut world)?;
+    statements_are(&rt, rt.alloc(), &world)
 }
 
 /// Whether the reply to the line is no refusal, and the reading of the line.
