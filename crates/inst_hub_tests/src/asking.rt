@@ -49,7 +49,7 @@ pub(crate) enum ExpectedCall {
 /// A line of a script: the participant, what it does and at which reading, and what it is to be
 /// told.
 #[derive(Clone, Copy)]
-pub(crate) struct Line<'a>(
+pub(crate) struct ScriptLine<'a>(
     pub(crate) u8,
     pub(crate) Deed<'a>,
     pub(crate) u64,
@@ -57,9 +57,9 @@ pub(crate) struct Line<'a>(
 );
 
 /// Participant 0 is funded, and submits a transfer to participant 1.
-pub(crate) const SUBMITTED: [Line<'static>; 2] = [
-    Line(0, Deed::Fund("F1", 50_000), 0, ExpectedCall::Done),
-    Line(
+pub(crate) const SUBMITTED: [ScriptLine<'static>; 2] = [
+    ScriptLine(0, Deed::Fund("F1", 50_000), 0, ExpectedCall::Done),
+    ScriptLine(
         0,
         Deed::Submit("T1", 20_000, 1_000),
         1_000,
@@ -163,14 +163,14 @@ pub(crate) fn play<R: Wait + Abort>(
     rt: &R,
     hub: &Hub,
     teller: &mut Teller,
-    lines: &[Line<'_>],
+    lines: &[ScriptLine<'_>],
 ) -> Result<Option<Ticket>, Fault>
     requires { IsTellerOf hub.now teller.old }
     ensures of { IsTellerOf hub.now teller.new }
     ensures parts { row_parts (teller.new ∷ []) ≡ row_parts (teller.old ∷ []) }
 {
     let mut last = None;
-    for Line(who, deed, at, wanted) in lines {
+    for ScriptLine(who, deed, at, wanted) in lines {
         let (found, ticket) = if let Deed::Sweep = deed {
             (ExpectedCall::New(swept(rt, hub, teller, *who, *at)?), None)
         } else {
@@ -188,7 +188,7 @@ pub(crate) fn play_by<R: Wait + Abort>(
     hub: &Hub,
     tellers: &mut Vec<Teller>,
     index: usize,
-    lines: &[Line<'_>],
+    lines: &[ScriptLine<'_>],
 ) -> Result<Option<Ticket>, Fault>
     requires of { AreOf hub.now tellers.old.items }
     requires parts { HaveAllParts tellers.old.items }

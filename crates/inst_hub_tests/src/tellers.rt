@@ -2,7 +2,7 @@
 ghost use Rattle.std.specs.Prelude.{◌≡◌, ◌+◌, IfOk, length};
 ghost use Rattle.inst_hub.specs.Calls.{IsTellerOf, AreOf};
 
-use crate::asking::{Line, play};
+use crate::asking::{ScriptLine, play};
 use inst_base::Fault;
 use inst_hub::{Hub, Teller};
 use std::process::Abort;
@@ -47,7 +47,7 @@ pub(crate) fn with_teller(opened: (Hub, Vec<Teller>)) -> Result<(Hub, Teller), F
 pub(crate) fn played<R: Wait + Abort>(
     rt: &R,
     opened: (Hub, Vec<Teller>),
-    lines: &[Line<'_>],
+    lines: &[ScriptLine<'_>],
 ) -> Result<(), Fault>
     requires { AreOf opened.0 opened.1.items }
 {

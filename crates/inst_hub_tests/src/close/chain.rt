@@ -4,7 +4,7 @@ ghost use Rattle.inst_hub.specs.Calls.{AreOf};
 ghost use Rattle.inst_hub.specs.Opening.{HaveAllParts};
 ghost use Rattle.inst_close.specs.Closing.{IsOpenedSo};
 
-use crate::asking::{ACCEPTED, Deed, ExpectedCall, Line, play_by};
+use crate::asking::{ACCEPTED, Deed, ExpectedCall, ScriptLine, play_by};
 use crate::close::closing::{closed, opened, opened_again};
 use crate::comparing::same;
 use crate::tellers::played;
@@ -33,14 +33,14 @@ fn paid<R: Wait + Abort>(
     requires opened { (O : Opening) × IsOpenedSo O opened.0 }
 {
     let lines = [
-        Line(0, Deed::Fund(id, 1_000), 0, ExpectedCall::Done),
-        Line(
+        ScriptLine(0, Deed::Fund(id, 1_000), 0, ExpectedCall::Done),
+        ScriptLine(
             0,
             Deed::Submit(id, 300, 1_000),
             1_000,
             ExpectedCall::Taken(true),
         ),
-        Line(
+        ScriptLine(
             1,
             Deed::Confirm(id),
             2_000,
@@ -63,7 +63,7 @@ fn ten_openings<R: Wait + Abort>(rt: &R, alloc: Global) -> Result<Books, Fault> 
 
 /// The events of a book, counted, and the cents that were funded.
 #[derive(Clone, Copy, Debug, PartialEq)]
-struct Kept {
+struct BookCounts {
     opened: u32,
     funded: u64,
     taken: u32,
@@ -71,8 +71,8 @@ struct Kept {
     accepted: u32,
 }
 
-fn counted(journal: &Journal) -> Kept {
-    let mut counted = Kept {
+fn counted(journal: &Journal) -> BookCounts {
+    let mut counted = BookCounts {
         opened: 0,
         funded: 0,
         taken: 0,
@@ -98,14 +98,14 @@ fn counted(journal: &Journal) -> Kept {
 }
 
 /// What the originator is told, once more, of the first and the last that it paid.
-const FIRST_AND_LAST: [Line<'static>; 2] = [
-    Line(
+const FIRST_AND_LAST: [ScriptLine<'static>; 2] = [
+    ScriptLine(
         0,
         Deed::Investigate("T1"),
         2_000,
         ExpectedCall::State(ACCEPTED, false),
     ),
-    Line(
+    ScriptLine(
         0,
         Deed::Investigate("T10"),
         2_000,
@@ -116,14 +116,14 @@ const FIRST_AND_LAST: [Line<'static>; 2] = [
 /// Compares what both participants have, what all sum to, and what the originator is told in the
 /// next opening.
 fn loses_nothing<R: Wait + Abort>(rt: &R, alloc: Global, books: &Books) -> Result<(), Fault> {
-    let originator = Kept {
+    let originator = BookCounts {
         opened: 9,
         funded: 10_000,
         taken: 10,
         forwarded: 0,
         accepted: 10,
     };
-    let beneficiary = Kept {
+    let beneficiary = BookCounts {
         funded: 0,
         taken: 0,
         forwarded: 10,

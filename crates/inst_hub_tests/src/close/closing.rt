@@ -6,7 +6,7 @@ ghost use Rattle.inst_hub.specs.Calls.{AreOf};
 ghost use Rattle.inst_hub.specs.Opening.{HaveAllParts};
 ghost use Rattle.inst_close.specs.Closing.{IsOpenedSo};
 
-use crate::asking::{ACCEPTED, Deed, ExpectedCall, Line, SUBMITTED, play_by};
+use crate::asking::{ACCEPTED, Deed, ExpectedCall, SUBMITTED, ScriptLine, play_by};
 use crate::comparing::same;
 use crate::tellers::played;
 use inst_base::{Code, Fault};
@@ -49,7 +49,7 @@ pub(crate) fn closed(alloc: Global, hub: Hub, tellers: Vec<Teller>) -> Result<Bo
 }
 
 /// Participant 0 submits a second transfer.
-const SECOND: [Line<'static>; 1] = [Line(
+const SECOND: [ScriptLine<'static>; 1] = [ScriptLine(
     0,
     Deed::Submit("T2", 5_000, 1_000),
     1_000,
@@ -57,7 +57,7 @@ const SECOND: [Line<'static>; 1] = [Line(
 )];
 
 /// The first is confirmed.
-const CONFIRMED: [Line<'static>; 1] = [Line(
+const CONFIRMED: [ScriptLine<'static>; 1] = [ScriptLine(
     1,
     Deed::Confirm("T1"),
     2_000,
@@ -125,7 +125,7 @@ fn closes_and_tells(rt: HostRuntime) -> Result<(), Fault> {
 }
 
 /// What was pending is confirmed.
-const CONFIRMED_LATER: [Line<'static>; 1] = [Line(
+const CONFIRMED_LATER: [ScriptLine<'static>; 1] = [ScriptLine(
     1,
     Deed::Confirm("T2"),
     2_000,
@@ -160,14 +160,14 @@ fn joined(alloc: Global, books: &Books, code: &str) -> Result<(Hub, Vec<Teller>)
 }
 
 /// The money of the first participant and of the one that joined.
-const MONEY: [Line<'static>; 2] = [
-    Line(
+const MONEY: [ScriptLine<'static>; 2] = [
+    ScriptLine(
         0,
         Deed::Position,
         1_002,
         ExpectedCall::Money(30_000, 5_000, 25_000),
     ),
-    Line(3, Deed::Position, 1_002, ExpectedCall::Money(0, 0, 0)),
+    ScriptLine(3, Deed::Position, 1_002, ExpectedCall::Money(0, 0, 0)),
 ];
 
 #[test]

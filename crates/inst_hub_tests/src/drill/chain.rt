@@ -1,6 +1,6 @@
 //! Ten openings, each from the books of the one before, in which threads submit, confirm and sweep.
 use crate::comparing::same;
-use crate::drill::kept::{Kept, funded, kept_of};
+use crate::drill::kept::{TransferCounts, funded, kept_of};
 use inst_base::Fault;
 use inst_close::Books;
 use inst_drill::{DrillError, DrillRequest, drill};
@@ -31,16 +31,16 @@ fn expected(alloc: Global) -> Result<Vec<u8>, Fault> {
 
 /// Both sides have the transfer once, over 100 cents, with one outcome, and the same: whether it is
 /// accepted.
-fn is_accepted(originator: Kept, beneficiary: Kept) -> Option<bool> {
+fn is_accepted(originator: TransferCounts, beneficiary: TransferCounts) -> Option<bool> {
     let accepted = originator.accepted;
-    let expected = Kept {
+    let expected = TransferCounts {
         taken: 1,
         forwarded: 0,
         cents: 100,
         accepted,
         timed_out: 1u32.saturating_sub(accepted),
     };
-    let forwarded = Kept {
+    let forwarded = TransferCounts {
         taken: 0,
         forwarded: 1,
         ..expected

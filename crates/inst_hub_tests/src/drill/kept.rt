@@ -6,7 +6,7 @@ use std::alloc::Global;
 
 /// How often a book has a transfer and its outcomes, and what it is over, in cents.
 #[derive(Clone, Copy, Debug, PartialEq, Eq)]
-pub(crate) struct Kept {
+pub(crate) struct TransferCounts {
     pub(crate) taken: u32,
     pub(crate) forwarded: u32,
     pub(crate) cents: u64,
@@ -14,10 +14,10 @@ pub(crate) struct Kept {
     pub(crate) timed_out: u32,
 }
 
-impl Kept {
+impl TransferCounts {
     /// With what the event tells of the transfer with this identifier.
-    fn with(self, event: &Event, id: &Ident) -> Kept {
-        let Kept {
+    fn with(self, event: &Event, id: &Ident) -> TransferCounts {
+        let TransferCounts {
             taken,
             forwarded,
             accepted,
@@ -29,7 +29,7 @@ impl Kept {
                 id: other,
                 cents,
                 ..
-            } if other == id => Kept {
+            } if other == id => TransferCounts {
                 taken: taken.saturating_add(1),
                 cents: cents.get(),
                 ..self
@@ -38,7 +38,7 @@ impl Kept {
                 id: other,
                 cents,
                 ..
-            } if other == id => Kept {
+            } if other == id => TransferCounts {
                 forwarded: forwarded.saturating_add(1),
                 cents: cents.get(),
                 ..self
@@ -48,11 +48,11 @@ impl Kept {
                 outcome,
                 ..
             } if other == id => match outcome {
-                Outcome::Accepted => Kept {
+                Outcome::Accepted => TransferCounts {
                     accepted: accepted.saturating_add(1),
                     ..self
                 },
-                Outcome::TimedOut => Kept {
+                Outcome::TimedOut => TransferCounts {
                     timed_out: timed_out.saturating_add(1),
                     ..self
                 },
@@ -65,10 +65,14 @@ impl Kept {
 
 /// What the book has of the transfer of a drill with this number, which is counted over all
 /// openings from 1.
-pub(crate) fn kept_of(alloc: Global, journal: &Journal, number: u32) -> Result<Kept, Fault> {
+pub(crate) fn kept_of(
+    alloc: Global,
+    journal: &Journal,
+    number: u32,
+) -> Result<TransferCounts, Fault> {
     let text = format!(in alloc; "D{number}")?;
     let id = Ident::new(text.as_str())?;
-    let mut kept = Kept {
+    let mut kept = TransferCounts {
         taken: 0,
         forwarded: 0,
         cents: 0,

@@ -5,7 +5,7 @@ ghost use Rattle.inst_hub.specs.Calls.{IsTellerOf, AreOf};
 use crate::asking::{Deed, answer};
 use crate::comparing::same;
 use crate::hub::setting::submitted;
-use crate::hub::start::Start;
+use crate::hub::start::StartLine;
 use crate::tellers::last_two;
 use inst_base::{Fault, mention};
 use inst_command::{Outcome, State};
@@ -24,11 +24,11 @@ const LINGERS: u32 = 1_000;
 #[derive(Drop)]
 struct Waits {
     /// The gate and the three other threads are here.
-    begun: Start,
+    begun: StartLine,
     /// Who isn't held up is done.
-    done: Start,
+    done: StartLine,
     /// Another call of participant 0 was answered.
-    queued: Start,
+    queued: StartLine,
     /// How often the gate was passed.
     passes: AtomicU32,
     /// For whom it was passed last.
@@ -42,9 +42,9 @@ struct Waits {
 impl Waits {
     fn new() -> Waits {
         Waits {
-            begun: Start::new(),
-            done: Start::new(),
-            queued: Start::new(),
+            begun: StartLine::new(),
+            done: StartLine::new(),
+            queued: StartLine::new(),
             passes: AtomicU32::new(0),
             who: AtomicU32::new(u32::MAX),
             through: AtomicU32::new(0),
@@ -115,7 +115,7 @@ fn answered<R: Wait>(
     teller: &mut Teller,
     who: u8,
     gate: &Waits,
-    done: &Start,
+    done: &StartLine,
 ) -> Result<(), Fault>
     requires { IsTellerOf hub.now teller.old }
 {

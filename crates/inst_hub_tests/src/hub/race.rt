@@ -2,9 +2,9 @@
 //! deadline.
 ghost use Rattle.inst_hub.specs.Calls.{IsTellerOf, AreOf};
 
-use crate::asking::{Deed, ExpectedCall, Line, answer, play};
+use crate::asking::{Deed, ExpectedCall, ScriptLine, answer, play};
 use crate::comparing::same;
-use crate::hub::start::Start;
+use crate::hub::start::StartLine;
 use crate::tellers::{last, last_two};
 use inst_base::{Fault, Ident};
 use inst_command::{Outcome, State};
@@ -57,7 +57,7 @@ fn decide_all<R: Wait>(
     teller: &mut Teller,
     who: u8,
     at: u64,
-    start: &Start,
+    start: &StartLine,
 ) -> Result<Count, Fault>
     requires { IsTellerOf hub.now teller.old }
 {
@@ -99,7 +99,7 @@ fn race<R: Threads + Wait + Sync + Abort>(
 ) -> Result<Count, Fault>
     requires { IsTellerOf hub.now first.old × IsTellerOf hub.now second.old }
 {
-    let start = Start::new();
+    let start = StartLine::new();
     let (investigated, confirmed) = join(
         rt,
         || decide_all(rt, alloc, hub, first, 0, 11_000, &start),
@@ -122,13 +122,13 @@ fn have_money<R: Wait + Abort>(
     let paid = u64::from(accepted) * 200;
     let left = FUNDS.saturating_sub(paid);
     let lines = [
-        Line(
+        ScriptLine(
             0,
             Deed::Position,
             11_000,
             ExpectedCall::Money(left, 0, left),
         ),
-        Line(
+        ScriptLine(
             1,
             Deed::Position,
             11_000,

@@ -3,7 +3,7 @@
 ghost use Rattle.std.specs.Prelude.{◌≡◌, IfOk};
 ghost use Rattle.inst_model.specs.Rows as rows;
 
-use crate::asking::{ACCEPTED, Deed, ExpectedCall, Line};
+use crate::asking::{ACCEPTED, Deed, ExpectedCall, ScriptLine};
 use crate::tellers::played;
 use inst_base::Fault;
 use inst_command::Step;
@@ -44,7 +44,7 @@ fn one_settled() -> Result<[Step; 7], Fault>
 }
 
 /// Plays the lines in the hub that opens from the books of the other one.
-fn plays<R: Wait + Abort>(rt: &R, alloc: Global, lines: &[Line<'_>]) -> Result<(), Fault> {
+fn plays<R: Wait + Abort>(rt: &R, alloc: Global, lines: &[ScriptLine<'_>]) -> Result<(), Fault> {
     let steps = one_settled()?;
     let settings = settings(alloc)?;
     let books = books(alloc, &settings, &steps)?;
@@ -52,20 +52,20 @@ fn plays<R: Wait + Abort>(rt: &R, alloc: Global, lines: &[Line<'_>]) -> Result<(
 }
 
 /// The originator's money, the confirmation of what was pending, and the money afterwards.
-const GOES_ON: [Line<'static>; 3] = [
-    Line(
+const GOES_ON: [ScriptLine<'static>; 3] = [
+    ScriptLine(
         0,
         Deed::Position,
         2_000,
         ExpectedCall::Money(49_900, 100, 49_800),
     ),
-    Line(
+    ScriptLine(
         1,
         Deed::Confirm("T2"),
         2_000,
         ExpectedCall::State(ACCEPTED, true),
     ),
-    Line(
+    ScriptLine(
         0,
         Deed::Position,
         2_000,
@@ -79,7 +79,7 @@ fn what_was_pending_goes_on(rt: HostRuntime) -> Result<(), Fault> {
 }
 
 /// An investigation of the settled transfer, which tells no ticket.
-const SETTLED: [Line<'static>; 1] = [Line(
+const SETTLED: [ScriptLine<'static>; 1] = [ScriptLine(
     0,
     Deed::Investigate("T1"),
     3_000,

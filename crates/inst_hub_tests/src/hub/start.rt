@@ -6,13 +6,13 @@ use std::thread::yield_now;
 const TURNS: u32 = 1_000_000;
 
 #[derive(Drop)]
-pub(crate) struct Start {
+pub(crate) struct StartLine {
     arrived: AtomicU32,
 }
 
-impl Start {
-    pub(crate) fn new() -> Start {
-        Start {
+impl StartLine {
+    pub(crate) fn new() -> StartLine {
+        StartLine {
             arrived: AtomicU32::new(0),
         }
     }

@@ -1,10 +1,10 @@
 //! What sweeps count, and in which order they bring transfers.
 ghost use Rattle.inst_hub.specs.Calls.{IsTellerOf, AreOf};
 
-use crate::asking::{Deed, ExpectedCall, Line, answer, play};
+use crate::asking::{Deed, ExpectedCall, ScriptLine, answer, play};
 use crate::comparing::same;
 use crate::hub::setting::submitted;
-use crate::hub::start::Start;
+use crate::hub::start::StartLine;
 use crate::tellers::{last, last_two, played, with_teller};
 use inst_base::Fault;
 use inst_command::{Outcome, State};
@@ -17,21 +17,21 @@ use std::thread::{Threads, join};
 const TIMED_OUT: State = State::Decided(Outcome::TimedOut);
 
 /// Investigations before the deadline and at it, and then sweeps of both sides.
-const INVESTIGATED: [Line<'static>; 4] = [
-    Line(
+const INVESTIGATED: [ScriptLine<'static>; 4] = [
+    ScriptLine(
         0,
         Deed::Investigate("T1"),
         10_999,
         ExpectedCall::State(State::Pending, true),
     ),
-    Line(
+    ScriptLine(
         0,
         Deed::Investigate("T1"),
         11_000,
         ExpectedCall::State(TIMED_OUT, true),
     ),
-    Line(0, Deed::Sweep, 11_000, ExpectedCall::New(0)),
-    Line(1, Deed::Sweep, 11_000, ExpectedCall::New(0)),
+    ScriptLine(0, Deed::Sweep, 11_000, ExpectedCall::New(0)),
+    ScriptLine(1, Deed::Sweep, 11_000, ExpectedCall::New(0)),
 ];
 
 /// Compares what they tell and count of a transfer that is submitted.
@@ -55,9 +55,9 @@ fn what_an_investigation_finds_is_learnt(rt: HostRuntime) -> Result<(), Fault> {
 #[derive(Drop)]
 struct Holds {
     /// Both transfers are taken, and nobody was told of them.
-    held: Start,
+    held: StartLine,
     /// The sweep is done.
-    done: Start,
+    done: StartLine,
 }
 
 impl Gate for Holds {
@@ -68,12 +68,12 @@ impl Gate for Holds {
 }
 
 /// What a sweep of participant 1 counts once both transfers are held.
-const BROUGHT: [Line<'static>; 1] = [Line(1, Deed::Sweep, 1_000, ExpectedCall::New(2))];
+const BROUGHT: [ScriptLine<'static>; 1] = [ScriptLine(1, Deed::Sweep, 1_000, ExpectedCall::New(2))];
 
 /// What another counts afterwards, and what is fetched.
-const FETCHED: [Line<'static>; 2] = [
-    Line(1, Deed::Sweep, 1_000, ExpectedCall::New(0)),
-    Line(1, Deed::Fetch, 1_000, ExpectedCall::Came(0, 2)),
+const FETCHED: [ScriptLine<'static>; 2] = [
+    ScriptLine(1, Deed::Sweep, 1_000, ExpectedCall::New(0)),
+    ScriptLine(1, Deed::Fetch, 1_000, ExpectedCall::Came(0, 2)),
 ];
 
 /// Compares what a sweep of participant 1 counts once both are held, and what another counts and
@@ -121,9 +121,9 @@ fn both<R: Threads + Wait + Sync>(
 }
 
 /// Participants 0 and 2 have money.
-const FUNDED: [Line<'static>; 2] = [
-    Line(0, Deed::Fund("F1", 50_000), 0, ExpectedCall::Done),
-    Line(2, Deed::Fund("F1", 50_000), 0, ExpectedCall::Done),
+const FUNDED: [ScriptLine<'static>; 2] = [
+    ScriptLine(0, Deed::Fund("F1", 50_000), 0, ExpectedCall::Done),
+    ScriptLine(2, Deed::Fund("F1", 50_000), 0, ExpectedCall::Done),
 ];
 
 /// Compares what the sweeps of the last of three tellers count and bring.
@@ -138,8 +138,8 @@ fn delivers<R: Threads + Wait + Sync + Abort>(
     play(rt, hub, &mut third, &FUNDED)?;
     let (mut first, mut second) = last_two(hub, tellers)?;
     let gate = Holds {
-        held: Start::new(),
-        done: Start::new(),
+        held: StartLine::new(),
+        done: StartLine::new(),
     };
     let (brought, submitted) = join(
         rt,
@@ -162,11 +162,11 @@ fn sweep_delivers(rt: HostRuntime) -> Result<(), Fault> {
 
 /// Sweeps of participant 0 before the deadline and at it, of participant 1, and of participant 0
 /// again.
-const EXPIRED: [Line<'static>; 4] = [
-    Line(0, Deed::Sweep, 10_999, ExpectedCall::New(0)),
-    Line(0, Deed::Sweep, 11_000, ExpectedCall::New(1)),
-    Line(1, Deed::Sweep, 11_000, ExpectedCall::New(1)),
-    Line(0, Deed::Sweep, 11_000, ExpectedCall::New(0)),
+const EXPIRED: [ScriptLine<'static>; 4] = [
+    ScriptLine(0, Deed::Sweep, 10_999, ExpectedCall::New(0)),
+    ScriptLine(0, Deed::Sweep, 11_000, ExpectedCall::New(1)),
+    ScriptLine(1, Deed::Sweep, 11_000, ExpectedCall::New(1)),
+    ScriptLine(0, Deed::Sweep, 11_000, ExpectedCall::New(0)),
 ];
 
 /// Compares what they count, and how the transfer then stands.
@@ -188,29 +188,29 @@ fn sweeps_time_out_and_learn(rt: HostRuntime) -> Result<(), Fault> {
 
 /// Three transfers, the first of which is due last, with sweeps of participant 0 before the last
 /// deadline and at it, and of participant 1.
-const DUE: [Line<'static>; 7] = [
-    Line(0, Deed::Fund("F1", 50_000), 0, ExpectedCall::Done),
-    Line(
+const DUE: [ScriptLine<'static>; 7] = [
+    ScriptLine(0, Deed::Fund("F1", 50_000), 0, ExpectedCall::Done),
+    ScriptLine(
         0,
         Deed::Submit("T1", 100, 1_500),
         1_000,
         ExpectedCall::Taken(true),
     ),
-    Line(
+    ScriptLine(
         0,
         Deed::Submit("T2", 100, 1_000),
         1_000,
         ExpectedCall::Taken(true),
     ),
-    Line(
+    ScriptLine(
         0,
         Deed::Submit("T3", 100, 1_000),
         1_000,
         ExpectedCall::Taken(true),
     ),
-    Line(0, Deed::Sweep, 11_499, ExpectedCall::New(2)),
-    Line(0, Deed::Sweep, 11_500, ExpectedCall::New(1)),
-    Line(1, Deed::Sweep, 11_500, ExpectedCall::New(3)),
+    ScriptLine(0, Deed::Sweep, 11_499, ExpectedCall::New(2)),
+    ScriptLine(0, Deed::Sweep, 11_500, ExpectedCall::New(1)),
+    ScriptLine(1, Deed::Sweep, 11_500, ExpectedCall::New(3)),
 ];
 
 #[test]

@@ -2,7 +2,7 @@
 ghost use Rattle.std.specs.Prelude.{IfOk};
 ghost use Rattle.inst_hub.specs.Calls.{IsTellerOf, AreOf};
 
-use crate::asking::{ACCEPTED, Deed, ExpectedCall, Line, play};
+use crate::asking::{ACCEPTED, Deed, ExpectedCall, ScriptLine, play};
 use crate::comparing::same;
 use crate::hub::setting::submitted;
 use crate::tellers::last_two;
@@ -14,7 +14,7 @@ use std::process::Abort;
 use std::sync::Wait;
 
 /// What participant 1 is told by the confirmation.
-const CONFIRMED: [Line<'static>; 1] = [Line(
+const CONFIRMED: [ScriptLine<'static>; 1] = [ScriptLine(
     1,
     Deed::Confirm("T1"),
     2_000,
@@ -22,7 +22,7 @@ const CONFIRMED: [Line<'static>; 1] = [Line(
 )];
 
 /// What participant 0 is told of its money then.
-const PAID: [Line<'static>; 1] = [Line(
+const PAID: [ScriptLine<'static>; 1] = [ScriptLine(
     0,
     Deed::Position,
     2_000,

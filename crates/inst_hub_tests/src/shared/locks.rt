@@ -22,9 +22,9 @@ struct Book {
 }
 
 /// A book names its lock, and its history is its guests.
-struct Kept;
+struct GuestLaw;
 
-impl Lawful<Book, u64, ()> for Kept {
+impl Lawful<Book, u64, ()> for GuestLaw {
     ghost use Rattle.std.specs.Prelude.{◌≡◌};
 
     ghost law = { λ _ p x. x.lock ≡ p };
@@ -35,7 +35,7 @@ impl Lawful<Book, u64, ()> for Kept {
 /// How often each guest comes: with a quarter of it one thread was done before the other began.
 const VISITS: u64 = 20_000;
 
-type Row = LockRow<Book, u64, (), Kept>;
+type Row = LockRow<Book, u64, (), GuestLaw>;
 
 type Caller = RowSeat<Book, u64, ()>;
 

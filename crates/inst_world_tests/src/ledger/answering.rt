@@ -5,7 +5,7 @@ ghost use Rattle.inst_command.specs.Ask.{command_fits};
 ghost use Rattle.inst_journal.specs.Sound.{Fits};
 
 use crate::comparing::same_at;
-use crate::ledger::asked::{Asks, command, outcome};
+use crate::ledger::asked::{ShortAsk, command, outcome};
 use crate::ledger::told::{ExpectedReply, is_refused, is_reply};
 use inst_base::{Fault, Moment};
 use inst_command::{Ask, Command, Outcome, Query};
@@ -17,7 +17,7 @@ use std::alloc::Global;
 use std::process::Abort;
 
 /// What is asked, its reading, what is found of its transfer, and what is told.
-pub(crate) type Row = (Asks, u64, Option<End>, ExpectedReply);
+pub(crate) type Row = (ShortAsk, u64, Option<End>, ExpectedReply);
 
 /// Whether the plain function that answers alone answers so.
 fn is_answered(
@@ -92,11 +92,11 @@ pub(crate) fn walks(
 fn by_a_walk(
     rt: &(impl Abort + AllocGlobal),
     ledger: &Ledger,
-    asks: &Asks,
+    asks: &ShortAsk,
     told: &ExpectedReply,
 ) -> Result<(), Fault> {
     match (asks, told) {
-        (Asks::Statement(skip, count), ExpectedReply::Lines(wanted)) => {
+        (ShortAsk::Statement(skip, count), ExpectedReply::Lines(wanted)) => {
             walks(rt, ledger, *skip, *count, wanted)
         }
         _ => Ok(()),
@@ -179,7 +179,7 @@ fn by_the_ledger(
 }
 
 /// What the participant `who` asks at this reading.
-fn ask(who: u8, asks: &Asks, at: u64) -> Result<Ask, Fault> {
+fn ask(who: u8, asks: &ShortAsk, at: u64) -> Result<Ask, Fault> {
     Ok(Ask {
         who,
         command: command(asks)?,

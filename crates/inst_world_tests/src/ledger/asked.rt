@@ -5,7 +5,7 @@ use inst_fixtures::End;
 
 /// A command.
 #[derive(Clone, Copy)]
-pub(crate) enum Asks {
+pub(crate) enum ShortAsk {
     Fund(&'static str, u64),
     Defund(&'static str, u64),
     /// The identifier, the beneficiary, the cents and the stamp.
@@ -28,32 +28,32 @@ fn submit(id: &str, to: u8, cents: u64, stamp: u64) -> Result<Command, Fault> {
     }))
 }
 
-pub(crate) fn command(asks: &Asks) -> Result<Command, Fault> {
+pub(crate) fn command(asks: &ShortAsk) -> Result<Command, Fault> {
     Ok(match *asks {
-        Asks::Fund(reference, cents) => Command::Fund(Funding {
+        ShortAsk::Fund(reference, cents) => Command::Fund(Funding {
             reference: Ident::new(reference)?,
             cents: Cents::new(cents)?,
         }),
-        Asks::Defund(reference, cents) => Command::Defund(Funding {
+        ShortAsk::Defund(reference, cents) => Command::Defund(Funding {
             reference: Ident::new(reference)?,
             cents: Cents::new(cents)?,
         }),
-        Asks::Submit(id, to, cents, stamp) => submit(id, to, cents, stamp)?,
-        Asks::Confirm(from, id) => Command::Confirm {
+        ShortAsk::Submit(id, to, cents, stamp) => submit(id, to, cents, stamp)?,
+        ShortAsk::Confirm(from, id) => Command::Confirm {
             from,
             id: Ident::new(id)?,
         },
-        Asks::Reject(from, id, reason) => Command::Reject {
+        ShortAsk::Reject(from, id, reason) => Command::Reject {
             from,
             id: Ident::new(id)?,
             reason: Reason::new(reason)?,
         },
-        Asks::Investigate(id) => Command::Investigate {
+        ShortAsk::Investigate(id) => Command::Investigate {
             id: Ident::new(id)?,
         },
-        Asks::Fetch(max) => Command::Fetch { max },
-        Asks::Position => Command::Query(Query::Position),
-        Asks::Statement(skip, count) => Command::Query(Query::Statement { skip, count }),
+        ShortAsk::Fetch(max) => Command::Fetch { max },
+        ShortAsk::Position => Command::Query(Query::Position),
+        ShortAsk::Statement(skip, count) => Command::Query(Query::Statement { skip, count }),
     })
 }
 

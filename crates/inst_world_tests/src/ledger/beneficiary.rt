@@ -1,6 +1,6 @@
 //! What a participant is answered to which transfers were forwarded.
 use crate::ledger::answering::Row;
-use crate::ledger::asked::Asks;
+use crate::ledger::asked::ShortAsk;
 use crate::ledger::cases::{Does, First, goes};
 use crate::ledger::told::ExpectedReply;
 use inst_base::Fault;
@@ -9,100 +9,110 @@ use inst_fixtures::End;
 
 const FETCHES: &[Row] = &[
     (
-        Asks::Fetch(1),
+        ShortAsk::Fetch(1),
         1000,
         None,
         ExpectedReply::Inbox(&[(0, "T1", 20_000, 11_000)]),
     ),
     (
-        Asks::Fetch(9),
+        ShortAsk::Fetch(9),
         1000,
         None,
         ExpectedReply::Inbox(&[(2, "T1", 20_000, 11_000)]),
     ),
-    (Asks::Fetch(1), 1000, None, ExpectedReply::Inbox(&[])),
+    (ShortAsk::Fetch(1), 1000, None, ExpectedReply::Inbox(&[])),
 ];
 
 const UNKNOWN: &[Row] = &[
     (
-        Asks::Confirm(0, "D2"),
+        ShortAsk::Confirm(0, "D2"),
         2000,
         Some(End::Accepted),
         ExpectedReply::Refused(Fault::UnknownTransfer),
     ),
     (
-        Asks::Confirm(1, "T1"),
+        ShortAsk::Confirm(1, "T1"),
         2000,
         Some(End::Accepted),
         ExpectedReply::Refused(Fault::UnknownTransfer),
     ),
     (
-        Asks::Confirm(0, "T1"),
+        ShortAsk::Confirm(0, "T1"),
         2000,
         None,
         ExpectedReply::Refused(Fault::Expired),
     ),
     (
-        Asks::Reject(2, "T1", "AC04"),
+        ShortAsk::Reject(2, "T1", "AC04"),
         2000,
         None,
         ExpectedReply::Pending(2, "T1"),
     ),
-    (Asks::Position, 2000, None, ExpectedReply::Position(0, 0, 0)),
+    (
+        ShortAsk::Position,
+        2000,
+        None,
+        ExpectedReply::Position(0, 0, 0),
+    ),
 ];
 
 const CONFIRMS_AND_REJECTS: &[Row] = &[
     (
-        Asks::Confirm(0, "T1"),
+        ShortAsk::Confirm(0, "T1"),
         2000,
         Some(End::Accepted),
         ExpectedReply::Decided(0, "T1", End::Accepted),
     ),
     (
-        Asks::Confirm(0, "T1"),
+        ShortAsk::Confirm(0, "T1"),
         11_000,
         Some(End::TimedOut),
         ExpectedReply::Decided(0, "T1", End::Accepted),
     ),
     (
-        Asks::Confirm(0, "T1"),
+        ShortAsk::Confirm(0, "T1"),
         11_000,
         None,
         ExpectedReply::Decided(0, "T1", End::Accepted),
     ),
     (
-        Asks::Reject(2, "T1", "AC04"),
+        ShortAsk::Reject(2, "T1", "AC04"),
         2000,
         Some(End::Rejected("AC04")),
         ExpectedReply::Decided(2, "T1", End::Rejected("AC04")),
     ),
     (
-        Asks::Reject(2, "T1", "AC04"),
+        ShortAsk::Reject(2, "T1", "AC04"),
         2100,
         None,
         ExpectedReply::Decided(2, "T1", End::Rejected("AC04")),
     ),
     (
-        Asks::Confirm(2, "T1"),
+        ShortAsk::Confirm(2, "T1"),
         2200,
         Some(End::Accepted),
         ExpectedReply::Decided(2, "T1", End::Rejected("AC04")),
     ),
     (
-        Asks::Position,
+        ShortAsk::Position,
         2200,
         None,
         ExpectedReply::Position(20_000, 0, 20_000),
     ),
     (
-        Asks::Defund("D2", 20_000),
+        ShortAsk::Defund("D2", 20_000),
         3000,
         None,
         ExpectedReply::Done("D2"),
     ),
-    (Asks::Position, 3000, None, ExpectedReply::Position(0, 0, 0)),
     (
-        Asks::Statement(0, 10),
+        ShortAsk::Position,
+        3000,
+        None,
+        ExpectedReply::Position(0, 0, 0),
+    ),
+    (
+        ShortAsk::Statement(0, 10),
         3000,
         None,
         ExpectedReply::Lines(&[
@@ -135,19 +145,19 @@ fn fetches_confirms_and_rejects(rt: HostRuntime) -> Result<(), Fault> {
 
 const RECEIVES_BOTH: &[Row] = &[
     (
-        Asks::Confirm(2, "T1"),
+        ShortAsk::Confirm(2, "T1"),
         1000,
         Some(End::Accepted),
         ExpectedReply::Decided(2, "T1", End::Accepted),
     ),
     (
-        Asks::Confirm(0, "T1"),
+        ShortAsk::Confirm(0, "T1"),
         1000,
         Some(End::Accepted),
         ExpectedReply::Decided(0, "T1", End::Accepted),
     ),
     (
-        Asks::Statement(0, 10),
+        ShortAsk::Statement(0, 10),
         1000,
         None,
         ExpectedReply::Lines(&[

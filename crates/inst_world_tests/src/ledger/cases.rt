@@ -31,7 +31,7 @@ pub(crate) type Held = ([usize; 3], [u128; 3], i128, [u128; 5]);
 
 /// Whether a transfer of a name is taken, its beneficiary, and whether it was forwarded from
 /// participant 0 and from participant 1.
-pub(crate) type Known = (bool, Option<u8>, [bool; 2]);
+pub(crate) type KnownTransfer = (bool, Option<u8>, [bool; 2]);
 
 /// What the ledger does, and what is compared of it.
 pub(crate) enum Does {
@@ -43,7 +43,7 @@ pub(crate) enum Does {
     Keeps(usize),
     Holds(Held),
     /// It knows this of transfers of a name, and how that of participant 0 ended.
-    Knows(&'static str, Known, Option<End>),
+    Knows(&'static str, KnownTransfer, Option<End>),
     /// A walk over its events gives these lines: how many are skipped, and how many are asked for.
     Walks(u64, u32, &'static [Shown]),
 }
@@ -160,7 +160,7 @@ fn is_ended(outcome: &Option<Outcome>, end: &Option<End>) -> bool {
 }
 
 /// Compares what is known of transfers of this name.
-fn knows(rt: &impl Abort, ledger: &Ledger, id: &Ident, wanted: Known, end: &Option<End>) {
+fn knows(rt: &impl Abort, ledger: &Ledger, id: &Ident, wanted: KnownTransfer, end: &Option<End>) {
     let forwarded = [ledger.is_forwarded(0, id), ledger.is_forwarded(1, id)];
     let found = (ledger.is_taken(id), ledger.beneficiary_of(id), forwarded);
     same_at(rt, *id, found, wanted);

@@ -1,6 +1,6 @@
 //! Books that are opened again: they keep the money and the keys, and begin a new statement.
 use crate::ledger::answering::Row;
-use crate::ledger::asked::Asks;
+use crate::ledger::asked::ShortAsk;
 use crate::ledger::cases::{Does, First, goes};
 use crate::ledger::told::ExpectedReply;
 use inst_base::Fault;
@@ -9,25 +9,25 @@ use inst_fixtures::End;
 
 const GOES_ON: &[Row] = &[
     (
-        Asks::Fetch(9),
+        ShortAsk::Fetch(9),
         1000,
         None,
         ExpectedReply::Inbox(&[(0, "T1", 20_000, 11_000), (2, "T1", 20_000, 11_000)]),
     ),
     (
-        Asks::Confirm(0, "T1"),
+        ShortAsk::Confirm(0, "T1"),
         1000,
         Some(End::Accepted),
         ExpectedReply::Decided(0, "T1", End::Accepted),
     ),
     (
-        Asks::Position,
+        ShortAsk::Position,
         1000,
         None,
         ExpectedReply::Position(20_000, 0, 20_000),
     ),
     (
-        Asks::Statement(0, 10),
+        ShortAsk::Statement(0, 10),
         1000,
         None,
         ExpectedReply::Lines(&[(1, LineKind::Received, Some(0), "T1", 20_000, 20_000)]),
@@ -42,19 +42,29 @@ fn goes_on_after_an_opening(rt: HostRuntime) -> Result<(), Fault> {
     goes(&rt, 1, First::Forwarded(20_000, 20_000), OPENS_AND_GOES_ON)
 }
 
-const FUNDED: &[Row] = &[(Asks::Fund("F1", 500), 0, None, ExpectedReply::Done("F1"))];
+const FUNDED: &[Row] = &[(
+    ShortAsk::Fund("F1", 500),
+    0,
+    None,
+    ExpectedReply::Done("F1"),
+)];
 
 /// 500 cents before an opening and 300 after it: one line.
 pub(crate) const FUNDED_AGAIN: &[Row] = &[
     (
-        Asks::Statement(0, 10),
+        ShortAsk::Statement(0, 10),
         1000,
         None,
         ExpectedReply::Lines(&[]),
     ),
-    (Asks::Fund("F2", 300), 1000, None, ExpectedReply::Done("F2")),
     (
-        Asks::Statement(0, 10),
+        ShortAsk::Fund("F2", 300),
+        1000,
+        None,
+        ExpectedReply::Done("F2"),
+    ),
+    (
+        ShortAsk::Statement(0, 10),
         1000,
         None,
         ExpectedReply::Lines(&[(1, LineKind::Funded, None, "F2", 300, 800)]),

@@ -1,6 +1,6 @@
 //! What a participant is answered that funds, submits and learns outcomes.
 use crate::ledger::answering::Row;
-use crate::ledger::asked::Asks;
+use crate::ledger::asked::ShortAsk;
 use crate::ledger::cases::{Does, First, goes};
 use crate::ledger::told::ExpectedReply;
 use inst_base::Fault;
@@ -9,80 +9,85 @@ use inst_fixtures::End;
 
 const FUNDS_AND_LEARNS: &[Row] = &[
     (
-        Asks::Investigate("T1"),
+        ShortAsk::Investigate("T1"),
         0,
         Some(End::Accepted),
         ExpectedReply::Refused(Fault::UnknownTransfer),
     ),
-    (Asks::Fund("F1", 50_000), 0, None, ExpectedReply::Done("F1")),
     (
-        Asks::Submit("T1", 1, 20_000, 1000),
+        ShortAsk::Fund("F1", 50_000),
+        0,
+        None,
+        ExpectedReply::Done("F1"),
+    ),
+    (
+        ShortAsk::Submit("T1", 1, 20_000, 1000),
         1000,
         None,
         ExpectedReply::Taken("T1", 11_000),
     ),
     (
-        Asks::Investigate("T1"),
+        ShortAsk::Investigate("T1"),
         10_999,
         None,
         ExpectedReply::Pending(0, "T1"),
     ),
     (
-        Asks::Position,
+        ShortAsk::Position,
         10_999,
         None,
         ExpectedReply::Position(50_000, 20_000, 30_000),
     ),
     (
-        Asks::Investigate("T1"),
+        ShortAsk::Investigate("T1"),
         11_000,
         Some(End::Accepted),
         ExpectedReply::Decided(0, "T1", End::Accepted),
     ),
     (
-        Asks::Investigate("T1"),
+        ShortAsk::Investigate("T1"),
         11_000,
         Some(End::TimedOut),
         ExpectedReply::Decided(0, "T1", End::Accepted),
     ),
     (
-        Asks::Investigate("T1"),
+        ShortAsk::Investigate("T1"),
         11_000,
         None,
         ExpectedReply::Decided(0, "T1", End::Accepted),
     ),
     (
-        Asks::Submit("T2", 1, 20_000, 1000),
+        ShortAsk::Submit("T2", 1, 20_000, 1000),
         1000,
         None,
         ExpectedReply::Taken("T2", 11_000),
     ),
     (
-        Asks::Submit("T3", 1, 20_000, 1000),
+        ShortAsk::Submit("T3", 1, 20_000, 1000),
         1000,
         None,
         ExpectedReply::Refused(Fault::Full),
     ),
     (
-        Asks::Investigate("T2"),
+        ShortAsk::Investigate("T2"),
         11_000,
         Some(End::TimedOut),
         ExpectedReply::Decided(0, "T2", End::TimedOut),
     ),
     (
-        Asks::Defund("D1", 5000),
+        ShortAsk::Defund("D1", 5000),
         3000,
         None,
         ExpectedReply::Done("D1"),
     ),
     (
-        Asks::Position,
+        ShortAsk::Position,
         3000,
         None,
         ExpectedReply::Position(25_000, 0, 25_000),
     ),
     (
-        Asks::Statement(0, 10),
+        ShortAsk::Statement(0, 10),
         3000,
         None,
         ExpectedReply::Lines(&[
@@ -92,25 +97,25 @@ const FUNDS_AND_LEARNS: &[Row] = &[
         ]),
     ),
     (
-        Asks::Statement(1, 1),
+        ShortAsk::Statement(1, 1),
         3000,
         None,
         ExpectedReply::Lines(&[(2, LineKind::Paid, Some(1), "T1", 20_000, 30_000)]),
     ),
     (
-        Asks::Statement(2, 10),
+        ShortAsk::Statement(2, 10),
         3000,
         None,
         ExpectedReply::Lines(&[(3, LineKind::Defunded, None, "D1", 5000, 25_000)]),
     ),
     (
-        Asks::Statement(3, 10),
+        ShortAsk::Statement(3, 10),
         3000,
         None,
         ExpectedReply::Lines(&[]),
     ),
     (
-        Asks::Statement(u64::MAX, 100),
+        ShortAsk::Statement(u64::MAX, 100),
         3000,
         None,
         ExpectedReply::Lines(&[]),
@@ -136,40 +141,50 @@ fn funds_submits_and_learns(rt: HostRuntime) -> Result<(), Fault> {
 }
 
 const REPEATS: &[Row] = &[
-    (Asks::Fund("F1", 50_000), 0, None, ExpectedReply::Done("F1")),
-    (Asks::Fund("F1", 50_000), 0, None, ExpectedReply::Done("F1")),
     (
-        Asks::Defund("F1", 50_000),
+        ShortAsk::Fund("F1", 50_000),
+        0,
+        None,
+        ExpectedReply::Done("F1"),
+    ),
+    (
+        ShortAsk::Fund("F1", 50_000),
+        0,
+        None,
+        ExpectedReply::Done("F1"),
+    ),
+    (
+        ShortAsk::Defund("F1", 50_000),
         0,
         None,
         ExpectedReply::Refused(Fault::Duplicate),
     ),
     (
-        Asks::Submit("T1", 1, 20_000, 1000),
+        ShortAsk::Submit("T1", 1, 20_000, 1000),
         1000,
         None,
         ExpectedReply::Taken("T1", 11_000),
     ),
     (
-        Asks::Submit("T1", 1, 20_000, 1000),
+        ShortAsk::Submit("T1", 1, 20_000, 1000),
         20_000,
         None,
         ExpectedReply::Taken("T1", 11_000),
     ),
     (
-        Asks::Submit("T1", 1, 50_000, 1000),
+        ShortAsk::Submit("T1", 1, 50_000, 1000),
         1000,
         None,
         ExpectedReply::Refused(Fault::Duplicate),
     ),
     (
-        Asks::Submit("T2", 1, 50_000, 1000),
+        ShortAsk::Submit("T2", 1, 50_000, 1000),
         1000,
         None,
         ExpectedReply::Refused(Fault::Shortage),
     ),
     (
-        Asks::Position,
+        ShortAsk::Position,
         1000,
         None,
         ExpectedReply::Position(50_000, 20_000, 30_000),
@@ -197,39 +212,44 @@ fn repeats_its_commands(rt: HostRuntime) -> Result<(), Fault> {
 }
 
 const ONE_REJECTED: &[Row] = &[
-    (Asks::Fund("F1", 500), 1000, None, ExpectedReply::Done("F1")),
     (
-        Asks::Submit("T1", 1, 200, 1000),
+        ShortAsk::Fund("F1", 500),
+        1000,
+        None,
+        ExpectedReply::Done("F1"),
+    ),
+    (
+        ShortAsk::Submit("T1", 1, 200, 1000),
         1000,
         None,
         ExpectedReply::Taken("T1", 11_000),
     ),
     (
-        Asks::Submit("T2", 1, 100, 1000),
+        ShortAsk::Submit("T2", 1, 100, 1000),
         1000,
         None,
         ExpectedReply::Taken("T2", 11_000),
     ),
     (
-        Asks::Investigate("T2"),
+        ShortAsk::Investigate("T2"),
         1000,
         Some(End::Rejected("AC04")),
         ExpectedReply::Decided(0, "T2", End::Rejected("AC04")),
     ),
     (
-        Asks::Investigate("T1"),
+        ShortAsk::Investigate("T1"),
         1000,
         Some(End::Accepted),
         ExpectedReply::Decided(0, "T1", End::Accepted),
     ),
     (
-        Asks::Defund("G1", 100),
+        ShortAsk::Defund("G1", 100),
         1000,
         None,
         ExpectedReply::Done("G1"),
     ),
     (
-        Asks::Statement(0, 10),
+        ShortAsk::Statement(0, 10),
         1000,
         None,
         ExpectedReply::Lines(&[
@@ -239,7 +259,7 @@ const ONE_REJECTED: &[Row] = &[
         ]),
     ),
     (
-        Asks::Statement(0, 1),
+        ShortAsk::Statement(0, 1),
         1000,
         None,
         ExpectedReply::Lines(&[(1, LineKind::Funded, None, "F1", 500, 500)]),

@@ -1,69 +1,74 @@
 //! Commands that are refused.
 use crate::ledger::answering::Row;
-use crate::ledger::asked::Asks;
+use crate::ledger::asked::ShortAsk;
 use crate::ledger::cases::{Does, First, goes};
 use crate::ledger::told::ExpectedReply;
 use inst_base::Fault;
 use inst_fixtures::End;
 
 const REFUSED: &[Row] = &[
-    (Asks::Fund("F1", 1000), 0, None, ExpectedReply::Done("F1")),
     (
-        Asks::Submit("T1", 1, 400, 1000),
+        ShortAsk::Fund("F1", 1000),
+        0,
+        None,
+        ExpectedReply::Done("F1"),
+    ),
+    (
+        ShortAsk::Submit("T1", 1, 400, 1000),
         1000,
         None,
         ExpectedReply::Taken("T1", 11_000),
     ),
     (
-        Asks::Submit("T1", 0, 601, 2001),
+        ShortAsk::Submit("T1", 0, 601, 2001),
         1000,
         None,
         ExpectedReply::Refused(Fault::SelfTransfer),
     ),
     (
-        Asks::Investigate("T2"),
+        ShortAsk::Investigate("T2"),
         1000,
         Some(End::Accepted),
         ExpectedReply::Refused(Fault::UnknownTransfer),
     ),
     (
-        Asks::Confirm(0, "T1"),
+        ShortAsk::Confirm(0, "T1"),
         1000,
         Some(End::Accepted),
         ExpectedReply::Refused(Fault::UnknownTransfer),
     ),
     (
-        Asks::Submit("T1", 1, 601, 2001),
+        ShortAsk::Submit("T1", 1, 601, 2001),
         1000,
         None,
         ExpectedReply::Refused(Fault::Duplicate),
     ),
     (
-        Asks::Submit("T2", 1, 601, 2001),
+        ShortAsk::Submit("T2", 1, 601, 2001),
         1000,
         None,
         ExpectedReply::Refused(Fault::StampAhead),
     ),
     (
-        Asks::Submit("T2", 1, 601, 1000),
+        ShortAsk::Submit("T2", 1, 601, 1000),
         11_000,
         None,
         ExpectedReply::Refused(Fault::Expired),
     ),
     (
-        Asks::Submit("T2", 1, 601, 1000),
+        ShortAsk::Submit("T2", 1, 601, 1000),
         10_999,
         None,
         ExpectedReply::Refused(Fault::Shortage),
     ),
     (
-        Asks::Submit("T2", 1, 400, 1000),
+        ShortAsk::Submit("T2", 1, 400, 1000),
         10_999,
         None,
         ExpectedReply::Taken("T2", 11_000),
     ),
     (
-        Asks::Submit("T3", 1, 601, 1000),
+        ShortAsk::Submit("T3", 1, 601, 1000),
         10_999,
         None,
         ExpectedReply::Refused(Fault::Full),

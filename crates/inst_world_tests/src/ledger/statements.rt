@@ -1,7 +1,7 @@
 //! What is funded, paid, received and defunded, in parts of a statement: as the ledger keeps its
 //! lines, and as a walk over the events gives them.
 use crate::ledger::answering::Row;
-use crate::ledger::asked::Asks;
+use crate::ledger::asked::ShortAsk;
 use crate::ledger::cases::{Does, First, goes};
 use crate::ledger::openings::FUNDED_AGAIN;
 use crate::ledger::told::ExpectedReply;
@@ -11,32 +11,37 @@ use inst_fixtures::{End, Shown};
 
 const MOVES: &[Row] = &[
     (
-        Asks::Statement(0, 10),
+        ShortAsk::Statement(0, 10),
         1000,
         None,
         ExpectedReply::Lines(&[]),
     ),
-    (Asks::Fund("F1", 500), 1000, None, ExpectedReply::Done("F1")),
     (
-        Asks::Submit("T1", 2, 200, 1000),
+        ShortAsk::Fund("F1", 500),
+        1000,
+        None,
+        ExpectedReply::Done("F1"),
+    ),
+    (
+        ShortAsk::Submit("T1", 2, 200, 1000),
         1000,
         None,
         ExpectedReply::Taken("T1", 11_000),
     ),
     (
-        Asks::Investigate("T1"),
+        ShortAsk::Investigate("T1"),
         1000,
         Some(End::Accepted),
         ExpectedReply::Decided(1, "T1", End::Accepted),
     ),
     (
-        Asks::Confirm(2, "T1"),
+        ShortAsk::Confirm(2, "T1"),
         1000,
         Some(End::Accepted),
         ExpectedReply::Decided(2, "T1", End::Accepted),
     ),
     (
-        Asks::Defund("G1", 100),
+        ShortAsk::Defund("G1", 100),
         1000,
         None,
         ExpectedReply::Done("G1"),
@@ -52,13 +57,13 @@ const LINES: &[Shown] = &[
 
 const PARTS: &[Row] = &[
     (
-        Asks::Statement(0, 10),
+        ShortAsk::Statement(0, 10),
         1000,
         None,
         ExpectedReply::Lines(LINES),
     ),
     (
-        Asks::Statement(1, 2),
+        ShortAsk::Statement(1, 2),
         1000,
         None,
         ExpectedReply::Lines(&[
@@ -67,19 +72,19 @@ const PARTS: &[Row] = &[
         ]),
     ),
     (
-        Asks::Statement(3, 10),
+        ShortAsk::Statement(3, 10),
         1000,
         None,
         ExpectedReply::Lines(&[(4, LineKind::Defunded, None, "G1", 100, 500)]),
     ),
     (
-        Asks::Statement(4, 10),
+        ShortAsk::Statement(4, 10),
         1000,
         None,
         ExpectedReply::Lines(&[]),
     ),
     (
-        Asks::Statement(u64::MAX, 100),
+        ShortAsk::Statement(u64::MAX, 100),
         1000,
         None,
         ExpectedReply::Lines(&[]),

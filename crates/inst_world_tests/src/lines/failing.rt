@@ -87,7 +87,7 @@ fn a_reader_fails_at_each_byte(rt: HostRuntime) -> Result<(), Fail> {
 
 /// How the writer of a test takes bytes: so many at once, and how it fails.
 #[derive(Clone, Copy)]
-struct Taking {
+struct WriterLimits {
     most: usize,
     manner: Manner,
 }
@@ -97,7 +97,7 @@ fn write_fails(
     rt: &(impl Abort + AllocGlobal),
     settings: &Settings,
     mode: Mode,
-    taking: Taking,
+    taking: WriterLimits,
     input: &[u8],
     front: &[u8],
 ) {
@@ -118,7 +118,7 @@ fn writes_fail_in(
     rt: &(impl Abort + AllocGlobal),
     settings: &Settings,
     mode: Mode,
-    taking: Taking,
+    taking: WriterLimits,
     input: &[u8],
     replies: &[u8],
 ) {
@@ -133,7 +133,7 @@ fn writes_fail(
     rt: &(impl Abort + AllocGlobal),
     settings: &Settings,
     mode: Mode,
-    taking: Taking,
+    taking: WriterLimits,
     input: &[u8],
 ) -> Result<(), Fail> {
     let replies = written(rt.alloc(), mode, settings, input)?;
@@ -145,7 +145,7 @@ fn writes_fail(
 fn writes_fail_in_each_mode(
     rt: &(impl Abort + AllocGlobal),
     settings: &Settings,
-    taking: Taking,
+    taking: WriterLimits,
 ) -> Result<(), Fail> {
     let input = lines_of(rt.alloc(), FUND_THEN_POSITION)?;
     writes_fail(rt, settings, Mode::Run, taking, &input)?;
@@ -159,7 +159,7 @@ fn writes_fail_in_each_manner(
 ) -> Result<(), Fail> {
     for &most in SIZES {
         for &manner in &[Manner::Fails, Manner::TakesNone] {
-            writes_fail_in_each_mode(rt, settings, Taking { most, manner })?;
+            writes_fail_in_each_mode(rt, settings, WriterLimits { most, manner })?;
         }
     }
     Ok(())

@@ -11,14 +11,14 @@ use std::test::Fail;
 
 /// The first calls in order: `r` for a read, `w` for a write, `f` for a flush.
 #[derive(Drop)]
-struct Log {
+struct CallLog {
     events: Cell<[u8; 16]>,
     len: Cell<usize>,
 }
 
-impl Log {
-    fn new() -> Log {
-        Log {
+impl CallLog {
+    fn new() -> CallLog {
+        CallLog {
             events: Cell::new([b' '; 16]),
             len: Cell::new(0),
         }
@@ -45,7 +45,7 @@ impl Log {
 #[derive(Drop)]
 struct NotingReader<'a> {
     pieces: Pieces<'a>,
-    log: &'a Log,
+    log: &'a CallLog,
 }
 
 impl Read for NotingReader<'_> {
@@ -59,7 +59,7 @@ impl Read for NotingReader<'_> {
 #[derive(Drop)]
 struct NotingWriter<'a> {
     taken: Vec<u8>,
-    log: &'a Log,
+    log: &'a CallLog,
 }
 
 impl Write for NotingWriter<'_> {
@@ -88,7 +88,7 @@ fn run_pieces(
     events: &[u8],
 ) -> Result<(), Fail> {
     let alloc = rt.alloc();
-    let log = Log::new();
+    let log = CallLog::new();
     let mut reader = NotingReader {
         pieces: Pieces {
             bytes: input,

@@ -1,10 +1,10 @@
 //! Lines of books, and the books that they make.
 
 /// Lines of books.
-pub(crate) type Lines = &'static [&'static [u8]];
+pub(crate) type BookLines = &'static [&'static [u8]];
 
 /// The books that a hub opened from, if it opened again, and those that it left.
-pub(crate) type Books = (Option<Lines>, Lines);
+pub(crate) type HubBooks = (Option<BookLines>, BookLines);
 
 const A_FUNDED: &[u8] = br#"{"book":"AAAADEFF","cents":500,"event":"funded","ref":"F1"}"#;
 
@@ -99,7 +99,7 @@ const ACCEPTED: &[&[u8]] = &[
 const ONE_PENDING: &[&[u8]] = &[A_FUNDED, TAKEN, A_TIMED_OUT, TAKEN_2, DELIVERED_2];
 
 /// Books that steps explain, with how many.
-pub(crate) const EXPLAINED: &[(Books, usize)] = &[
+pub(crate) const EXPLAINED: &[(HubBooks, usize)] = &[
     // nothing
     ((None, &[]), 0),
     // pending
@@ -176,7 +176,7 @@ pub(crate) const EXPLAINED: &[(Books, usize)] = &[
 ];
 
 /// Books that no steps explain.
-pub(crate) const UNEXPLAINED: &[Books] = &[
+pub(crate) const UNEXPLAINED: &[HubBooks] = &[
     // each pays with what only the other one pays it
     (
         None,

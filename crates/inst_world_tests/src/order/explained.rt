@@ -1,6 +1,6 @@
 use crate::comparing::{same, same_at};
 use crate::logged::keeping::text_of;
-use crate::order::books::{Books, EXPLAINED, UNEXPLAINED};
+use crate::order::books::{EXPLAINED, HubBooks, UNEXPLAINED};
 use inst_books::{can_open, read_books};
 use inst_fixtures::{settings, settings_with};
 use inst_journal::Journal;
@@ -19,7 +19,7 @@ fn journals_of(alloc: Global, settings: &Settings, lines: &[&[u8]]) -> Result<Ve
 fn steps_of(
     rt: &(impl Abort + AllocGlobal),
     margin: u32,
-    books: &Books,
+    books: &HubBooks,
 ) -> Result<Option<usize>, Fail> {
     let alloc = rt.alloc();
     let (opening, lines) = *books;

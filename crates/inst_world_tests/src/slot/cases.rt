@@ -1,7 +1,7 @@
 //! What is done, one act after another, what is answered, and what is kept.
-use crate::ledger::asked::{Asks, command};
+use crate::ledger::asked::{ShortAsk, command};
 use crate::slot::answers::{ExpectedResult, tells};
-use crate::slot::histories::{Kept, are_copied, copied, keeps};
+use crate::slot::histories::{ShortEvent, are_copied, copied, keeps};
 use inst_base::{Fault, Ident, Moment, mention};
 use inst_command::{Answer, Place};
 use inst_fixtures::{Act, Slots};
@@ -56,20 +56,20 @@ const SUBMITTED: &[Row] = &[
 pub(crate) struct Case {
     pub(crate) margin: u32,
     pub(crate) rows: &'static [Row],
-    pub(crate) histories: [&'static [Kept]; 3],
+    pub(crate) histories: [&'static [ShortEvent]; 3],
 }
 
 /// What is asked, or none for a step or a question.
-fn asks(does: &Does) -> Option<Asks> {
+fn asks(does: &Does) -> Option<ShortAsk> {
     Some(match *does {
-        Does::Fund(reference, cents) => Asks::Fund(reference, cents),
-        Does::Submit(id, to, cents, stamp) => Asks::Submit(id, to, cents, stamp),
-        Does::Confirm(from, id) => Asks::Confirm(from, id),
-        Does::Reject(from, id, reason) => Asks::Reject(from, id, reason),
-        Does::Investigate(id) => Asks::Investigate(id),
-        Does::Fetch(max) => Asks::Fetch(max),
-        Does::Position => Asks::Position,
-        Does::Statement => Asks::Statement(0, 10),
+        Does::Fund(reference, cents) => ShortAsk::Fund(reference, cents),
+        Does::Submit(id, to, cents, stamp) => ShortAsk::Submit(id, to, cents, stamp),
+        Does::Confirm(from, id) => ShortAsk::Confirm(from, id),
+        Does::Reject(from, id, reason) => ShortAsk::Reject(from, id, reason),
+        Does::Investigate(id) => ShortAsk::Investigate(id),
+        Does::Fetch(max) => ShortAsk::Fetch(max),
+        Does::Position => ShortAsk::Position,
+        Does::Statement => ShortAsk::Statement(0, 10),
         _ => return None,
     })
 }
@@ -193,7 +193,7 @@ fn submits_and_follows(rt: &impl Abort, slots: &mut Slots, case: &Case) -> Resul
 
 /// The hub that followed the case after T1 was submitted.
 fn followed(rt: &(impl Abort + AllocGlobal), case: &Case) -> Result<Slots, Fail> {
-    mention::<Kept>();
+    mention::<ShortEvent>();
     let mut slots = opened(rt.alloc(), case.margin)?;
     submits_and_follows(rt, &mut slots, case)?;
     Ok(slots)

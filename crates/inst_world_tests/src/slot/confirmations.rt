@@ -1,7 +1,7 @@
 //! How a transfer is confirmed or rejected, and both sides book it.
 use crate::slot::answers::ExpectedResult;
 use crate::slot::cases::{Case, Does, comes};
-use crate::slot::histories::Kept;
+use crate::slot::histories::ShortEvent;
 use inst_base::Fault;
 use inst_fixtures::End;
 use std::test::Fail;
@@ -59,13 +59,13 @@ const CONFIRMED_BEFORE_EXPIRE: Case = Case {
     ],
     histories: [
         &[
-            Kept::Funded("F1", 50_000),
-            Kept::Taken("T1", 1, 20_000, 1000),
-            Kept::Booked(0, "T1", End::Accepted),
+            ShortEvent::Funded("F1", 50_000),
+            ShortEvent::Taken("T1", 1, 20_000, 1000),
+            ShortEvent::Booked(0, "T1", End::Accepted),
         ],
         &[
-            Kept::Forwarded(0, "T1", 20_000, 11_000),
-            Kept::Booked(0, "T1", End::Accepted),
+            ShortEvent::Forwarded(0, "T1", 20_000, 11_000),
+            ShortEvent::Booked(0, "T1", End::Accepted),
         ],
         &[],
     ],
@@ -97,13 +97,13 @@ const CONFIRMED_LATE: Case = Case {
     ],
     histories: [
         &[
-            Kept::Funded("F1", 50_000),
-            Kept::Taken("T1", 1, 20_000, 1000),
-            Kept::Booked(0, "T1", End::TimedOut),
+            ShortEvent::Funded("F1", 50_000),
+            ShortEvent::Taken("T1", 1, 20_000, 1000),
+            ShortEvent::Booked(0, "T1", End::TimedOut),
         ],
         &[
-            Kept::Forwarded(0, "T1", 20_000, 11_000),
-            Kept::Booked(0, "T1", End::TimedOut),
+            ShortEvent::Forwarded(0, "T1", 20_000, 11_000),
+            ShortEvent::Booked(0, "T1", End::TimedOut),
         ],
         &[],
     ],
@@ -146,13 +146,13 @@ const UNTOLD_THEN_LEARNT: Case = Case {
     ],
     histories: [
         &[
-            Kept::Funded("F1", 50_000),
-            Kept::Taken("T1", 1, 20_000, 1000),
-            Kept::Booked(0, "T1", End::Accepted),
+            ShortEvent::Funded("F1", 50_000),
+            ShortEvent::Taken("T1", 1, 20_000, 1000),
+            ShortEvent::Booked(0, "T1", End::Accepted),
         ],
         &[
-            Kept::Forwarded(0, "T1", 20_000, 11_000),
-            Kept::Booked(0, "T1", End::Accepted),
+            ShortEvent::Forwarded(0, "T1", 20_000, 11_000),
+            ShortEvent::Booked(0, "T1", End::Accepted),
         ],
         &[],
     ],
@@ -194,13 +194,13 @@ const REJECTED_WITH_REASON: Case = Case {
     ],
     histories: [
         &[
-            Kept::Funded("F1", 50_000),
-            Kept::Taken("T1", 1, 20_000, 1000),
-            Kept::Booked(0, "T1", End::Rejected("AC04")),
+            ShortEvent::Funded("F1", 50_000),
+            ShortEvent::Taken("T1", 1, 20_000, 1000),
+            ShortEvent::Booked(0, "T1", End::Rejected("AC04")),
         ],
         &[
-            Kept::Forwarded(0, "T1", 20_000, 11_000),
-            Kept::Booked(0, "T1", End::Rejected("AC04")),
+            ShortEvent::Forwarded(0, "T1", 20_000, 11_000),
+            ShortEvent::Booked(0, "T1", End::Rejected("AC04")),
         ],
         &[],
     ],
@@ -242,12 +242,12 @@ const CONFIRMED_IN_THE_MARGIN: Case = Case {
     ],
     histories: [
         &[
-            Kept::Funded("F1", 50_000),
-            Kept::Taken("T1", 1, 20_000, 1000),
+            ShortEvent::Funded("F1", 50_000),
+            ShortEvent::Taken("T1", 1, 20_000, 1000),
         ],
         &[
-            Kept::Forwarded(0, "T1", 20_000, 11_000),
-            Kept::Booked(0, "T1", End::Rejected("AC04")),
+            ShortEvent::Forwarded(0, "T1", 20_000, 11_000),
+            ShortEvent::Booked(0, "T1", End::Rejected("AC04")),
         ],
         &[],
     ],

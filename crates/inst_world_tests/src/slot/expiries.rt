@@ -1,7 +1,7 @@
 //! How a transfer times out.
 use crate::slot::answers::ExpectedResult;
 use crate::slot::cases::{Case, Does, comes};
-use crate::slot::histories::Kept;
+use crate::slot::histories::ShortEvent;
 use inst_base::Fault;
 use inst_fixtures::End;
 use std::test::Fail;
@@ -21,13 +21,13 @@ const EXPIRE_BEFORE_CONFIRM: Case = Case {
     ],
     histories: [
         &[
-            Kept::Funded("F1", 50_000),
-            Kept::Taken("T1", 1, 20_000, 1000),
-            Kept::Booked(0, "T1", End::TimedOut),
+            ShortEvent::Funded("F1", 50_000),
+            ShortEvent::Taken("T1", 1, 20_000, 1000),
+            ShortEvent::Booked(0, "T1", End::TimedOut),
         ],
         &[
-            Kept::Forwarded(0, "T1", 20_000, 11_000),
-            Kept::Booked(0, "T1", End::TimedOut),
+            ShortEvent::Forwarded(0, "T1", 20_000, 11_000),
+            ShortEvent::Booked(0, "T1", End::TimedOut),
         ],
         &[],
     ],
@@ -53,9 +53,9 @@ const EXPIRED_BEFORE_DELIVERY: Case = Case {
     ],
     histories: [
         &[
-            Kept::Funded("F1", 50_000),
-            Kept::Taken("T1", 1, 20_000, 1000),
-            Kept::Booked(0, "T1", End::TimedOut),
+            ShortEvent::Funded("F1", 50_000),
+            ShortEvent::Taken("T1", 1, 20_000, 1000),
+            ShortEvent::Booked(0, "T1", End::TimedOut),
         ],
         &[],
         &[],
@@ -98,9 +98,9 @@ const INVESTIGATE_AT_THE_DEADLINE: Case = Case {
     ],
     histories: [
         &[
-            Kept::Funded("F1", 50_000),
-            Kept::Taken("T1", 1, 20_000, 1000),
-            Kept::Booked(0, "T1", End::TimedOut),
+            ShortEvent::Funded("F1", 50_000),
+            ShortEvent::Taken("T1", 1, 20_000, 1000),
+            ShortEvent::Booked(0, "T1", End::TimedOut),
         ],
         &[],
         &[],
@@ -149,10 +149,10 @@ const DUE_ONE_AFTER_ANOTHER: Case = Case {
     ],
     histories: [
         &[
-            Kept::Funded("F1", 50_000),
-            Kept::Taken("T1", 1, 20_000, 1000),
-            Kept::Taken("T2", 1, 200, 500),
-            Kept::Booked(0, "T2", End::TimedOut),
+            ShortEvent::Funded("F1", 50_000),
+            ShortEvent::Taken("T1", 1, 20_000, 1000),
+            ShortEvent::Taken("T2", 1, 200, 500),
+            ShortEvent::Booked(0, "T2", End::TimedOut),
         ],
         &[],
         &[],

@@ -4,7 +4,7 @@ use inst_journal::Event;
 use std::process::Abort;
 
 #[derive(Clone, Copy)]
-pub(crate) enum Kept {
+pub(crate) enum ShortEvent {
     Funded(&'static str, u64),
     Taken(&'static str, u8, u64, u64),
     Forwarded(u8, &'static str, u64, u64),
@@ -13,9 +13,9 @@ pub(crate) enum Kept {
     Opened,
 }
 
-fn is_kept(event: &Event, kept: &Kept) -> bool {
+fn is_kept(event: &Event, kept: &ShortEvent) -> bool {
     match (event, kept) {
-        (Event::Funded(funding), Kept::Funded(text, amount)) => {
+        (Event::Funded(funding), ShortEvent::Funded(text, amount)) => {
             funding.reference.text() == *text && funding.cents.get() == *amount
         }
         (
@@ -25,7 +25,7 @@ fn is_kept(event: &Event, kept: &Kept) -> bool {
                 cents,
                 stamp,
             },
-            Kept::Taken(text, beneficiary, amount, at),
+            ShortEvent::Taken(text, beneficiary, amount, at),
         ) => {
             id.text() == *text
                 && to == beneficiary
@@ -39,24 +39,24 @@ fn is_kept(event: &Event, kept: &Kept) -> bool {
                 cents,
                 deadline,
             },
-            Kept::Forwarded(originator, text, amount, end),
+            ShortEvent::Forwarded(originator, text, amount, end),
         ) => {
             from == originator
                 && id.text() == *text
                 && cents.get() == *amount
                 && deadline.past_base() == *end
         }
-        (Event::Booked { from, id, outcome }, Kept::Booked(originator, text, end)) => {
+        (Event::Booked { from, id, outcome }, ShortEvent::Booked(originator, text, end)) => {
             from == originator && id.text() == *text && is_end(outcome, end)
         }
-        (Event::Fetched { count }, Kept::Fetched(wanted)) => count == wanted,
-        (Event::Opened, Kept::Opened) => true,
+        (Event::Fetched { count }, ShortEvent::Fetched(wanted)) => count == wanted,
+        (Event::Opened, ShortEvent::Opened) => true,
         _ => false,
     }
 }
 
 /// The number of the first event that is another one than is wanted, if there is one.
-fn first_other(events: &[Event], wanted: &[Kept]) -> Option<usize> {
+fn first_other(events: &[Event], wanted: &[ShortEvent]) -> Option<usize> {
     for (nth, (event, kept)) in events.iter().zip(wanted).enumerate() {
         if !is_kept(event, kept) {
             return Some(nth);
@@ -66,7 +66,7 @@ fn first_other(events: &[Event], wanted: &[Kept]) -> Option<usize> {
 }
 
 /// Compares a history, event by event.
-pub(crate) fn keeps(rt: &impl Abort, events: &[Event], wanted: &[Kept]) {
+pub(crate) fn keeps(rt: &impl Abort, events: &[Event], wanted: &[ShortEvent]) {
     let found = (events.len(), first_other(events, wanted));
     assert_eq!(rt; found, (wanted.len(), None));
 }

@@ -1,7 +1,7 @@
 //! Slots that open again from the books of a hub.
 use crate::slot::answers::ExpectedResult;
 use crate::slot::cases::{Case, Does, comes_again};
-use crate::slot::histories::Kept;
+use crate::slot::histories::ShortEvent;
 use inst_base::Fault;
 use inst_command::LineKind;
 use inst_fixtures::End;
@@ -30,16 +30,16 @@ const ONE_SETTLED: Case = Case {
     ],
     histories: [
         &[
-            Kept::Funded("F1", 50_000),
-            Kept::Taken("T1", 1, 20_000, 1000),
-            Kept::Taken("T2", 1, 200, 1500),
-            Kept::Booked(0, "T1", End::Accepted),
+            ShortEvent::Funded("F1", 50_000),
+            ShortEvent::Taken("T1", 1, 20_000, 1000),
+            ShortEvent::Taken("T2", 1, 200, 1500),
+            ShortEvent::Booked(0, "T1", End::Accepted),
         ],
         &[
-            Kept::Forwarded(0, "T1", 20_000, 11_000),
-            Kept::Forwarded(0, "T2", 200, 11_500),
-            Kept::Fetched(1),
-            Kept::Booked(0, "T1", End::Accepted),
+            ShortEvent::Forwarded(0, "T1", 20_000, 11_000),
+            ShortEvent::Forwarded(0, "T2", 200, 11_500),
+            ShortEvent::Fetched(1),
+            ShortEvent::Booked(0, "T1", End::Accepted),
         ],
         &[],
     ],
@@ -124,23 +124,23 @@ const CARRIED_AND_ADOPTED: Case = Case {
     ],
     histories: [
         &[
-            Kept::Funded("F1", 50_000),
-            Kept::Taken("T1", 1, 20_000, 1000),
-            Kept::Taken("T2", 1, 200, 1500),
-            Kept::Booked(0, "T1", End::Accepted),
-            Kept::Opened,
-            Kept::Booked(0, "T2", End::Accepted),
+            ShortEvent::Funded("F1", 50_000),
+            ShortEvent::Taken("T1", 1, 20_000, 1000),
+            ShortEvent::Taken("T2", 1, 200, 1500),
+            ShortEvent::Booked(0, "T1", End::Accepted),
+            ShortEvent::Opened,
+            ShortEvent::Booked(0, "T2", End::Accepted),
         ],
         &[
-            Kept::Forwarded(0, "T1", 20_000, 11_000),
-            Kept::Forwarded(0, "T2", 200, 11_500),
-            Kept::Fetched(1),
-            Kept::Booked(0, "T1", End::Accepted),
-            Kept::Opened,
-            Kept::Fetched(1),
-            Kept::Booked(0, "T2", End::Accepted),
+            ShortEvent::Forwarded(0, "T1", 20_000, 11_000),
+            ShortEvent::Forwarded(0, "T2", 200, 11_500),
+            ShortEvent::Fetched(1),
+            ShortEvent::Booked(0, "T1", End::Accepted),
+            ShortEvent::Opened,
+            ShortEvent::Fetched(1),
+            ShortEvent::Booked(0, "T2", End::Accepted),
         ],
-        &[Kept::Opened],
+        &[ShortEvent::Opened],
     ],
 };
 
@@ -194,22 +194,22 @@ const PLACES_GIVEN_BACK: Case = Case {
     ],
     histories: [
         &[
-            Kept::Funded("F1", 50_000),
-            Kept::Taken("T1", 1, 20_000, 1000),
-            Kept::Taken("T2", 1, 200, 1500),
-            Kept::Booked(0, "T1", End::Accepted),
-            Kept::Opened,
-            Kept::Taken("T3", 1, 300, 3000),
-            Kept::Booked(0, "T2", End::TimedOut),
+            ShortEvent::Funded("F1", 50_000),
+            ShortEvent::Taken("T1", 1, 20_000, 1000),
+            ShortEvent::Taken("T2", 1, 200, 1500),
+            ShortEvent::Booked(0, "T1", End::Accepted),
+            ShortEvent::Opened,
+            ShortEvent::Taken("T3", 1, 300, 3000),
+            ShortEvent::Booked(0, "T2", End::TimedOut),
         ],
         &[
-            Kept::Forwarded(0, "T1", 20_000, 11_000),
-            Kept::Forwarded(0, "T2", 200, 11_500),
-            Kept::Fetched(1),
-            Kept::Booked(0, "T1", End::Accepted),
-            Kept::Opened,
+            ShortEvent::Forwarded(0, "T1", 20_000, 11_000),
+            ShortEvent::Forwarded(0, "T2", 200, 11_500),
+            ShortEvent::Fetched(1),
+            ShortEvent::Booked(0, "T1", End::Accepted),
+            ShortEvent::Opened,
         ],
-        &[Kept::Opened],
+        &[ShortEvent::Opened],
     ],
 };
 
@@ -233,13 +233,13 @@ const BOTH_PENDING: Case = Case {
     ],
     histories: [
         &[
-            Kept::Funded("F1", 50_000),
-            Kept::Taken("T1", 1, 20_000, 1000),
-            Kept::Taken("T2", 1, 200, 1500),
+            ShortEvent::Funded("F1", 50_000),
+            ShortEvent::Taken("T1", 1, 20_000, 1000),
+            ShortEvent::Taken("T2", 1, 200, 1500),
         ],
         &[
-            Kept::Forwarded(0, "T1", 20_000, 11_000),
-            Kept::Forwarded(0, "T2", 200, 11_500),
+            ShortEvent::Forwarded(0, "T1", 20_000, 11_000),
+            ShortEvent::Forwarded(0, "T2", 200, 11_500),
         ],
         &[],
     ],
@@ -269,17 +269,17 @@ const OTHER_TERMS: Case = Case {
     ],
     histories: [
         &[
-            Kept::Opened,
-            Kept::Funded("F1", 50_000),
-            Kept::Taken("T1", 1, 20_001, 1000),
-            Kept::Taken("T2", 1, 200, 1501),
+            ShortEvent::Opened,
+            ShortEvent::Funded("F1", 50_000),
+            ShortEvent::Taken("T1", 1, 20_001, 1000),
+            ShortEvent::Taken("T2", 1, 200, 1501),
         ],
         &[
-            Kept::Forwarded(0, "T1", 20_000, 11_000),
-            Kept::Forwarded(0, "T2", 200, 11_500),
-            Kept::Opened,
+            ShortEvent::Forwarded(0, "T1", 20_000, 11_000),
+            ShortEvent::Forwarded(0, "T2", 200, 11_500),
+            ShortEvent::Opened,
         ],
-        &[Kept::Opened],
+        &[ShortEvent::Opened],
     ],
 };
 
@@ -320,19 +320,19 @@ const SAME_TERMS: Case = Case {
     ],
     histories: [
         &[
-            Kept::Opened,
-            Kept::Funded("F1", 50_000),
-            Kept::Taken("T2", 1, 200, 1500),
-            Kept::Taken("T1", 1, 20_000, 1000),
-            Kept::Booked(0, "T2", End::Rejected("AC04")),
+            ShortEvent::Opened,
+            ShortEvent::Funded("F1", 50_000),
+            ShortEvent::Taken("T2", 1, 200, 1500),
+            ShortEvent::Taken("T1", 1, 20_000, 1000),
+            ShortEvent::Booked(0, "T2", End::Rejected("AC04")),
         ],
         &[
-            Kept::Forwarded(0, "T1", 20_000, 11_000),
-            Kept::Forwarded(0, "T2", 200, 11_500),
-            Kept::Opened,
-            Kept::Booked(0, "T2", End::Rejected("AC04")),
+            ShortEvent::Forwarded(0, "T1", 20_000, 11_000),
+            ShortEvent::Forwarded(0, "T2", 200, 11_500),
+            ShortEvent::Opened,
+            ShortEvent::Booked(0, "T2", End::Rejected("AC04")),
         ],
-        &[Kept::Opened],
+        &[ShortEvent::Opened],
     ],
 };
 

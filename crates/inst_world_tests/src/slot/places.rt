@@ -1,7 +1,7 @@
 //! Where transfers lie, and which are delivered from there.
 use crate::slot::answers::ExpectedResult;
 use crate::slot::cases::{Case, Does, comes};
-use crate::slot::histories::Kept;
+use crate::slot::histories::ShortEvent;
 use inst_base::Fault;
 use inst_fixtures::End;
 use std::test::Fail;
@@ -26,10 +26,10 @@ const WRONG_DELIVERIES: Case = Case {
     ],
     histories: [
         &[
-            Kept::Funded("F1", 50_000),
-            Kept::Taken("T1", 1, 20_000, 1000),
+            ShortEvent::Funded("F1", 50_000),
+            ShortEvent::Taken("T1", 1, 20_000, 1000),
         ],
-        &[Kept::Forwarded(0, "T1", 20_000, 11_000)],
+        &[ShortEvent::Forwarded(0, "T1", 20_000, 11_000)],
         &[],
     ],
 };
@@ -81,18 +81,18 @@ const PLACES_FULL_AND_FETCHED: Case = Case {
     ],
     histories: [
         &[
-            Kept::Funded("F1", 50_000),
-            Kept::Taken("T1", 1, 20_000, 1000),
-            Kept::Taken("T2", 1, 200, 1000),
-            Kept::Booked(0, "T2", End::Accepted),
+            ShortEvent::Funded("F1", 50_000),
+            ShortEvent::Taken("T1", 1, 20_000, 1000),
+            ShortEvent::Taken("T2", 1, 200, 1000),
+            ShortEvent::Booked(0, "T2", End::Accepted),
         ],
         &[
-            Kept::Forwarded(0, "T1", 20_000, 11_000),
-            Kept::Forwarded(0, "T2", 200, 11_000),
-            Kept::Booked(0, "T1", End::Accepted),
-            Kept::Booked(0, "T2", End::Accepted),
-            Kept::Fetched(1),
-            Kept::Fetched(1),
+            ShortEvent::Forwarded(0, "T1", 20_000, 11_000),
+            ShortEvent::Forwarded(0, "T2", 200, 11_000),
+            ShortEvent::Booked(0, "T1", End::Accepted),
+            ShortEvent::Booked(0, "T2", End::Accepted),
+            ShortEvent::Fetched(1),
+            ShortEvent::Fetched(1),
         ],
         &[],
     ],
@@ -163,16 +163,16 @@ const EACH_AT_ITS_PLACE: Case = Case {
     ],
     histories: [
         &[
-            Kept::Funded("F1", 50_000),
-            Kept::Taken("T1", 1, 20_000, 1000),
-            Kept::Taken("T2", 1, 200, 1500),
-            Kept::Booked(0, "T1", End::TimedOut),
+            ShortEvent::Funded("F1", 50_000),
+            ShortEvent::Taken("T1", 1, 20_000, 1000),
+            ShortEvent::Taken("T2", 1, 200, 1500),
+            ShortEvent::Booked(0, "T1", End::TimedOut),
         ],
         &[
-            Kept::Forwarded(0, "T2", 200, 11_500),
-            Kept::Forwarded(0, "T1", 20_000, 11_000),
-            Kept::Booked(0, "T2", End::Accepted),
-            Kept::Booked(0, "T1", End::TimedOut),
+            ShortEvent::Forwarded(0, "T2", 200, 11_500),
+            ShortEvent::Forwarded(0, "T1", 20_000, 11_000),
+            ShortEvent::Booked(0, "T2", End::Accepted),
+            ShortEvent::Booked(0, "T1", End::TimedOut),
         ],
         &[],
     ],
