@@ -1,6 +1,6 @@
 //! Logs of which a byte or a line was changed: a run and a close refuse them, and they are left as
 //! they are.
-ghost use Rattle.std.specs.Prelude.{◌<◌, length, IsTrue};
+ghost use Rattle.std.specs.Prelude.{◌<◌, length};
 ghost use Rattle.inst_logged.specs.Running.{IsReadyHub};
 
 use crate::comparing::{same, same_at};

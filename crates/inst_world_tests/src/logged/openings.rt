@@ -1,5 +1,4 @@
 //! Logs that begin with the books of others.
-ghost use Rattle.std.specs.Prelude.{IsTrue};
 ghost use Rattle.inst_world.specs.NextOpening.{CanOpenFrom};
 ghost use Rattle.inst_logged.specs.Running.{IsReadyHub};
 
