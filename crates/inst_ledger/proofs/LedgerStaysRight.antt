@@ -13,7 +13,7 @@ use Rattle.inst_journal.specs.declared.event.Event.{Event}
 use Rattle.inst_journal.specs.declared.event.Event.TheVariants.{Funded, Defunded, Taken, Forwarded, Booked, Fetched, Opened}
 use Rattle.inst_journal.specs.Booked.{first_some, is_taken, is_forwarded, is_forwarding, booked}
 use Rattle.inst_journal.specs.Keys.{is_funding, fundings}
-use Rattle.inst_journal.specs.Money.{position}
+use Rattle.inst_journal.specs.Money.{position, available}
 use Rattle.inst_journal.specs.Opened.{is_opening, carried, takes_live, live_taken}
 use Rattle.inst_journal.specs.Reply.{inbox, handed_out}
 use Rattle.inst_journal.specs.Sound.{Fits, IsSound}
@@ -45,6 +45,7 @@ use Rattle.inst_ledger.proofs.Inbox.{read_same, read_on, read_more}
 use Rattle.inst_ledger.proofs.TableStaysRight.{right_push, booked_there, own_party}
 use Rattle.inst_ledger.proofs.Tables.{table_keep, taken_found}
 use Rattle.inst_statement.proofs.AmountAndTermsInHistory.{none_of}
+use Rattle.inst_statement.proofs.Indices.{index_fits}
 
 longer : (J : List Event) (event : Event) → length (J ++ event ∷ []) ≡ length J + 1
 longer J event = length-append J (event ∷ [])
@@ -111,6 +112,18 @@ module _ (s : HubSettings) (who : ℕ) (J : List Event) (t : Totals) (table : He
   -- what was paid out and what is reserved is covered
   pub within : t.defunded + table.debits + table.reserved ≤ t.funded + table.credits
   within = omega (arith, covered s who J b.sound, b.funded, b.defunded, b.right.credits, b.right.debits, b.right.reserved)
+
+  -- a history is far shorter than 64 bits tell
+  pub short : length J < 2 ^ 32
+  short = index_fits s who J b.lawful b.sound
+
+  -- the sums have far fewer than 128 bits
+  pub sums_small : t.funded + table.credits < 2 ^ 127
+  sums_small = omega (arith, b.within, short)
+
+  -- what is paid or reserved was there, so it has 64 bits
+  pub paid_small : (cents : ℕ) → cents ≤ available J → cents < 2 ^ 64
+  paid_small cents cover = omega (arith, cover, position_below s who J b.lawful b.sound b.amounts)
 
   -- one event more, with the table after it
   pub pushes : (event : Event) (u : Totals) (after : Held) (S : List ℕ → Option KeptFunding) (since' : ℕ) (positions' : List ℕ) (read' : ℕ) → Fits s who J event → after.who ≡ table.who → state_in after ≡ step table.who (state_in table) event

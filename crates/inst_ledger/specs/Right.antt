@@ -1,10 +1,10 @@
 -- The table is right of a history: what it finds and sums is what a walk over the history would
 -- find and sum.
-use Rattle.std.specs.Prelude.{◌≡◌, ◌≢◌, ℕ, List, [], map, count_by, Option, Some, None}
+use Rattle.std.specs.Prelude.{◌≡◌, ◌≢◌, ℕ, List, [], map, Option, Some, None}
 use Rattle.inst_journal.specs.declared.event.Event.{Event}
 use Rattle.inst_journal.specs.declared.event.Event.TheVariants.{Taken}
 use Rattle.inst_journal.specs.Booked.{first_some, booked}
-use Rattle.inst_journal.specs.Opened.{takes_live, live_taken}
+use Rattle.inst_journal.specs.Opened.{live_taken}
 use Rattle.inst_journal.specs.Sound.{IsSound}
 use Rattle.inst_settings.specs.Settings.{HubSettings}
 use Rattle.inst_journal.specs.Money.{reserved}

@@ -1,6 +1,6 @@
 //! What a participant has of one transfer.
 ghost use Rattle.std.specs.Prelude.{◌≡◌};
-ghost use Rattle.inst_transfers.specs.Held.{row_in};
+ghost use Rattle.inst_transfers.specs.Held.{row_in, time_in};
 
 use inst_base::{Cents, Ident, Moment};
 use inst_command::{Entry, Outcome};
@@ -30,27 +30,28 @@ pub struct Found {
     pub transfer: Transfer,
 }
 
+impl Side {
+    /// The transfer's deadline; of one that is the participant's own, its stamp.
+    pub(crate) fn time(&self) -> Moment
+        ensures { result ≡ time_in self.now }
+    {
+        match self {
+            Side::Own { stamp, .. } => *stamp,
+            Side::Other { deadline } => *deadline,
+        }
+    }
+}
+
 impl Found {
     /// What came with it. Of one that is the participant's own, its stamp stands for the deadline.
     pub fn entry(&self) -> Entry
         ensures { result ≡ row_in ((self.now.from, self.now.id), self.now.transfer) }
     {
-        let &Found {
-            from,
-            id,
-            transfer,
-            ..
-        } = self;
-        let cents = transfer.cents;
-        let deadline = match &transfer.side {
-            Side::Own { stamp, .. } => *stamp,
-            Side::Other { deadline } => *deadline,
-        };
         Entry {
-            from,
-            id,
-            cents,
-            deadline,
+            from: self.from,
+            id: self.id,
+            cents: self.transfer.cents,
+            deadline: self.transfer.side.time(),
         }
     }
 }

@@ -13,7 +13,7 @@ ghost use Rattle.inst_transfers.specs.inner.Held.{waits_at, FindsIndex};
 use crate::transfer::{Found, Side, Transfer};
 use indexmap::IndexMap;
 use inst_base::{Cents, Ident, Moment};
-use inst_command::Outcome;
+use inst_command::{Entry, Outcome};
 use inst_journal::Event;
 use std::alloc::{AllocError, Global};
 use std::marker::Model;
@@ -121,6 +121,19 @@ impl Transfers {
             id: key.1,
             position,
             transfer: *transfer,
+        })
+    }
+
+    /// What came with the transfer at this position of the table. It looks nothing up by its key.
+    pub fn entry_at(&self, position: usize) -> Option<Entry>
+        ensures { result ≡ slice_get (rows_in self.now.entries) position }
+    {
+        let (key, transfer) = self.table.get_index(position)?;
+        Some(Entry {
+            from: key.0,
+            id: key.1,
+            cents: transfer.cents,
+            deadline: transfer.side.time(),
         })
     }
 

@@ -17,6 +17,7 @@ ghost use Rattle.inst_journal.specs.Money.{reserved, position, available};
 
 use super::Ledger;
 use super::keeping::funding_event;
+use super::reading::{forwarding_in, is_sending, outcome_in, sending_in};
 use inst_base::{Fault, Ident, Moment, mention};
 use inst_command::{Command, Entries, Entry, Funding, Lines, Outcome, Query, Reply, Submission};
 use inst_journal::{Event, Handled, standing, still_pending};
@@ -91,11 +92,11 @@ impl Ledger {
         if to == self.who() {
             return Err(Fault::SelfTransfer);
         }
-        let known = self.transfer(self.who(), &id);
-        if self.is_known_repeat(&known, submission) {
+        let sending = self.sending(&id);
+        if is_sending(sending, submission) {
             return Ok(false);
         }
-        if self.is_known_taken(&known, &id) {
+        if sending.is_some() {
             return Err(Fault::Duplicate);
         }
         if stamp.is_ahead(settings.ahead(), at) {
@@ -151,10 +152,10 @@ impl Ledger {
         ensures { result ≡ answer_forwarded self.now.book.events from id pending found }
     {
         let known = self.transfer(from, &id);
-        if !self.is_known_forwarded(&known, from, &id) {
+        if forwarding_in(&known).is_none() {
             return Err(Fault::UnknownTransfer);
         }
-        let booked = self.known_outcome(&known, from, &id);
+        let booked = outcome_in(&known);
         standing(from, id, pending, booked, found)
     }
 
@@ -179,10 +180,10 @@ impl Ledger {
     {
         let who = self.who();
         let known = self.transfer(who, &id);
-        if !self.is_known_taken(&known, &id) {
+        if sending_in(&known).is_none() {
             return Err(Fault::UnknownTransfer);
         }
-        let booked = self.known_outcome(&known, who, &id);
+        let booked = outcome_in(&known);
         standing(who, id, still_pending(who, id), booked, found)
     }
 
@@ -225,10 +226,9 @@ impl Ledger {
         ensures ok { IfOk result (λ entries. entries.items ≡
             entries_at (rows_of self.now.book.who self.now.book.events) positions.now) }
     {
-        mention::<(Side, Transfer, Outcome)>();
         let mut entries = Vec::new(alloc);
         for position in positions {
-            entries.push(self.at(*position).unwrap().entry())?;
+            entries.push(self.table.entry_at(*position).unwrap())?;
         }
         Ok(entries)
     }

@@ -68,9 +68,6 @@ impl Ledger {
             cents,
             stamp,
         };
-        let _ = self.journal.events().len();
-        // That an amount is within the most is known where it is read.
-        let _ = cents.get();
         self.journal.push(taken).unwrap();
         self.table.take(id, to, cents, stamp);
     }

@@ -122,48 +122,6 @@ impl Ledger {
         Some(index as u16)
     }
 
-    /// Whether this very submission is taken, by what is known of its identifier.
-    pub(crate) fn is_known_repeat(&self, known: &Option<Transfer>, submission: &Submission) -> bool
-        requires { known.now
-            ≡ found_at self.now.table.entries (self.now.book.who, submission.now.id) }
-        ensures { result ≡ is_submission_repeat submission.now self.now.book.events }
-    {
-        let _ = &self.settings;
-        is_sending(sending_in(known), submission)
-    }
-
-    /// Whether a submission with this identifier is taken, by what is known of it.
-    pub(crate) fn is_known_taken(&self, known: &Option<Transfer>, id: &Ident) -> bool
-        requires { known.now ≡ found_at self.now.table.entries (self.now.book.who, id.now) }
-        ensures { result ≡ is_taken id.now self.now.book.events }
-    {
-        let _ = &self.settings;
-        sending_in(known).is_some()
-    }
-
-    /// Whether this transfer was forwarded to the participant, by what is known of it.
-    pub(crate) fn is_known_forwarded(&self, known: &Option<Transfer>, from: u8, id: &Ident) -> bool
-        requires { known.now ≡ found_at self.now.table.entries (from, id.now) }
-        ensures { result ≡ is_forwarded from id.now self.now.book.events }
-    {
-        let _ = &self.settings;
-        forwarding_in(known).is_some()
-    }
-
-    /// The outcome that the participant has booked for this transfer, by what is known of it.
-    pub(crate) fn known_outcome(
-        &self,
-        known: &Option<Transfer>,
-        from: u8,
-        id: &Ident,
-    ) -> Option<Outcome>
-        requires { known.now ≡ found_at self.now.table.entries (from, id.now) }
-        ensures { result ≡ booked from id.now self.now.book.events }
-    {
-        let _ = &self.settings;
-        outcome_in(known)
-    }
-
     /// What was sent with the taken submission of this identifier.
     pub fn sending(&self, id: &Ident) -> Option<Sending>
         ensures { result ≡ first_some (sending_of id.now) self.now.book.events }
@@ -257,8 +215,6 @@ impl Ledger {
         ensures within { result < 2 ^ 64 }
     {
         let Totals { funded, defunded } = self.totals;
-        // That a history is no longer than 64 bits tell is known where its length is read.
-        let _ = self.journal.events().len();
         funded + self.table.credits() - defunded - self.table.debits()
     }
 
@@ -271,7 +227,7 @@ impl Ledger {
 }
 
 /// What was sent, where the transfer is the participant's own.
-fn sending_in(found: &Option<Transfer>) -> Option<Sending>
+pub(crate) fn sending_in(found: &Option<Transfer>) -> Option<Sending>
     ensures { result ≡ sending_in found.now }
 {
     match found {
@@ -291,7 +247,7 @@ fn sending_in(found: &Option<Transfer>) -> Option<Sending>
 }
 
 /// What came, where the transfer was forwarded.
-fn forwarding_in(found: &Option<Transfer>) -> Option<Forwarding>
+pub(crate) fn forwarding_in(found: &Option<Transfer>) -> Option<Forwarding>
     ensures { result ≡ forwarding_in found.now }
 {
     match found {
@@ -310,7 +266,7 @@ fn forwarding_in(found: &Option<Transfer>) -> Option<Forwarding>
 }
 
 /// What is booked of the transfer.
-fn outcome_in(found: &Option<Transfer>) -> Option<Outcome>
+pub(crate) fn outcome_in(found: &Option<Transfer>) -> Option<Outcome>
     ensures { result ≡ outcome_in found.now }
 {
     match found {
@@ -320,7 +276,7 @@ fn outcome_in(found: &Option<Transfer>) -> Option<Outcome>
 }
 
 /// Whether this was sent with the submission.
-fn is_sending(found: Option<Sending>, submission: &Submission) -> bool
+pub(crate) fn is_sending(found: Option<Sending>, submission: &Submission) -> bool
     ensures { result ≡ is_sending submission.now found }
 {
     match found {

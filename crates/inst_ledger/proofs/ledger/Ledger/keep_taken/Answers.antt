@@ -1,8 +1,7 @@
-use Rattle.std.proofs.Common.{◌≡◌, ◌++◌, ◌∷◌, [], length, refl, subst, ap, arith}
-use Rattle.std.proofs.lemmas.Grind.{common_steps}
+use Rattle.std.proofs.Common.{◌≡◌, ◌++◌, ◌∷◌, [], refl, subst, arith}
 use Rattle.std.specs.Prelude.{OnOk}
 use Rattle.inst_journal.specs.declared.event.Event.{Event}
-use Rattle.inst_ledger.proofs.LedgerStaysRight.{within, taken_absent, taken_beside, beside_at, fits_at}
+use Rattle.inst_ledger.proofs.LedgerStaysRight.{within, sums_small, paid_small, taken_absent, taken_beside, beside_at, fits_at}
 use Rattle.inst_ledger.proofs.StatementLineOfEvent.{stated_at}
 use Rattle.inst_statement.proofs.KeptStatementStaysRight.{line_less}
 use Rattle.inst_ledger.proofs.ledger.Ledger.keep_taken.Goals as goal
@@ -17,7 +16,10 @@ take-requires-clause-new c =
 pub take-requires-clause-fits : goal.take-requires-clause-fits
 take-requires-clause-fits c =
     let i = c.self.inside in
-    omega (arith, within i.settings.value i.who i.journal.events i.totals i.table _ i.fundings i.inbox.items i.read c.self.invariant.beside, c.self.invariant.beside.within, c.get.ensures.value, c.get.ensures.within, c.events.type_inv, ap length c.events.ensures)
+    let t = c.args.sending in
+    let fits = fits_at c.self.view_is (Event.Taken c.args.id t.to t.cents t.stamp) c.requires.fits in
+    let b = c.self.invariant.beside in
+    omega (arith, within i.settings.value i.who i.journal.events i.totals i.table _ i.fundings i.inbox.items i.read b, sums_small i.settings.value i.who i.journal.events i.totals i.table _ i.fundings i.inbox.items i.read b, paid_small i.settings.value i.who i.journal.events i.totals i.table _ i.fundings i.inbox.items i.read b t.cents fits.cover)
 
 pub invariant_of-self : goal.invariant_of-self
 invariant_of-self c =

@@ -1,8 +1,11 @@
 use Rattle.std.proofs.Common.{◌≡◌, ◌+◌, ◌-◌, ap, ◌∙◌, arith}
 use Rattle.inst_journal.specs.Money.{position}
 use Rattle.inst_ledger.specs.Book.{BookAndRoom}
-use Rattle.inst_ledger.proofs.LedgerStaysRight.{position_small, within}
+use Rattle.inst_ledger.proofs.LedgerStaysRight.{position_small, sums_small, within}
 use Rattle.inst_ledger.proofs.ledger.Ledger.position.Goals as goal
+
+pub overflow_add-result : goal.overflow_add-result
+overflow_add-result c = let i = c.self.inside in omega (arith, sums_small i.settings.value i.who i.journal.events i.totals i.table _ i.fundings i.inbox.items i.read c.self.invariant.beside, c.credits.ensures)
 
 pub overflow_sub-result : goal.overflow_sub-result
 overflow_sub-result c = let i = c.self.inside in omega (arith, within i.settings.value i.who i.journal.events i.totals i.table _ i.fundings i.inbox.items i.read c.self.invariant.beside, c.credits.ensures)
