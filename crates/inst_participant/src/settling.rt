@@ -100,8 +100,6 @@ fn learn_arrived<B: Board>(slot: &mut Slot, board: &mut B) -> Result<(), AllocEr
 {
     let mut from = 0;
     while let Some((position, place)) = slot.unbooked_from(from) {
-        // The check is told that a history is sound only by a call.
-        let _ = slot.journal();
         learn_at(slot, board, place)?;
         from = position + 1;
     }

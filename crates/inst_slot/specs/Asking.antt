@@ -28,6 +28,7 @@ use Rattle.inst_journal.specs.declared.handle.Handled.{Handled}
 use Rattle.inst_journal.specs.Booked.{takes, is_taken, is_forwarded, booked}
 use Rattle.inst_journal.specs.Opened.{live_taken, live_submissions}
 use Rattle.inst_journal.specs.Reply.{handle, reply_result, kept_events, copies}
+use Rattle.inst_journal.specs.Sound.{IsSound}
 use Rattle.inst_slot.specs.Book.{Book, place_at, terms_to, arrived_at}
 use Rattle.inst_slot.specs.LawfulBoard.{IsAdopted}
 
@@ -160,6 +161,7 @@ pub record AnswersAsk {B : Type 0} (margin : ℕ) (knows : B → Fact → Type 0
     (b : B) (book : Book) (ask : Ask) (result : Result Reply Fault) (c : B) (new : Book)
     : Type 0 where
   pub applies : Applies margin knows has_role stood stays b book ask result c new
+  pub sound : IsSound book.settings book.who book.events
   pub decides : is_some (request book ask.command) ≡ decides book ask.command
   pub left : OnErr result (new ≡ book)
   pub unknown : IfErr result (λ fault. fault ≢ Memory → KnowTheSame knows b c)

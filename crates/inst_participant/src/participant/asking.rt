@@ -47,8 +47,6 @@ impl Participant {
             self.new.slot.events) }
         ensures err { OnErr result (self.new.slot ≡ self.old.slot) }
     {
-        // The check is told that a history is sound only by a call.
-        let _ = self.slot.journal();
         let answer = self.slot.apply(&mut self.board, ask);
         refusals_told(answer)
     }

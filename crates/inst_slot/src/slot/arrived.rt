@@ -1,5 +1,6 @@
 //! Which of the transfers that were forwarded to a participant have nothing booked.
 ghost use Rattle.std.specs.Prelude.{◌≡◌, ◌<◌, ◌^◌, length};
+ghost use Rattle.inst_journal.specs.Sound.{IsSound};
 ghost use Rattle.inst_slot.specs.Arrived.{unbooked_place, GivesUnbooked};
 ghost use Rattle.inst_slot.specs.Spots.{rows_of, arrival_of};
 
@@ -30,6 +31,7 @@ impl Slot {
     pub fn unbooked_from(&self, position: usize) -> Option<(usize, Place)>
         ensures next { GivesUnbooked self.now position result }
         ensures few { length self.now.arrivals < 2 ^ 64 }
+        ensures sound { IsSound self.now.settings self.now.who self.now.events }
     {
         let spots = self.arrivals.as_slice();
         for at in position..spots.len() {

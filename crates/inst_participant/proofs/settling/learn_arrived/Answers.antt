@@ -33,7 +33,7 @@ loop-position-smaller g c =
 pub loop-position-preserved : goal.loop-position-preserved
 loop-position-preserved g c =
     let b = g.B.Board in
-    let sound = subst (λ (J : List Event). IsSound c.loop-position.slot.settings c.loop-position.slot.who J) c.journal.ensures.events c.journal.ensures.sound in (
+    let sound = c.in-Some.ensures.sound in (
       c.learn_at.ensures.ready,
       later_on b.settings b.knows b.has_role (b.settings c.args.board.now).margin b.stood b.stays (λ x y. g.met.B.Board.stays_settings x y) (λ x y p. g.met.B.Board.stays_roles x y p) (λ x y z. g.met.B.Board.stays_on x y z) (λ x. g.met.B.Board.stays_still x)
           c.args.board.now c.loop-position.board c.learn_at.new.board c.args.slot.now c.loop-position.slot c.learn_at.new.slot c.loop-position.invariant.1 c.learn_at.ensures.later,

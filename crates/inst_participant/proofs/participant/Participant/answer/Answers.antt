@@ -27,7 +27,7 @@ returns-clause-stays c = record {
   ready = search rules;
   later = search rules;
   grows = grows (settings_of c.args.self.now.board).margin knows has_role stood Stays c.args.self.now.board c.apply-answer.new.board c.args.self.now.slot c.args.ask.now c.apply-answer.result c.apply-answer.new.self c.apply-answer.ensures.applies.applies;
-  sound = subst (λ (J : List Event). IsSound c.args.self.now.slot.settings c.args.self.now.slot.who J) c.journal.ensures.events c.journal.ensures.sound;
+  sound = c.apply-answer.ensures.applies.sound;
 }
 
 pub returns-clause-answered : goal.returns-clause-answered
@@ -35,7 +35,7 @@ returns-clause-answered c =
     told_answered c.apply-answer.result c.refusals_told.result
     (λ reply. Answered c.args.self.now.slot.settings c.args.self.now.slot.who c.args.self.now.slot.events c.args.ask.now reply c.apply-answer.new.self.events) c.refusals_told.ensures
     (answered settings_of knows has_role stood Stays shared_own c.args.self.now.board c.apply-answer.new.board c.args.self.now.slot c.args.ask.now c.apply-answer.result c.apply-answer.new.self
-    c.requires.may.ready.lawful (subst (λ (J : List Event). IsSound c.args.self.now.slot.settings c.args.self.now.slot.who J) c.journal.ensures.events c.journal.ensures.sound) c.apply-answer.ensures.applies.decides c.apply-answer.ensures.applies.applies)
+    c.requires.may.ready.lawful c.apply-answer.ensures.applies.sound c.apply-answer.ensures.applies.decides c.apply-answer.ensures.applies.applies)
 
 unchanged : (b : SharedBoard) → KnowTheSame knows b b
 unchanged b f = (λ k. k, λ k. k)

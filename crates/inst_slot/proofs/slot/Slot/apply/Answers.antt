@@ -32,6 +32,7 @@ returns-in-Some-clause-applies g c = record {
       let seen = subst (λ (S : List Spot). Settles (b.settings c.args.board.now).margin b.knows b.has_role b.stood b.stays c.args.board.now (book_with_spots old S) c.args.ask.now r.place r.wish c.settle.result c.settle.new.board (book_with_spots c.settle.new.ledger.book S)) c.as_slice-spots.ensures.value c.settle.ensures.settles in
       let settles = subst (λ (x : Book). Settles (b.settings c.args.board.now).margin b.knows b.has_role b.stood b.stays c.args.board.now x c.args.ask.now r.place r.wish c.settle.result c.settle.new.board new) c.self.view_is seen in
       subst (λ (o : Option (Place × Wish)). AppliesTo (b.settings c.args.board.now).margin b.knows b.has_role b.stood b.stays c.args.board.now book c.args.ask.now o c.settle.result c.settle.new.board new) (sym is) settles;
+  sound = subst (λ (x : Book). IsSound x.settings x.who x.events) c.self.view_is c.self.invariant.0.1;
   decides =
       let b = g.B.Board in
       asks_where_it_decides b.settings b.knows b.has_role c.args.board.now c.args.self.now c.args.ask.now.command c.requires.lawful c.requires.adopted;
@@ -66,6 +67,7 @@ returns-in-None-clause-applies g c = record {
       let book : Book = c.args.self.now in
       let none = ap (λ (x : Book). request x c.args.ask.now.command) (sym c.self.view_is) ∙ ap (λ (S : List Spot). request (book_with_spots c.self.inside.ledger.book S) c.args.ask.now.command) (sym c.as_slice-spots.ensures.value) ∙ c.in-None.ensures in
       subst (λ (o : Option (Place × Wish)). AppliesTo (b.settings c.args.board.now).margin b.knows b.has_role b.stood b.stays c.args.board.now book c.args.ask.now o c.enter.result c.enter.new.board c.enter.new.self) (sym none) c.enter.ensures.enters;
+  sound = subst (λ (x : Book). IsSound x.settings x.who x.events) c.self.view_is c.self.invariant.0.1;
   decides =
       let b = g.B.Board in
       asks_where_it_decides b.settings b.knows b.has_role c.args.board.now c.args.self.now c.args.ask.now.command c.requires.lawful c.requires.adopted;

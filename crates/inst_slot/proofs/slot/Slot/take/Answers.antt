@@ -1,6 +1,5 @@
 use Rattle.std.proofs.Common.{◌≡◌, ◌∙◌, ◌++◌, ◌∷◌, [], ℕ, length, arith, refl, sym, ap, subst}
 use Rattle.inst_due.specs.Due.{Adds}
-use Rattle.inst_settings.specs.Settings.{HubSettings}
 use Rattle.std.proofs.lemmas.List.{length-map}
 use Rattle.inst_board.specs.declared.about.About.TheVariants.{Opened}
 use Rattle.inst_board.specs.Standing.{about, pending}
