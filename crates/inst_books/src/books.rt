@@ -142,9 +142,6 @@ fn keep(journals: &mut [Journal], who: u8, event: Event) -> Result<(), AllocErro
     ensures { OnOk result (all_events journals.new
         ≡ books_with_event who event (all_events journals.old)) }
 {
-    mention::<Outcome>();
-    match journals[usize::from(who)].push(event) {
-        Ok(()) => Ok(()),
-        Err(_) => Err(AllocError),
-    }
+    journals[usize::from(who)].push(event)?;
+    Ok(())
 }

@@ -30,28 +30,25 @@ fn is_same(one: &Option<Outcome>, other: &Option<Outcome>) -> bool
 fn is_deadline(stamp: Moment, limit: u32, deadline: Moment) -> bool
     ensures { IsTrue result ↔ (deadline_of limit stamp ≡ deadline) }
 {
-    // No effect: that the deadline is a moment is known where it is read.
-    let _ = deadline.past_base();
-    stamp.has_deadline(limit) && stamp.deadline(limit) == deadline
+    deadline.past_base() == stamp.past_base() + u64::from(limit)
 }
 
-/// Whether what came to the beneficiary agrees with what was submitted at `stamp`, and what was
-/// booked `there` with what its originator has booked `here`.
+/// Whether what came to the beneficiary agrees with what was sent, and what was booked `there` with
+/// what its originator has booked `here`.
 fn is_received(
     came: &Option<Forwarding>,
-    cents: Cents,
-    stamp: Moment,
+    sent: &Sending,
     limit: u32,
     here: &Option<Outcome>,
     there: &Option<Outcome>,
 ) -> bool
     ensures { IsTrue result ↔
-        IsReceived cents (deadline_of limit stamp) here.now there.now came.now }
+        IsReceived sent.now.cents (deadline_of limit sent.now.stamp) here.now there.now came.now }
 {
     match came {
         Some(forwarding) => {
-            forwarding.cents == cents
-                && is_deadline(stamp, limit, forwarding.deadline)
+            forwarding.cents == sent.cents
+                && is_deadline(sent.stamp, limit, forwarding.deadline)
                 && is_same(there, here)
         }
         None => is_released(here),
@@ -107,8 +104,11 @@ fn agrees(ledgers: &[Ledger], limit: u32, who: u8, event: &Event) -> bool
             stamp,
         } => is_received(
             &forwarding(ledgers, *to, who, id),
-            *cents,
-            *stamp,
+            &Sending {
+                to: *to,
+                cents: *cents,
+                stamp: *stamp,
+            },
             limit,
             &booked(ledgers, who, who, id),
             &booked(ledgers, *to, who, id),
