@@ -9,7 +9,7 @@ use Rattle.inst_command.specs.declared.outcome.Outcome.{Outcome}
 use Rattle.inst_journal.specs.declared.event.Event.{Event}
 use Rattle.inst_journal.specs.declared.event.Event.TheVariants.{Funded, Defunded, Taken, Forwarded, Booked, Fetched, Opened}
 use Rattle.inst_journal.specs.Booked.{or_else, forwards, is_forwarded, books, booked}
-use Rattle.inst_journal.specs.Opened.{is_opening, openings, carried, forwards_live, live_forwarded}
+use Rattle.inst_journal.specs.Opened.{is_opening, carried, forwards_live, live_forwarded}
 use Rattle.inst_journal.specs.Sound.{Fits, IsSound}
 use Rattle.inst_journal.proofs.EventsCarriedOverOpening.{carried_opened, carried_unbooked}
 use Rattle.inst_journal.proofs.CountsOfEvents.{count_push, forwarded_step}

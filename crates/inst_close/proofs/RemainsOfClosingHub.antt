@@ -24,7 +24,7 @@ use Rattle.inst_close.specs.declared.closing.CloseFault.{CloseFault}
 use Rattle.inst_close.specs.ClosedHub.{ClosedHub}
 use Rattle.inst_close.proofs.BooksCarryWhatHubCarried.{have_opened}
 use Rattle.inst_model.specs.Opening.{Opening}
-use Rattle.inst_close.specs.Closing.{IsOpenedSo, HaveOpened, GoOnFrom, AreOnlyTold, TellAll, AreOfHub, IsLeftOf, MayClose, IsClosedFrom, rest_of}
+use Rattle.inst_close.specs.Closing.{GoOnFrom, AreOnlyTold, TellAll, AreOfHub, IsLeftOf, MayClose, IsClosedFrom, rest_of}
 use Rattle.inst_close.specs.inner.Closing.{IsPartly}
 
 pub further : (H J K : List Event) → IsPrefix H J → OnlyTold J K → IsPrefix H K

@@ -6,27 +6,27 @@ use Rattle.inst_row.specs.Seated.{view_of}
 use Rattle.inst_hub.specs.declared.hub.Hub.{Hub}
 use Rattle.inst_hub.specs.declared.teller.Teller.{Teller}
 use Rattle.inst_hub.specs.Calls.{IsTellerOf}
-use Rattle.inst_loads.specs.declared.hub.job.Job.{Job}
+use Rattle.inst_loads.specs.declared.hub.job.HubJob.{HubJob}
 
 -- the parts of the hub's row that a teller has
 abbrev pub parts_of_one : Teller → ℕ
 parts_of_one t = (view_of t.seat).parts
 
 -- the parts that the tellers of these jobs have
-abbrev pub parts_of_jobs : List Job → ℕ
+abbrev pub parts_of_jobs : List HubJob → ℕ
 parts_of_jobs jobs = sum_by (λ job. (view_of job.teller.seat).parts) jobs
 
 -- the teller is one of the hub's, and has the parts that it had
 abbrev pub IsStill : Hub → Teller → Teller → Type 0
 IsStill h t u = IsTellerOf h u × (parts_of_one u ≡ parts_of_one t)
 
-abbrev pub AreJobsOf : Hub → List Job → Type 0
-AreJobsOf h jobs = (i : ℕ) (job : Job) → slice_get jobs i ≡ Some job → IsTellerOf h job.teller
+abbrev pub AreJobsOf : Hub → List HubJob → Type 0
+AreJobsOf h jobs = (i : ℕ) (job : HubJob) → slice_get jobs i ≡ Some job → IsTellerOf h job.teller
 
 -- the tellers of the jobs are the hub's, and have together the parts that they had
-abbrev pub AreStill : Hub → List Job → List Job → Type 0
+abbrev pub AreStill : Hub → List HubJob → List HubJob → Type 0
 AreStill h before after = AreJobsOf h after × (parts_of_jobs after ≡ parts_of_jobs before)
 
 -- the teller and those of the jobs have all parts
-abbrev pub HaveAll : Teller → List Job → Type 0
+abbrev pub HaveAll : Teller → List HubJob → Type 0
 HaveAll t jobs = parts_of_jobs jobs + parts_of_one t ≡ MOST_SEATS

@@ -16,7 +16,7 @@ mod words;
 
 use flaw::{Failure, Flaw};
 use load::rounds::rounds;
-use race::rounds::{Ended, races};
+use race::rounds::{EndedRace, races};
 use race::rows::failed;
 use scarce::run_apart;
 use scarce::want::Tries;
@@ -25,7 +25,7 @@ use std::env;
 use std::io::Write;
 use std::process::ExitCode;
 use stress::play_apart;
-use stress::tally::Tally;
+use stress::tally::StressTally;
 use words::{HELP, Task};
 
 fn main(rt: HostRuntime) -> ExitCode {
@@ -67,7 +67,7 @@ fn tell_load(rt: &HostRuntime, ended: &Result<u64, Failure>) -> ExitCode {
 }
 
 /// Tells how the transfers of a stress ended, or what failed.
-fn tell_stress(rt: &HostRuntime, ended: &Result<Tally, Failure>) -> ExitCode {
+fn tell_stress(rt: &HostRuntime, ended: &Result<StressTally, Failure>) -> ExitCode {
     match ended {
         Ok(tally) => {
             let _ = writeln!(rt.stderr(), "{tally}");
@@ -83,7 +83,7 @@ fn tell_failure(rt: &HostRuntime, failure: &Failure) -> ExitCode {
 }
 
 /// Tells how the transfers of all races ended, where none failed.
-fn tell_races(rt: &HostRuntime, ended: Option<Ended>) -> ExitCode {
+fn tell_races(rt: &HostRuntime, ended: Option<EndedRace>) -> ExitCode {
     match ended {
         Some(ended) => {
             let _ = writeln!(

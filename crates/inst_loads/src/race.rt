@@ -8,7 +8,7 @@ pub(crate) mod rows;
 
 use crate::race::explaining::are_explained;
 use crate::race::opening::open;
-use crate::race::participant::Participant;
+use crate::race::participant::Racer;
 use inst_base::{Cents, Fault, Ident, Moment};
 use inst_command::{Command, Funding, Outcome, Place, Submission};
 use std::alloc::Global;
@@ -47,7 +47,7 @@ pub(crate) struct Finish {
 impl Finish {
     /// How the race of the first two of these participants ended, with so many expiries that booked
     /// an outcome.
-    fn of(alloc: Global, hub: &[Participant], expired: u16) -> Result<Finish, Fault> {
+    fn of(alloc: Global, hub: &[Racer], expired: u16) -> Result<Finish, Fault> {
         let [first, second, ..] = hub else {
             return Err(Fault::BadSettings);
         };
@@ -79,11 +79,7 @@ fn name(alloc: Global, index: u16) -> Result<Ident, Fault> {
 }
 
 /// Funds the originator, which submits all transfers; each is delivered.
-fn submit_all(
-    alloc: Global,
-    first: &mut Participant,
-    second: &mut Participant,
-) -> Result<(), Fault> {
+fn submit_all(alloc: Global, first: &mut Racer, second: &mut Racer) -> Result<(), Fault> {
     let at = Moment::new(0, STAMP)?;
     let fund = Command::Fund(Funding {
         reference: Ident::new("F1")?,
@@ -104,7 +100,7 @@ fn submit_all(
 }
 
 /// The beneficiary confirms all.
-fn confirm_all(alloc: Global, second: &mut Participant, at: Moment) -> Result<(), Fault> {
+fn confirm_all(alloc: Global, second: &mut Racer, at: Moment) -> Result<(), Fault> {
     for index in 0..TRANSFERS {
         let id = name(alloc, index)?;
         second.does(Command::Confirm { from: 0, id }, at)?;
@@ -113,7 +109,7 @@ fn confirm_all(alloc: Global, second: &mut Participant, at: Moment) -> Result<()
 }
 
 /// The originator lets all expire. Of how many that booked an outcome.
-fn expire_all(first: &mut Participant, at: Moment) -> Result<u16, Fault> {
+fn expire_all(first: &mut Racer, at: Moment) -> Result<u16, Fault> {
     let mut expired = 0;
     for index in 0..TRANSFERS {
         if first.expire(index, at)? {
@@ -124,7 +120,7 @@ fn expire_all(first: &mut Participant, at: Moment) -> Result<u16, Fault> {
 }
 
 /// Of how many transfers both books have the same outcome: accepted ones, and such that timed out.
-fn outcomes(alloc: Global, first: &Participant, second: &Participant) -> Result<(u16, u16), Fault> {
+fn outcomes(alloc: Global, first: &Racer, second: &Racer) -> Result<(u16, u16), Fault> {
     let mut accepted = 0u16;
     let mut timed_out = 0u16;
     for index in 0..TRANSFERS {
@@ -142,7 +138,7 @@ fn outcomes(alloc: Global, first: &Participant, second: &Participant) -> Result<
 }
 
 /// What the positions of both sum to, in cents.
-fn sum(first: &Participant, second: &Participant) -> u128 {
+fn sum(first: &Racer, second: &Racer) -> u128 {
     let first = first.journal().position();
     first.saturating_add(second.journal().position())
 }
@@ -151,8 +147,8 @@ fn sum(first: &Participant, second: &Participant) -> u128 {
 fn run<R: Threads + Sync>(
     rt: &R,
     alloc: Global,
-    first: &mut Participant,
-    second: &mut Participant,
+    first: &mut Racer,
+    second: &mut Racer,
     margin: u32,
 ) -> Result<u16, Fault> {
     let deadline = Moment::new(0, DEADLINE)?;

@@ -23,7 +23,7 @@ mod transfer;
 use crate::flaw::{Failure, Flaw};
 use crate::hub::asking::fund_all;
 use crate::hub::closing::close_and_explain;
-use crate::hub::job::{Job, jobs, last};
+use crate::hub::job::{HubJob, jobs, last};
 use crate::hub::opening::{Size, open};
 use crate::load::threads_of;
 use crate::stress::accounts::check_accounts;
@@ -33,7 +33,7 @@ use crate::stress::running::run;
 use crate::stress::settling::{bring_all, fetch_all, settle, sweep_all};
 use crate::stress::sights::{PLACES, Sights};
 use crate::stress::stress_round::StressRound;
-use crate::stress::tally::Tally;
+use crate::stress::tally::StressTally;
 use crate::stress::transfer::{FUNDS, PARTICIPANTS};
 use inst_hub::{Hub, Teller};
 use std::alloc::Global;
@@ -64,7 +64,7 @@ fn end<R: Wait>(
     hub: &Hub,
     teller: &mut Teller,
     round: StressRound,
-    jobs: &mut [Job],
+    jobs: &mut [HubJob],
     sights: &mut Sights,
 ) -> Result<(), Failure>
     requires { IsTellerOf hub.now teller.old × AreJobsOf hub.now jobs.old }
@@ -81,11 +81,16 @@ fn end<R: Wait>(
 }
 
 /// How the transfers ended, where all that was told agrees with the books.
-fn check<R: Wait>(rt: &R, hub: &Hub, teller: &mut Teller, sights: &Sights) -> Result<Tally, Failure>
+fn check<R: Wait>(
+    rt: &R,
+    hub: &Hub,
+    teller: &mut Teller,
+    sights: &Sights,
+) -> Result<StressTally, Failure>
     requires { IsTellerOf hub.now teller.old }
     ensures { IsStill hub.now teller.old teller.new }
 {
-    let tally = Tally::of(sights)?;
+    let tally = StressTally::of(sights)?;
     check_accounts(rt, hub, teller, sights)?;
     Ok(tally)
 }
@@ -96,9 +101,9 @@ fn race<R: Threads + Wait + Sync>(
     alloc: Global,
     hub: &Hub,
     teller: &mut Teller,
-    jobs: Vec<Job>,
+    jobs: Vec<HubJob>,
     round: StressRound,
-) -> Result<(Tally, Vec<Job>), Failure>
+) -> Result<(StressTally, Vec<HubJob>), Failure>
     requires { IsTellerOf hub.now teller.old × AreJobsOf hub.now jobs.items }
     ensures { IfOk result (λ r. IsStill hub.now teller.old teller.new
         × AreStill hub.now jobs.items r.1.items) }
@@ -115,7 +120,7 @@ fn round<R: Threads + Wait + Sync>(
     rt: &R,
     alloc: Global,
     round: StressRound,
-) -> Result<Tally, Failure> {
+) -> Result<StressTally, Failure> {
     let size = Size {
         participants: PARTICIPANTS,
         places: PLACES,
@@ -157,8 +162,12 @@ impl Stress {
 }
 
 /// The rounds one by one: how the transfers ended, or the first failure.
-fn play<R: Threads + Wait + Sync>(rt: &R, alloc: Global, stress: Stress) -> Result<Tally, Failure> {
-    let mut tally = Tally::new();
+fn play<R: Threads + Wait + Sync>(
+    rt: &R,
+    alloc: Global,
+    stress: Stress,
+) -> Result<StressTally, Failure> {
+    let mut tally = StressTally::new();
     for number in 0..stress.rounds {
         let kind = StressRound::of(stress.threads, stress.is_scarce, number);
         match round(rt, alloc, kind) {
@@ -175,7 +184,7 @@ pub(crate) fn play_apart<R: Threads + Wait + Sync>(
     rt: &R,
     alloc: Global,
     stress: Stress,
-) -> Result<Tally, Failure> {
+) -> Result<StressTally, Failure> {
     let (ended, ()) = join(rt, || play(rt, alloc, stress), || ());
     ended
 }

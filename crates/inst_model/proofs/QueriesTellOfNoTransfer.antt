@@ -1,5 +1,5 @@
 -- A query is answered nothing of a transfer.
-use Rattle.std.proofs.Common.{◌≡◌, ℕ, List, refl}
+use Rattle.std.proofs.Common.{◌≡◌, List, refl}
 use Rattle.inst_command.specs.declared.query.Query.{Query}
 use Rattle.inst_command.specs.declared.query.Query.TheVariants.{Position, Statement}
 use Rattle.inst_journal.specs.declared.event.Event.{Event}

@@ -1,9 +1,9 @@
 -- The numbers of options, their ranges, and the rows of the table of ranges.
-use Rattle.std.proofs.Common.{◌≡◌, ◌⊎◌, ◌<◌, ◌≤◌, ◌^◌, ℕ, List, Option, Some, None, option_map, map, slice_get, refl, sym, ap, subst, ◌∙◌, arith}
+use Rattle.std.proofs.Common.{◌≡◌, ◌≤◌, ◌^◌, ℕ, List, Option, Some, None, option_map, map, slice_get, refl, sym, ap, subst, ◌∙◌, arith}
 use Rattle.std.specs.Prelude.{option_and_then}
 use Rattle.std.proofs.lemmas.Option.{slice_get-map}
 use Rattle.clap.specs.Walk.{row_text}
-use Rattle.clap.specs.Words.{Row, Text, first_of, one_of}
+use Rattle.clap.specs.Words.{Row, Text, first_of}
 use Rattle.inst_options.specs.Options.{Gives, GivesNoneBelow}
 use Rattle.inst_options.specs.BadOptions.{AreInside, IsInside, Range, ranges}
 use Rattle.inst_options.specs.inner.BadOptions.{range_of}

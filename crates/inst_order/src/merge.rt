@@ -107,7 +107,7 @@ impl Merge {
     /// left.
     fn advance<'a>(&mut self, who: u8, events: &'a [Event]) -> Result<&'a [Event], AllocError> {
         for (index, event) in events.iter().enumerate() {
-            if !self.go_over(who, event)? {
+            if !self.find_step(who, event)? {
                 return Ok(&events[index..]);
             }
         }
@@ -128,7 +128,7 @@ impl Merge {
     }
 
     /// Finds the step that keeps this event: `false` if the event waits for another.
-    fn go_over(&mut self, who: u8, event: &Event) -> Result<bool, AllocError> {
+    fn find_step(&mut self, who: u8, event: &Event) -> Result<bool, AllocError> {
         let step = match *event {
             Event::Funded(funding) => Some(ask_first(who, Command::Fund(funding))),
             Event::Defunded(funding) => Some(ask_first(who, Command::Defund(funding))),

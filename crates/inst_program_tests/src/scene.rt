@@ -35,7 +35,7 @@ pub(crate) const REPLIES: &[u8] = b"{\"ref\":\"F1\",\"reply\":\"done\"}\n\
 
 /// How the program ended, and what it wrote.
 #[derive(Drop)]
-pub(crate) struct Ended {
+pub(crate) struct EndedRun {
     pub(crate) status: u8,
     pub(crate) output: Vec<u8>,
     pub(crate) errors: Vec<u8>,
@@ -47,7 +47,7 @@ pub(crate) fn run<H: Threads + Wait + Sync + AllocGlobal, R: Read + Drop>(
     logs: &mut MemoryLogs,
     words: &str,
     reader: R,
-) -> Result<Ended, Fail>
+) -> Result<EndedRun, Fail>
     requires { logs.old.out ≡ None }
     ensures { logs.new.out ≡ None }
 {
@@ -64,7 +64,7 @@ pub(crate) fn run<H: Threads + Wait + Sync + AllocGlobal, R: Read + Drop>(
     };
     let status = program(rt, logs, all, &mut console);
     let Console { writer, errors, .. } = console;
-    Ok(Ended {
+    Ok(EndedRun {
         status,
         output: writer,
         errors,

@@ -3,7 +3,7 @@
 ghost use Rattle.std.specs.Prelude.{◌≡◌, None};
 
 use crate::memory_logs::{Calls, MemoryLogs, Which};
-use crate::scene::{Ended, LINES, NEXT, REPLIES, RUN, run, run_to};
+use crate::scene::{EndedRun, LINES, NEXT, REPLIES, RUN, run, run_to};
 use inst_fixtures::Pieces;
 use std::alloc::Global;
 use std::process::Abort;
@@ -78,7 +78,7 @@ fn kept_lines<H: Threads + Wait + Sync + AllocGlobal + Abort>(
 }
 
 /// Returns `true` if the task was done. Otherwise it ended with a fault of the disk.
-fn is_done<H: Abort>(rt: &H, calls: Calls, count: u64, ended: &Ended) -> bool {
+fn is_done<H: Abort>(rt: &H, calls: Calls, count: u64, ended: &EndedRun) -> bool {
     if ended.status == 0 {
         return true;
     }

@@ -6,7 +6,7 @@ ghost use Rattle.inst_close.specs.Closing.{IsOpenedSo};
 ghost use Rattle.inst_loads.specs.Jobs.{AreJobsOf, HaveAll};
 
 use crate::flaw::Flaw;
-use crate::hub::job::Job;
+use crate::hub::job::HubJob;
 use inst_base::Fault;
 use inst_close::close;
 use inst_hub::{Hub, Teller};
@@ -15,7 +15,7 @@ use std::alloc::{AllocFailed, Global};
 /// The tellers of these jobs, and the one that is in no thread.
 fn tellers_of(
     alloc: Global,
-    jobs: Vec<Job>,
+    jobs: Vec<HubJob>,
     teller: Teller,
 ) -> Result<Vec<Teller>, AllocFailed<Teller>>
     ensures { IfOk result (λ tellers.
@@ -34,7 +34,7 @@ fn tellers_of(
 pub(crate) fn close_and_explain(
     alloc: Global,
     hub: Hub,
-    jobs: Vec<Job>,
+    jobs: Vec<HubJob>,
     teller: Teller,
 ) -> Result<(), Flaw>
     requires of { IsTellerOf hub teller × AreJobsOf hub jobs.items }

@@ -10,7 +10,7 @@ use std::alloc::Global;
 
 /// A thread's teller and number.
 #[derive(Drop)]
-pub(crate) struct Job {
+pub(crate) struct HubJob {
     pub(crate) teller: Teller,
     pub(crate) thread: u8,
 }
@@ -30,7 +30,7 @@ pub(crate) fn last(hub: &Hub, tellers: &mut Vec<Teller>) -> Result<Teller, Fault
 }
 
 /// The jobs of the threads.
-pub(crate) fn jobs(alloc: Global, hub: &Hub, tellers: Vec<Teller>) -> Result<Vec<Job>, Fault>
+pub(crate) fn jobs(alloc: Global, hub: &Hub, tellers: Vec<Teller>) -> Result<Vec<HubJob>, Fault>
     requires { AreOf hub.now tellers.items }
     ensures of { IfOk result (λ jobs. AreJobsOf hub.now jobs.items) }
     ensures parts { IfOk result (λ jobs. parts_of_jobs jobs.items ≡ row_parts tellers.items) }
@@ -38,7 +38,7 @@ pub(crate) fn jobs(alloc: Global, hub: &Hub, tellers: Vec<Teller>) -> Result<Vec
     let mut jobs = Vec::new(alloc);
     let mut thread = 0u8;
     for teller in tellers {
-        jobs.push(Job { teller, thread })?;
+        jobs.push(HubJob { teller, thread })?;
         thread = thread.saturating_add(1);
     }
     Ok(jobs)

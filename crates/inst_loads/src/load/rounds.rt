@@ -8,7 +8,7 @@ use crate::flaw::{Failure, Flaw, check_sum};
 use crate::hub::asking::{ask_money, fund_all, settle};
 use crate::hub::closing::close_and_explain;
 use crate::hub::done::{Done, gather};
-use crate::hub::job::{Job, jobs, last};
+use crate::hub::job::{HubJob, jobs, last};
 use crate::hub::opening::{Size, open};
 use crate::load::{FUNDS, Load, PARTICIPANTS, PLACES};
 use inst_base::Fault;
@@ -29,12 +29,12 @@ fn share<R: Wait>(
     alloc: Global,
     hub: &Hub,
     load: Load,
-    job: Job,
+    job: HubJob,
 ) -> Result<Done<u32>, Failure>
     requires { IsTellerOf hub.now job.teller }
     ensures { IfOk result (λ done. IsStill hub.now job.teller done.job.teller) }
 {
-    let Job { mut teller, thread } = job;
+    let HubJob { mut teller, thread } = job;
     let mut settled = 0u32;
     for number in 0..load.share {
         let pair = load.pair(thread, number);
@@ -44,7 +44,7 @@ fn share<R: Wait>(
         }
     }
     Ok(Done {
-        job: Job { teller, thread },
+        job: HubJob { teller, thread },
         found: settled,
     })
 }
@@ -67,7 +67,7 @@ fn share_all<R: Threads + Wait + Sync>(
     alloc: Global,
     hub: &Hub,
     load: Load,
-    jobs: Vec<Job>,
+    jobs: Vec<HubJob>,
 ) -> Result<Vec<Result<Done<u32>, Failure>>, AllocError>
     requires { AreJobsOf hub.now jobs.items }
     ensures { IfOk result (λ all. AllAreDone hub.now jobs.items all.items) }
@@ -75,7 +75,7 @@ fn share_all<R: Threads + Wait + Sync>(
     thread::map_vec(
         rt,
         jobs,
-        &|job: Job| -> Result<Done<u32>, Failure>
+        &|job: HubJob| -> Result<Done<u32>, Failure>
             requires { IsTellerOf hub.now job.teller }
             ensures { IfOk result (λ done. IsStill hub.entry.now job.teller done.job.teller) }
         { share(rt, alloc, hub, load, job) },
@@ -88,8 +88,8 @@ fn run<R: Threads + Wait + Sync>(
     alloc: Global,
     hub: &Hub,
     load: Load,
-    jobs: Vec<Job>,
-) -> Result<(u32, Vec<Job>), Failure>
+    jobs: Vec<HubJob>,
+) -> Result<(u32, Vec<HubJob>), Failure>
     requires { AreJobsOf hub.now jobs.items }
     ensures { IfOk result (λ r. AreStill hub.now jobs.items r.1.items) }
 {
@@ -127,9 +127,9 @@ fn settle_all<R: Threads + Wait + Sync>(
     alloc: Global,
     hub: &Hub,
     teller: &mut Teller,
-    jobs: Vec<Job>,
+    jobs: Vec<HubJob>,
     load: Load,
-) -> Result<(u32, Vec<Job>), Failure>
+) -> Result<(u32, Vec<HubJob>), Failure>
     requires { IsTellerOf hub.now teller.old × AreJobsOf hub.now jobs.items }
     ensures { IfOk result (λ r. IsStill hub.now teller.old teller.new
         × AreStill hub.now jobs.items r.1.items) }

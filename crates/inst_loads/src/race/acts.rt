@@ -5,7 +5,7 @@ use inst_fixtures::{ask, confirm, fund, submit};
 
 /// A command, or a step at a place of an originator.
 #[derive(Clone, Copy)]
-pub(crate) enum Does {
+pub(crate) enum RaceAct {
     Fund(&'static str, u64),
     Submit(&'static str, u8, u64, u64),
     Confirm(u8, &'static str),
@@ -16,19 +16,19 @@ pub(crate) enum Does {
 }
 
 /// The step of the participant that does so at this reading, in milliseconds.
-pub(crate) fn step_of(who: u8, does: &Does, at: u64) -> Result<Step, Fault> {
+pub(crate) fn step_of(who: u8, does: &RaceAct, at: u64) -> Result<Step, Fault> {
     match *does {
-        Does::Fund(reference, cents) => fund(who, reference, cents, at),
-        Does::Submit(id, to, cents, stamp) => submit(who, id, to, cents, stamp, at),
-        Does::Confirm(from, id) => confirm(who, from, id, at),
-        Does::Position => ask(who, Command::Query(Query::Position), at),
-        Does::Deliver(from, index) => Ok(Step::Deliver {
+        RaceAct::Fund(reference, cents) => fund(who, reference, cents, at),
+        RaceAct::Submit(id, to, cents, stamp) => submit(who, id, to, cents, stamp, at),
+        RaceAct::Confirm(from, id) => confirm(who, from, id, at),
+        RaceAct::Position => ask(who, Command::Query(Query::Position), at),
+        RaceAct::Deliver(from, index) => Ok(Step::Deliver {
             from,
             index,
             to: who,
         }),
-        Does::Learn(from, index) => Ok(Step::Learn { who, from, index }),
-        Does::Expire(index) => match Moment::new(0, at) {
+        RaceAct::Learn(from, index) => Ok(Step::Learn { who, from, index }),
+        RaceAct::Expire(index) => match Moment::new(0, at) {
             Ok(at) => Ok(Step::Expire { who, index, at }),
             Err(fault) => Err(fault),
         },

@@ -1,12 +1,12 @@
 //! Whether books that a race left are those of a run in one thread.
-use crate::race::participant::Participant;
+use crate::race::participant::Racer;
 use inst_base::Fault;
 use inst_journal::Journal;
 use inst_order::interleaving;
 use std::alloc::{AllocError, Global};
 
 /// A copy of each participant's journal.
-fn journals(alloc: Global, hub: &[Participant]) -> Result<Vec<Journal>, AllocError> {
+fn journals(alloc: Global, hub: &[Racer]) -> Result<Vec<Journal>, AllocError> {
     let mut journals = Vec::with_capacity(alloc, hub.len())?;
     for participant in hub {
         journals.push(participant.journal().copy()?)?;
@@ -15,7 +15,7 @@ fn journals(alloc: Global, hub: &[Participant]) -> Result<Vec<Journal>, AllocErr
 }
 
 /// Whether a run in one thread is found that leaves the books of these participants.
-pub(crate) fn are_explained(alloc: Global, hub: &[Participant]) -> Result<bool, Fault> {
+pub(crate) fn are_explained(alloc: Global, hub: &[Racer]) -> Result<bool, Fault> {
     let Some(first) = hub.first() else {
         return Ok(false);
     };

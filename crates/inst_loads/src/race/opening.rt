@@ -4,7 +4,7 @@ ghost use Rattle.inst_settings.specs.Lawful.{IsSettings};
 ghost use Rattle.inst_cell.specs.declared.sight.Sight.{Sight};
 ghost use Rattle.inst_cell.specs.Opening.{AreOpened};
 
-use crate::race::participant::Participant;
+use crate::race::participant::Racer;
 use inst_base::Fault;
 use inst_cell::SharedBoard;
 use inst_fixtures::settings_with;
@@ -12,24 +12,20 @@ use inst_settings::Settings;
 use std::alloc::Global;
 
 /// Each participant with its board.
-fn seated(
-    alloc: Global,
-    settings: &Settings,
-    boards: Vec<SharedBoard>,
-) -> Result<Vec<Participant>, Fault>
+fn seated(alloc: Global, settings: &Settings, boards: Vec<SharedBoard>) -> Result<Vec<Racer>, Fault>
     requires lawful { IsSettings settings.now }
     requires opened { (sights : List Sight) × AreOpened settings.now 1 boards.items sights }
 {
     let mut participants = Vec::new(alloc);
     for (who, board) in boards.into_iter().enumerate() {
-        participants.push(Participant::open(alloc, settings, board, who as u8)?)?;
+        participants.push(Racer::open(alloc, settings, board, who as u8)?)?;
     }
     Ok(participants)
 }
 
 /// The participants, by number, with so many places for each. A transfer can't be accepted any more
 /// from `margin` milliseconds before its deadline on.
-pub(crate) fn open(alloc: Global, places: u16, margin: u32) -> Result<Vec<Participant>, Fault> {
+pub(crate) fn open(alloc: Global, places: u16, margin: u32) -> Result<Vec<Racer>, Fault> {
     let settings = settings_with(alloc, places, margin)?;
     let (boards, _sights) = SharedBoard::open(alloc, &settings, 1)?;
     seated(alloc, &settings, boards)

@@ -13,14 +13,14 @@ use std::marker::Model;
 
 /// A participant's slot with the board that has its role. The board is lawful for the slot.
 #[derive(Drop)]
-pub(crate) struct Participant {
+pub(crate) struct Racer {
     who: u8,
     settings: Settings,
     board: SharedBoard,
     slot: Slot,
 }
 
-impl Model for Participant {
+impl Model for Racer {
     ghost use Rattle.std.specs.Prelude.{◌≡◌};
     ghost use Rattle.inst_cell.specs.Held.{settings_of, knows, has_role};
     ghost use Rattle.inst_slot.specs.Book.{Book};
@@ -43,18 +43,18 @@ fn answered(is_new: Result<bool, Fault>) -> Result<Answer, Fault> {
     }
 }
 
-impl Participant {
+impl Racer {
     /// The participant whose board this is, as the hub opens.
     pub(crate) fn open(
         alloc: Global,
         settings: &Settings,
         board: SharedBoard,
         who: u8,
-    ) -> Result<Participant, Fault>
+    ) -> Result<Racer, Fault>
         requires { (table : TableId) × IsOpened settings.now table who board }
     {
         mention::<Outcome>();
-        Ok(Participant {
+        Ok(Racer {
             who,
             settings: settings.copy()?,
             board,

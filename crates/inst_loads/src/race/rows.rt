@@ -1,111 +1,111 @@
 //! Who does what, one after another in one thread, and what each is answered.
-use crate::race::acts::{Does, step_of};
+use crate::race::acts::{RaceAct, step_of};
 use crate::race::opening::open;
-use crate::race::participant::Participant;
+use crate::race::participant::Racer;
 use crate::told::{RaceReply, tells};
 use inst_base::{Fault, mention};
 use inst_command::{Ask, Command, Outcome, Submission};
 use std::alloc::Global;
 
 /// Who does what, when, and what is answered.
-type Row = (u8, Does, u64, RaceReply);
+type Row = (u8, RaceAct, u64, RaceReply);
 
 /// The first participant has 50,000 cents, and T1 over 20,000 to the second, to which it comes. The
 /// third has no part in it.
 const SUBMITTED: &[Row] = &[
-    (0, Does::Fund("F1", 50_000), 0, RaceReply::Done("F1")),
+    (0, RaceAct::Fund("F1", 50_000), 0, RaceReply::Done("F1")),
     (
         0,
-        Does::Submit("T1", 1, 20_000, 1_000),
+        RaceAct::Submit("T1", 1, 20_000, 1_000),
         1_000,
         RaceReply::Taken("T1", 11_000),
     ),
-    (2, Does::Deliver(0, 0), 1_000, RaceReply::New(false)),
-    (2, Does::Position, 1_000, RaceReply::Position(0, 0, 0)),
-    (1, Does::Deliver(0, 0), 1_000, RaceReply::New(true)),
+    (2, RaceAct::Deliver(0, 0), 1_000, RaceReply::New(false)),
+    (2, RaceAct::Position, 1_000, RaceReply::Position(0, 0, 0)),
+    (1, RaceAct::Deliver(0, 0), 1_000, RaceReply::New(true)),
 ];
 
 const CONFIRMED_IN_TIME: &[Row] = &[
     (
         1,
-        Does::Confirm(0, "T1"),
+        RaceAct::Confirm(0, "T1"),
         10_999,
         RaceReply::Accepted(0, "T1"),
     ),
-    (0, Does::Learn(0, 0), 10_999, RaceReply::New(true)),
+    (0, RaceAct::Learn(0, 0), 10_999, RaceReply::New(true)),
     (
         0,
-        Does::Position,
+        RaceAct::Position,
         10_999,
         RaceReply::Position(30_000, 0, 30_000),
     ),
     (
         1,
-        Does::Position,
+        RaceAct::Position,
         10_999,
         RaceReply::Position(20_000, 0, 20_000),
     ),
-    (2, Does::Position, 10_999, RaceReply::Position(0, 0, 0)),
+    (2, RaceAct::Position, 10_999, RaceReply::Position(0, 0, 0)),
 ];
 
 const CONFIRMED_LATE: &[Row] = &[
     (
         1,
-        Does::Confirm(0, "T1"),
+        RaceAct::Confirm(0, "T1"),
         11_000,
         RaceReply::TimedOut(0, "T1"),
     ),
-    (0, Does::Learn(0, 0), 11_000, RaceReply::New(true)),
+    (0, RaceAct::Learn(0, 0), 11_000, RaceReply::New(true)),
     (
         0,
-        Does::Position,
+        RaceAct::Position,
         11_000,
         RaceReply::Position(50_000, 0, 50_000),
     ),
-    (1, Does::Position, 11_000, RaceReply::Position(0, 0, 0)),
-    (2, Does::Position, 11_000, RaceReply::Position(0, 0, 0)),
+    (1, RaceAct::Position, 11_000, RaceReply::Position(0, 0, 0)),
+    (2, RaceAct::Position, 11_000, RaceReply::Position(0, 0, 0)),
 ];
 
 const CONFIRM_BEFORE_EXPIRE: &[Row] = &[
     (
         1,
-        Does::Confirm(0, "T1"),
+        RaceAct::Confirm(0, "T1"),
         10_999,
         RaceReply::Accepted(0, "T1"),
     ),
-    (0, Does::Expire(0), 11_000, RaceReply::New(true)),
-    (0, Does::Learn(0, 0), 11_000, RaceReply::New(false)),
+    (0, RaceAct::Expire(0), 11_000, RaceReply::New(true)),
+    (0, RaceAct::Learn(0, 0), 11_000, RaceReply::New(false)),
     (
         0,
-        Does::Position,
+        RaceAct::Position,
         11_000,
         RaceReply::Position(30_000, 0, 30_000),
     ),
     (
         1,
-        Does::Position,
+        RaceAct::Position,
         11_000,
         RaceReply::Position(20_000, 0, 20_000),
     ),
-    (2, Does::Position, 11_000, RaceReply::Position(0, 0, 0)),
+    (2, RaceAct::Position, 11_000, RaceReply::Position(0, 0, 0)),
 ];
 
 const EXPIRE_BEFORE_CONFIRM: &[Row] = &[
-    (0, Does::Expire(0), 11_000, RaceReply::New(true)),
+    (0, RaceAct::Expire(0), 11_000, RaceReply::New(true)),
     (
         1,
-        Does::Confirm(0, "T1"),
+        RaceAct::Confirm(0, "T1"),
         10_999,
         RaceReply::TimedOut(0, "T1"),
     ),
     (
         0,
-        Does::Position,
+        RaceAct::Position,
         11_000,
         RaceReply::Position(50_000, 0, 50_000),
     ),
-    (1, Does::Position, 11_000, RaceReply::Position(0, 0, 0)),
-    (2, Does::Position, 11_000, RaceReply::Position(0, 0, 0)),
+    (1, RaceAct::Position, 11_000, RaceReply::Position(0, 0, 0)),
+    (2, RaceAct::Position, 11_000, RaceReply::Position(0, 0, 0)),
 ];
 
 /// Each worked row by its name.
@@ -117,7 +117,7 @@ const WORKED: [(&str, &[Row]); 4] = [
 ];
 
 /// Whether the row is answered so.
-fn is_answered(hub: &mut [Participant], row: &Row) -> Result<bool, Fault> {
+fn is_answered(hub: &mut [Racer], row: &Row) -> Result<bool, Fault> {
     mention::<(Ask, Command, Submission, Outcome)>();
     let (who, does, at, told) = row;
     let step = step_of(*who, does, *at)?;
@@ -129,7 +129,7 @@ fn is_answered(hub: &mut [Participant], row: &Row) -> Result<bool, Fault> {
 
 /// Whether the rows are answered so, one after another; at the first one that isn't, the others are
 /// left out.
-fn are_answered(hub: &mut [Participant], rows: &[Row]) -> Result<bool, Fault> {
+fn are_answered(hub: &mut [Racer], rows: &[Row]) -> Result<bool, Fault> {
     for row in rows {
         if !is_answered(hub, row)? {
             return Ok(false);

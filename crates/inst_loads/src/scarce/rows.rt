@@ -3,29 +3,29 @@ use crate::scarce::want::Need;
 
 /// A step with its answer.
 #[derive(Clone, Copy)]
-pub(crate) struct Line {
+pub(crate) struct RowLine {
     pub(crate) step: &'static str,
     pub(crate) answer: &'static str,
     pub(crate) need: Need,
 }
 
-fn takes(step: &'static str, answer: &'static str) -> Line {
+fn takes(step: &'static str, answer: &'static str) -> RowLine {
     let need = Need::Takes;
-    Line { step, answer, need }
+    RowLine { step, answer, need }
 }
 
-fn takes_none(step: &'static str, answer: &'static str) -> Line {
+fn takes_none(step: &'static str, answer: &'static str) -> RowLine {
     let need = Need::TakesNone;
-    Line { step, answer, need }
+    RowLine { step, answer, need }
 }
 
-fn may_take(step: &'static str, answer: &'static str) -> Line {
+fn may_take(step: &'static str, answer: &'static str) -> RowLine {
     let need = Need::MayTake;
-    Line { step, answer, need }
+    RowLine { step, answer, need }
 }
 
 /// The first participant is funded.
-fn funded() -> Line {
+fn funded() -> RowLine {
     takes(
         r#"{"at":0,"cents":50000,"cmd":"fund","ref":"F1","who":"AAAADEFF"}"#,
         r#"{"ref":"F1","reply":"done"}"#,
@@ -33,7 +33,7 @@ fn funded() -> Line {
 }
 
 /// It submits a transfer to the second.
-fn submitted() -> Line {
+fn submitted() -> RowLine {
     takes(
         r#"{"at":1000,"cents":20000,"cmd":"submit","id":"T1","stamp":1000,"to":"BBBBFRPP","who":"AAAADEFF"}"#,
         r#"{"deadline":11000,"id":"T1","reply":"taken"}"#,
@@ -41,7 +41,7 @@ fn submitted() -> Line {
 }
 
 /// The transfer comes to its beneficiary.
-fn delivered() -> Line {
+fn delivered() -> RowLine {
     takes(
         r#"{"from":"AAAADEFF","place":0,"step":"deliver","who":"BBBBFRPP"}"#,
         r#"{"new":true,"reply":"step"}"#,
@@ -49,7 +49,7 @@ fn delivered() -> Line {
 }
 
 /// A submission reserves; its repeat, what is refused and what is asked take no memory.
-pub(crate) fn submit_reserves() -> [Line; 8] {
+pub(crate) fn submit_reserves() -> [RowLine; 8] {
     [
         funded(),
         takes_none(
@@ -84,7 +84,7 @@ pub(crate) fn submit_reserves() -> [Line; 8] {
 }
 
 /// A confirmation in time, and then its expiry.
-pub(crate) fn confirm_before_expire() -> [Line; 10] {
+pub(crate) fn confirm_before_expire() -> [RowLine; 10] {
     [
         funded(),
         submitted(),
@@ -121,7 +121,7 @@ pub(crate) fn confirm_before_expire() -> [Line; 10] {
 }
 
 /// A statement with its pages, and the steps that a run takes after each line.
-pub(crate) fn statement_lines() -> [Line; 17] {
+pub(crate) fn statement_lines() -> [RowLine; 17] {
     [
         funded(),
         submitted(),

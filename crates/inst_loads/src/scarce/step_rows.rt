@@ -6,7 +6,7 @@ ghost use Rattle.inst_command.specs.Step.{step_fits};
 ghost use Rattle.inst_world.specs.HasRun.{IsOfModel};
 
 use crate::flaw::Flaw;
-use crate::scarce::rows::{self, Line};
+use crate::scarce::rows::{self, RowLine};
 use crate::scarce::same::is_same;
 use crate::scarce::want::{MOST_TRIES, Need, QUANTUM, Want, check_answer};
 use inst_base::{Fault, Moment, mention};
@@ -24,7 +24,7 @@ pub(crate) fn step_rows(alloc: Global, want: &mut Want) -> Result<(), Flaw> {
 }
 
 /// A row, from the opening on.
-fn row(alloc: Global, want: &mut Want, lines: &[Line]) -> Result<(), Flaw> {
+fn row(alloc: Global, want: &mut Want, lines: &[RowLine]) -> Result<(), Flaw> {
     let mut world = open_world(alloc, want)?;
     row_by_slots(alloc, want, &mut world, lines)
 }
@@ -34,7 +34,7 @@ fn row_by_slots(
     alloc: Global,
     want: &mut Want,
     world: &mut World,
-    lines: &[Line],
+    lines: &[RowLine],
 ) -> Result<(), Flaw> {
     let mut slots = open_slots(alloc, want)?;
     take_lines(alloc, want, world, &mut slots, lines)
@@ -83,7 +83,7 @@ fn take_lines(
     want: &mut Want,
     world: &mut World,
     slots: &mut Slots,
-    lines: &[Line],
+    lines: &[RowLine],
 ) -> Result<(), Flaw> {
     for line in lines {
         take_line(alloc, want, world, slots, line)?;
@@ -98,7 +98,7 @@ fn take_line(
     want: &mut Want,
     world: &mut World,
     slots: &mut Slots,
-    line: &Line,
+    line: &RowLine,
 ) -> Result<(), Flaw> {
     mention::<(Ask, Command, Submission, Outcome)>();
     let step = inst_json::read_step(alloc, world.settings(), line.step.as_bytes())?;
@@ -113,7 +113,7 @@ fn take_step(
     want: &mut Want,
     world: &mut World,
     slots: &Slots,
-    line: &Line,
+    line: &RowLine,
     step: &Step,
 ) -> Result<Answer, Flaw>
     requires { step_fits world.old.board.settings step.now ≡ true }

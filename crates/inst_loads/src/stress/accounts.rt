@@ -4,7 +4,7 @@ ghost use Rattle.inst_loads.specs.Jobs.{IsStill};
 
 use crate::flaw::{Flaw, check_sum};
 use crate::hub::asking::{ask, ask_money};
-use crate::stress::sights::{Sight, Sights};
+use crate::stress::sights::{Sights, ToldTransfer};
 use crate::stress::transfer::{FUNDS, PARTICIPANTS};
 use inst_command::{Command, Line, LineKind, Outcome, Query, Reply, State};
 use inst_hub::{Hub, Teller};
@@ -26,7 +26,7 @@ struct Turnover {
 
 impl Turnover {
     /// With this transfer, if it was accepted. `NoTicket` where no teller was told what it is over.
-    fn with(self, who: u8, sight: &Sight) -> Result<Turnover, Flaw> {
+    fn with(self, who: u8, sight: &ToldTransfer) -> Result<Turnover, Flaw> {
         if sight.state != State::Decided(Outcome::Accepted) {
             return Ok(self);
         }

@@ -6,7 +6,7 @@ ghost use Rattle.inst_loads.specs.Jobs.{IsStill};
 use crate::flaw::Flaw;
 use crate::hub::asking::{call, money_of};
 use crate::stress::chooser::Choice;
-use crate::stress::sights::{Sight, Sights};
+use crate::stress::sights::{Sights, ToldTransfer};
 use inst_base::{Fault, Moment, mention};
 use inst_command::{Ask, Outcome, Place, Reply};
 use inst_hub::{Hub, Teller, Ticket};
@@ -93,7 +93,7 @@ fn told_other(sights: &mut Sights, reply: &Reply) -> Result<(), Flaw> {
 }
 
 /// Notes the state that a reply tells, if it tells one.
-fn note_reply(sights: &mut Sights, sight: &Sight, reply: &Reply) -> Result<(), Flaw> {
+fn note_reply(sights: &mut Sights, sight: &ToldTransfer, reply: &Reply) -> Result<(), Flaw> {
     match reply {
         Reply::State { .. } => sights.note(*sight, Flaw::ReplyWentBack),
         _ => Ok(()),
@@ -111,10 +111,10 @@ fn told(
     ensures { (hub : Hub) → IsTellerOf hub teller.old → IsStill hub teller.old teller.new }
 {
     mention::<Outcome>();
-    let sight = Sight::of(&ask.command, reply, ticket).ok_or(Flaw::OtherTransfer)?;
+    let sight = ToldTransfer::of(&ask.command, reply, ticket).ok_or(Flaw::OtherTransfer)?;
     note_reply(sights, &sight, reply)?;
     let state = teller.peek(&ticket);
-    sights.note(Sight { state, ..sight }, Flaw::PeekWentBack)
+    sights.note(ToldTransfer { state, ..sight }, Flaw::PeekWentBack)
 }
 
 /// Peeks at this place, where it was told of.
@@ -125,5 +125,5 @@ pub(crate) fn peek_at(teller: &mut Teller, sights: &mut Sights, place: Place) ->
         return Ok(());
     };
     let state = teller.peek(&sight.ticket);
-    sights.note(Sight { state, ..sight }, Flaw::PeekWentBack)
+    sights.note(ToldTransfer { state, ..sight }, Flaw::PeekWentBack)
 }

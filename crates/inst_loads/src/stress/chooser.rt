@@ -3,7 +3,7 @@ use crate::hub::opening::AHEAD;
 use crate::stress::generator::Generator;
 use crate::stress::sights::PLACES;
 use crate::stress::stress_round::StressRound;
-use crate::stress::transfer::{NAMES, PARTICIPANTS, Transfer};
+use crate::stress::transfer::{NAMES, NextTransfer, PARTICIPANTS};
 use inst_base::{Cents, Fault, Moment, Reason};
 use inst_command::{Ask, Command, Place, Query, Submission};
 use std::alloc::Global;
@@ -91,10 +91,10 @@ impl Chooser {
 
     /// The contested transfer: all threads submit it before they wait for one another, and then
     /// decide it at the same time.
-    fn contested(&self, alloc: Global) -> Result<Transfer, Fault> {
+    fn contested(&self, alloc: Global) -> Result<NextTransfer, Fault> {
         let number = self.step / PACE;
         let participants = u32::from(PARTICIPANTS);
-        Transfer::of(
+        NextTransfer::of(
             alloc,
             (number % participants) as u8,
             NAMES.saturating_add(number / participants),
@@ -103,8 +103,8 @@ impl Chooser {
 
     /// The one half of the threads confirm or reject the contested transfer in time, the others let
     /// it expire.
-    fn decide_contested(&self, transfer: &Transfer) -> Result<Choice, Fault> {
-        let Transfer { from, to, id, .. } = *transfer;
+    fn decide_contested(&self, transfer: &NextTransfer) -> Result<Choice, Fault> {
+        let NextTransfer { from, to, id, .. } = *transfer;
         let deadline = transfer.deadline();
         let in_time = deadline.saturating_sub(u64::from(self.round.margin) + 1);
         match (self.step / PACE).saturating_add(u32::from(self.thread)) % 4 {
@@ -128,10 +128,10 @@ impl Chooser {
             }));
         }
         if self.generator.below(3) == 0 {
-            let transfer = Transfer::of(alloc, from, self.submitted(number))?;
+            let transfer = NextTransfer::of(alloc, from, self.submitted(number))?;
             return self.submission(&transfer);
         }
-        let transfer = Transfer::of(alloc, from, number.saturating_sub(BEHIND))?;
+        let transfer = NextTransfer::of(alloc, from, number.saturating_sub(BEHIND))?;
         self.question(&transfer)
     }
 
@@ -158,7 +158,7 @@ impl Chooser {
     }
 
     /// A submission, mostly in time; now and then with other contents, which is no repeat.
-    fn submission(&mut self, transfer: &Transfer) -> Result<Choice, Fault> {
+    fn submission(&mut self, transfer: &NextTransfer) -> Result<Choice, Fault> {
         let is_other = self.generator.below(32) == 0;
         let to = if is_other {
             self.participant()
@@ -175,8 +175,8 @@ impl Chooser {
     }
 
     /// What the parties ask of a transfer, or of themselves.
-    fn question(&mut self, transfer: &Transfer) -> Result<Choice, Fault> {
-        let Transfer { from, to, id, .. } = *transfer;
+    fn question(&mut self, transfer: &NextTransfer) -> Result<Choice, Fault> {
+        let NextTransfer { from, to, id, .. } = *transfer;
         let at = self.reading(transfer.deadline());
         match self.generator.below(17) {
             0..=5 => command_at(to, Command::Confirm { from, id }, at),
@@ -222,11 +222,11 @@ impl Chooser {
 }
 
 /// A submission of the transfer, in time.
-fn submit(transfer: &Transfer) -> Result<Choice, Fault> {
+fn submit(transfer: &NextTransfer) -> Result<Choice, Fault> {
     submit_so(transfer, transfer.to, transfer.stamp)
 }
 
-fn submit_so(transfer: &Transfer, to: u8, at: u64) -> Result<Choice, Fault> {
+fn submit_so(transfer: &NextTransfer, to: u8, at: u64) -> Result<Choice, Fault> {
     let submission = Submission {
         id: transfer.id,
         to,

@@ -1,11 +1,11 @@
 //! Whether what was handed out is what was submitted: no transfer twice, and each that didn't time
 //! out.
 use crate::flaw::Flaw;
-use crate::stress::sights::{Sight, Sights};
+use crate::stress::sights::{Sights, ToldTransfer};
 use inst_command::{Entry, Outcome, State};
 
 /// How many of the entries are of the transfer that was seen so.
-fn count_of(entries: &[Entry], sight: &Sight) -> usize {
+fn count_of(entries: &[Entry], sight: &ToldTransfer) -> usize {
     let owner = sight.ticket.place().owner;
     let mut count = 0usize;
     for entry in entries {

@@ -4,13 +4,13 @@ ghost use Rattle.inst_hub.specs.Calls.{IsTellerOf};
 ghost use Rattle.inst_loads.specs.Jobs.{AreJobsOf, AreStill, IsStill};
 
 use crate::flaw::{Failure, Flaw};
-use crate::hub::job::Job;
+use crate::hub::job::HubJob;
 use crate::stress::acting::peek_at;
-use crate::stress::sights::{ALL_PLACES, Sight, Sights, place_of};
+use crate::stress::sights::{ALL_PLACES, Sights, ToldTransfer, place_of};
 use inst_hub::{Hub, Teller};
 
 /// The teller meets that of each job.
-pub(crate) fn meet_all(hub: &Hub, teller: &mut Teller, jobs: &mut [Job])
+pub(crate) fn meet_all(hub: &Hub, teller: &mut Teller, jobs: &mut [HubJob])
     requires { IsTellerOf hub.now teller.old × AreJobsOf hub.now jobs.old }
     ensures { IsStill hub.now teller.old teller.new × AreStill hub.now jobs.old jobs.new }
 {
@@ -30,7 +30,7 @@ pub(crate) fn peek_all(teller: &mut Teller, sights: &mut Sights) -> Result<(), F
 }
 
 /// Whether the teller sees just what was noted.
-fn sees_so(teller: &mut Teller, slot: &Option<Sight>) -> bool
+fn sees_so(teller: &mut Teller, slot: &Option<ToldTransfer>) -> bool
     ensures { (hub : Hub) → IsTellerOf hub teller.old → IsStill hub teller.old teller.new }
 {
     match slot {
@@ -52,7 +52,7 @@ fn sees_all_so(teller: &mut Teller, sights: &Sights) -> bool
 }
 
 /// The tellers of all jobs see just what was noted.
-pub(crate) fn agree(jobs: &mut [Job], sights: &Sights) -> Result<(), Failure>
+pub(crate) fn agree(jobs: &mut [HubJob], sights: &Sights) -> Result<(), Failure>
     ensures { (hub : Hub) → AreJobsOf hub jobs.old → AreStill hub jobs.old jobs.new }
 {
     for job in jobs.iter_mut() {

@@ -7,7 +7,7 @@ ghost use Rattle.inst_loads.specs.Jobs.{AreJobsOf, AreStill, IsStill};
 use crate::flaw::{Failure, Flaw};
 use crate::hoard::Hoard;
 use crate::hub::done::{Done, gather};
-use crate::hub::job::Job;
+use crate::hub::job::HubJob;
 use crate::stress::acting::act_so;
 use crate::stress::chooser::{Chooser, STEPS};
 use crate::stress::pace::Pace;
@@ -106,16 +106,16 @@ fn work<R: Wait>(
     hub: &Hub,
     round: StressRound,
     pace: &Pace,
-    job: Job,
+    job: HubJob,
 ) -> Result<Done<RaceReply>, Failure>
     requires { IsTellerOf hub.now job.teller }
     ensures { IfOk result (λ done. IsStill hub.now job.teller done.job.teller) }
 {
-    let Job { mut teller, thread } = job;
+    let HubJob { mut teller, thread } = job;
     let chooser = Chooser::new(round, thread);
     match take_steps(rt, alloc, hub, &mut teller, chooser, pace) {
         Ok(found) => Ok(Done {
-            job: Job { teller, thread },
+            job: HubJob { teller, thread },
             found,
         }),
         Err(flaw) => Err(flaw.of(thread)),
@@ -129,7 +129,7 @@ fn work_all<R: Threads + Wait + Sync>(
     hub: &Hub,
     round: StressRound,
     pace: &Pace,
-    jobs: Vec<Job>,
+    jobs: Vec<HubJob>,
 ) -> Result<Vec<Result<Done<RaceReply>, Failure>>, AllocError>
     requires { AreJobsOf hub.now jobs.items }
     ensures { IfOk result (λ all. AllAreDone hub.now jobs.items all.items) }
@@ -137,7 +137,7 @@ fn work_all<R: Threads + Wait + Sync>(
     thread::map_vec(
         rt,
         jobs,
-        &|job: Job| -> Result<Done<RaceReply>, Failure>
+        &|job: HubJob| -> Result<Done<RaceReply>, Failure>
             requires { IsTellerOf hub.now job.teller }
             ensures { IfOk result (λ done. IsStill hub.entry.now job.teller done.job.teller) }
         { work(rt, alloc, hub, round, pace, job) },
@@ -159,8 +159,8 @@ pub(crate) fn run<R: Threads + Wait + Sync>(
     alloc: Global,
     hub: &Hub,
     round: StressRound,
-    jobs: Vec<Job>,
-) -> Result<(Vec<Job>, Sights), Failure>
+    jobs: Vec<HubJob>,
+) -> Result<(Vec<HubJob>, Sights), Failure>
     requires { AreJobsOf hub.now jobs.items }
     ensures { IfOk result (λ r. AreStill hub.now jobs.items r.0.items) }
 {

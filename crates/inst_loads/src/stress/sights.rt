@@ -17,7 +17,7 @@ pub(crate) const ALL_PLACES: u16 = PARTICIPANTS * PLACES;
 
 /// What a teller was told and saw last of a transfer.
 #[derive(Clone, Copy)]
-pub(crate) struct Sight {
+pub(crate) struct ToldTransfer {
     pub(crate) ticket: Ticket,
     pub(crate) id: Ident,
     /// The beneficiary and the cents, where a submission was taken.
@@ -41,9 +41,9 @@ fn both(one: Option<(u8, u64)>, two: Option<(u8, u64)>) -> Result<Option<(u8, u6
     Ok(one.or(two))
 }
 
-impl Sight {
+impl ToldTransfer {
     /// The transfer that a reply tells of, as far as the command and the reply tell.
-    pub(crate) fn of(command: &Command, reply: &Reply, ticket: Ticket) -> Option<Sight> {
+    pub(crate) fn of(command: &Command, reply: &Reply, ticket: Ticket) -> Option<ToldTransfer> {
         let (id, contents, state) = match (command, reply) {
             (Command::Submit(submission), Reply::Taken { id, .. }) => {
                 (
@@ -55,7 +55,7 @@ impl Sight {
             (_, Reply::State { id, state, .. }) => (*id, None, *state),
             _ => return None,
         };
-        Some(Sight {
+        Some(ToldTransfer {
             ticket,
             id,
             contents,
@@ -65,7 +65,7 @@ impl Sight {
 
     /// This with what was told or seen later. `OtherTransfer` where that is of another transfer,
     /// `flaw` where the state doesn't go on.
-    fn then(self, later: Sight, flaw: Flaw) -> Result<Sight, Flaw> {
+    fn then(self, later: ToldTransfer, flaw: Flaw) -> Result<ToldTransfer, Flaw> {
         if self.id != later.id {
             return Err(Flaw::OtherTransfer);
         }
@@ -73,12 +73,12 @@ impl Sight {
             return Err(flaw);
         }
         let contents = both(self.contents, later.contents)?;
-        Ok(Sight { contents, ..later })
+        Ok(ToldTransfer { contents, ..later })
     }
 
     /// This with what another teller was told and saw. `TellersDiffer` where both have an outcome
     /// and not the same.
-    fn beside(self, other: Sight) -> Result<Sight, Flaw> {
+    fn beside(self, other: ToldTransfer) -> Result<ToldTransfer, Flaw> {
         match other.state {
             State::Decided(_) => self.then(other, Flaw::TellersDiffer),
             State::Unused | State::Pending => other.then(self, Flaw::TellersDiffer),
@@ -90,7 +90,7 @@ impl Sight {
 /// a teller made.
 #[derive(Drop)]
 pub(crate) struct Sights {
-    places: Vec<Option<Sight>>,
+    places: Vec<Option<ToldTransfer>>,
     entries: Vec<Entry>,
     pub(crate) calls: u64,
     /// How many steps were refused memory.
@@ -129,7 +129,7 @@ impl Sights {
         })
     }
 
-    pub(crate) fn places(&self) -> &[Option<Sight>] {
+    pub(crate) fn places(&self) -> &[Option<ToldTransfer>] {
         self.places.as_slice()
     }
 
@@ -138,12 +138,12 @@ impl Sights {
     }
 
     /// What was seen at this place, if anything.
-    pub(crate) fn at(&self, place: Place) -> Option<Sight> {
+    pub(crate) fn at(&self, place: Place) -> Option<ToldTransfer> {
         *self.places.get(index_of(place))?
     }
 
     /// Notes what was told or seen after all that is noted, or says what is wrong with it.
-    pub(crate) fn note(&mut self, sight: Sight, flaw: Flaw) -> Result<(), Flaw> {
+    pub(crate) fn note(&mut self, sight: ToldTransfer, flaw: Flaw) -> Result<(), Flaw> {
         mention::<Outcome>();
         let noted = match self.at(sight.ticket.place()) {
             Some(before) => before.then(sight, flaw)?,
@@ -152,7 +152,7 @@ impl Sights {
         self.put(noted)
     }
 
-    fn put(&mut self, sight: Sight) -> Result<(), Flaw> {
+    fn put(&mut self, sight: ToldTransfer) -> Result<(), Flaw> {
         match self.places.get_mut(index_of(sight.ticket.place())) {
             Some(slot) => {
                 *slot = Some(sight);
@@ -194,7 +194,7 @@ impl Sights {
         Ok(())
     }
 
-    fn add_one(&mut self, sight: Sight) -> Result<(), Flaw> {
+    fn add_one(&mut self, sight: ToldTransfer) -> Result<(), Flaw> {
         mention::<Outcome>();
         let noted = match self.at(sight.ticket.place()) {
             Some(before) => before.beside(sight)?,

@@ -6,7 +6,7 @@ use std::fmt::{self, Display, Formatter};
 /// How many calls were made until all transfers had ended, how these ended, and how many steps were
 /// refused memory.
 #[derive(Clone, Copy)]
-pub(crate) struct Tally {
+pub(crate) struct StressTally {
     pub(crate) calls: u64,
     pub(crate) accepted: u64,
     pub(crate) rejected: u64,
@@ -14,9 +14,9 @@ pub(crate) struct Tally {
     pub(crate) refused: u64,
 }
 
-impl Tally {
-    pub(crate) fn new() -> Tally {
-        Tally {
+impl StressTally {
+    pub(crate) fn new() -> StressTally {
+        StressTally {
             calls: 0,
             accepted: 0,
             rejected: 0,
@@ -26,11 +26,11 @@ impl Tally {
     }
 
     /// How all transfers that were told of ended. `StillPending` where one didn't.
-    pub(crate) fn of(sights: &Sights) -> Result<Tally, Flaw> {
-        let mut tally = Tally {
+    pub(crate) fn of(sights: &Sights) -> Result<StressTally, Flaw> {
+        let mut tally = StressTally {
             calls: sights.calls,
             refused: sights.refused,
-            ..Tally::new()
+            ..StressTally::new()
         };
         for slot in sights.places() {
             if let Some(sight) = slot {
@@ -41,7 +41,7 @@ impl Tally {
     }
 
     /// With one transfer more, which ended so.
-    fn with(self, state: State) -> Result<Tally, Flaw> {
+    fn with(self, state: State) -> Result<StressTally, Flaw> {
         let mut tally = self;
         let ended = match state {
             State::Decided(Outcome::Accepted) => &mut tally.accepted,
@@ -53,8 +53,8 @@ impl Tally {
         Ok(tally)
     }
 
-    pub(crate) fn plus(self, other: Tally) -> Tally {
-        Tally {
+    pub(crate) fn plus(self, other: StressTally) -> StressTally {
+        StressTally {
             calls: self.calls.saturating_add(other.calls),
             accepted: self.accepted.saturating_add(other.accepted),
             rejected: self.rejected.saturating_add(other.rejected),
@@ -64,9 +64,9 @@ impl Tally {
     }
 }
 
-impl Display for Tally {
+impl Display for StressTally {
     fn fmt<W: fmt::Write>(&self, f: &mut Formatter<W>) -> fmt::Result {
-        let Tally {
+        let StressTally {
             calls,
             accepted,
             rejected,

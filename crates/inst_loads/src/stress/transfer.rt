@@ -21,7 +21,7 @@ const STRIDE: u64 = 10;
 /// A transfer that the threads submit and decide. All of it follows from its originator and its
 /// number, so that another submission of it is a repeat.
 #[derive(Clone, Copy)]
-pub(crate) struct Transfer {
+pub(crate) struct NextTransfer {
     pub(crate) from: u8,
     pub(crate) to: u8,
     pub(crate) id: Ident,
@@ -30,12 +30,12 @@ pub(crate) struct Transfer {
     pub(crate) stamp: u64,
 }
 
-impl Transfer {
+impl NextTransfer {
     /// The transfer of the participant `from` with this number.
-    pub(crate) fn of(alloc: Global, from: u8, number: u32) -> Result<Transfer, Fault> {
+    pub(crate) fn of(alloc: Global, from: u8, number: u32) -> Result<NextTransfer, Fault> {
         let text = format!(in alloc; "T{number}")?;
         let to = (u32::from(from) + 1 + number % 3) % u32::from(PARTICIPANTS);
-        Ok(Transfer {
+        Ok(NextTransfer {
             from,
             to: to as u8,
             id: Ident::new(text.as_str())?,

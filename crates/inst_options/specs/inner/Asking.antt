@@ -1,6 +1,6 @@
 -- The subcommand that was found, and the errors of words that ask for nothing.
 use Rattle.std.specs.Prelude.{◌≢◌, ◌≡◌, ◌⊎◌, List, Option, Some, None}
-use Rattle.clap.specs.Words.{Row, Text, first_of, kind_of}
+use Rattle.clap.specs.Words.{Row, Text, kind_of}
 use Rattle.clap.specs.declared.error.kind.ErrorKind.{ErrorKind}
 use Rattle.clap.specs.declared.error.kind.ErrorKind.TheVariants.{OutOfMemory}
 use Rattle.inst_base.specs.declared.fault.Fault.{Fault}

@@ -1,6 +1,6 @@
 -- What the options of a subcommand give, and when they choose nothing.
-use Rattle.std.specs.Prelude.{◌≡◌, ◌⊎◌, ℕ, true, false, List, Option, Some, None, option_map, codes}
-use Rattle.clap.specs.Words.{Row, Text, first_of}
+use Rattle.std.specs.Prelude.{◌≡◌, ℕ, true, List, Option, Some, None, option_map, codes}
+use Rattle.clap.specs.Words.{Row, first_of}
 use Rattle.inst_settings.specs.Settings.{HubSettings, same_text}
 use Rattle.inst_settings.specs.Lawful.{AreOfAHub, IsSettings}
 use Rattle.inst_options.specs.declared.invocation.LogOptions.{LogOptions}

@@ -1,7 +1,5 @@
-use Rattle.std.proofs.Common.{length, arith, ap, subst, List}
+use Rattle.std.proofs.Common.{length, arith, ap, List}
 use Rattle.std.proofs.lemmas.Option.{slice_get_within}
-use Rattle.inst_journal.specs.declared.event.Event.{Event}
-use Rattle.inst_journal.specs.Sound.{IsSound}
 use Rattle.inst_slot.specs.declared.arrival.Arrival.{Arrival}
 use Rattle.inst_participant.proofs.SettlementPlaceByPlace.{later_on, arrived_more, arrived_all, arrival_owner}
 use Rattle.inst_participant.proofs.settling.learn_arrived.Goals as goal

@@ -1,4 +1,4 @@
-use Rattle.std.proofs.Common.{◌≡◌, ◌∙◌, ap, sym, subst, rules}
+use Rattle.std.proofs.Common.{◌∙◌, ap, sym, subst, rules}
 use Rattle.atomic_table.specs.Table.{Me}
 use Rattle.inst_cell.specs.View.{KnowsOne}
 use Rattle.inst_cell.specs.declared.view.View.{View}

@@ -1,4 +1,4 @@
-use Rattle.std.proofs.Common.{sym, subst}
+use Rattle.std.proofs.Common.{subst}
 use Rattle.inst_model.specs.Opening.{Opening}
 use Rattle.inst_participant.specs.Together.{histories}
 use Rattle.inst_order.specs.Order.{ExplainsBooks}

@@ -1,6 +1,6 @@
 use Rattle.std.proofs.Common.{sym, subst, List}
 use Rattle.std.specs.Vec.Iter.{into_iter_items}
-use Rattle.inst_loads.specs.declared.hub.job.Job.{Job}
+use Rattle.inst_loads.specs.declared.hub.job.HubJob.{HubJob}
 use Rattle.inst_loads.specs.Jobs.{AreJobsOf}
 use Rattle.inst_loads.proofs.Jobs.{next_left, next_is_of, one_job, more_parts}
 use Rattle.inst_loads.proofs.hub.job.jobs.Goals as goal
@@ -15,7 +15,7 @@ loop-teller-preserved c =
       tt,
       tt,
       next_left c.loop-teller.yielded rest after c.args.tellers.items c.in-Some.teller i.2 is,
-      subst (λ (l : List Job). AreJobsOf c.args.hub.now l) (sym {A = List Job} c.in_ok-push.ensures.items)
+      subst (λ (l : List HubJob). AreJobsOf c.args.hub.now l) (sym {A = List HubJob} c.in_ok-push.ensures.items)
           (one_job c.args.hub.now c.loop-teller.jobs.items record { teller = c.in-Some.teller; thread = c.loop-teller.thread } i.3 one),
       more_parts c.loop-teller.jobs.items _ record { teller = c.in-Some.teller; thread = c.loop-teller.thread } rest after _ i.4 c.in_ok-push.ensures.items is,
     )

@@ -1,9 +1,7 @@
-use Rattle.std.proofs.Common.{rules, ⊎_elim, subst, List}
+use Rattle.std.proofs.Common.{rules, ⊎_elim, subst}
 use Rattle.inst_cell.specs.declared.shared_board.SharedBoard.{SharedBoard}
 use Rattle.inst_cell.specs.Held.{settings_of, knows, has_role, stood, Stays, roles_same}
 use Rattle.inst_board.specs.Learning.{IsAnswer, KnowTheSame}
-use Rattle.inst_journal.specs.declared.event.Event.{Event}
-use Rattle.inst_journal.specs.Sound.{IsSound}
 use Rattle.inst_slot.proofs.ForwardedTransfersHavePlaces.{asks_adopted}
 use Rattle.inst_participant.specs.Answers.{Answered}
 use Rattle.inst_participant.proofs.AnswerByHistoryAlone.{KnowsOwn, answered}

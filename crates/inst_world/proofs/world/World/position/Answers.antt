@@ -1,4 +1,4 @@
-use Rattle.std.proofs.Common.{◌≡◌, ap, ◌∙◌, sym, subst}
+use Rattle.std.proofs.Common.{◌≡◌, ap, ◌∙◌, subst}
 use Rattle.inst_journal.specs.Money.{position}
 use Rattle.inst_model.specs.Hub.{history}
 use Rattle.inst_world.specs.HasRun.{World, HasRun}

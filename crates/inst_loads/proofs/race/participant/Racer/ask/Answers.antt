@@ -1,6 +1,6 @@
 use Rattle.inst_cell.specs.Held.{settings_of, knows, has_role}
 use Rattle.inst_slot.proofs.ForwardedTransfersHavePlaces.{asks_adopted}
-use Rattle.inst_loads.proofs.race.participant.Participant.ask.Goals as goal
+use Rattle.inst_loads.proofs.race.participant.Racer.ask.Goals as goal
 
 pub apply-requires-clause-adopted : goal.apply-requires-clause-adopted
 apply-requires-clause-adopted c =
