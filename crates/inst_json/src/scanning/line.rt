@@ -1,4 +1,4 @@
-//! A whole line.
+//! Scanning a whole line.
 ghost use Rattle.std.specs.Prelude.{◌≡◌, Some, None};
 ghost use Rattle.std.specs.Str.{IsAscii};
 ghost use Rattle.serde_json.specs.Data.{Data};
@@ -12,12 +12,16 @@ use crate::scanning::form::Form;
 use crate::scanning::member::{key, scalar};
 use crate::scanning::parts::skip_space;
 
-/// Reads the fields of a line into `found`, which has none before. `Plain` if the line is a flat
-/// object of texts without escapes and whole numbers of at most 19 digits: JSON (RFC 8259) with its
-/// keys in any order and its white space; of a key given twice the last counts. `Broken` for most
-/// lines that are no JSON text, where the pass comes upon that by itself. `Other` for the rest,
-/// JSON or not, which are to be read in another way.
-#[inline(always)]
+/// Reads the fields of a line into `found` in one pass. Allocates nothing.
+///
+/// Returns `Plain` only for a flat JSON object (RFC 8259) of ASCII texts without escapes and of
+/// whole numbers of at most 19 digits; its keys may be in any order, and if one is given twice the
+/// last one counts. Most such lines are `Plain`. Returns `Broken` only for lines that aren't JSON.
+/// The result may be `Other` for any line, JSON or not: read it as a JSON value.
+///
+/// Requires `found` without fields, as from `Fields::new`.
+// Kept out of line: inlined, all fields would be copied once more for each line.
+#[inline(never)]
 pub fn scan<'a>(text: &'a [u8], found: &mut Fields<'a>) -> Form
     requires { fields_in_order found.old ≡ no_fields }
     ensures value { result ≡ Plain →

@@ -1,4 +1,4 @@
-//! The parts of a line: spaces, a plain text, a whole number.
+//! Scanning the parts of a line: spaces, a plain text, a whole number.
 ghost use Rattle.std.specs.Prelude.{◌≡◌, ◌+◌, ◌<◌, ◌≤◌, ◌^◌, ◌++◌, ◌∷◌, [], true, false, not, map};
 ghost use Rattle.std.specs.Prelude.{length, drop, slice_index, Some, IfSome, decimal};
 ghost use Rattle.std.specs.List.{prefix_len};
@@ -13,7 +13,7 @@ ghost use Rattle.json.specs.Lex.{lex, between, in_string, token};
 use std::simd::prelude::*;
 use std::str;
 
-/// Whether the byte is one of the four spaces of JSON.
+/// Returns `true` for the four white space bytes of JSON.
 #[inline(always)]
 fn is_space(byte: u8) -> bool
     ensures { result ≡ is_space byte }
@@ -21,7 +21,7 @@ fn is_space(byte: u8) -> bool
     byte == b' ' || byte == b'\t' || byte == b'\n' || byte == b'\r'
 }
 
-/// The first place from `from` on where no space stands.
+/// Returns the first position from `from` on that isn't white space.
 #[inline(always)]
 pub(crate) fn skip_space(text: &[u8], from: usize) -> usize
     requires { from ≤ length text.now }
@@ -38,7 +38,8 @@ pub(crate) fn skip_space(text: &[u8], from: usize) -> usize
     at
 }
 
-/// Which of sixteen bytes are a quote, a backslash, a control byte or no ASCII.
+/// Returns a mask of the bytes that end a plain text: a quotation mark, a backslash, a control byte
+/// or not ASCII.
 #[inline(always)]
 fn stops(bytes: u8x16) -> u64
     ensures { result ≡ mask_l (map (λ x. not (is_text x)) bytes) }
@@ -49,7 +50,7 @@ fn stops(bytes: u8x16) -> u64
         | bytes.simd_ge(u8x16::splat(0x80))).to_bitmask()
 }
 
-/// The same, where fewer than sixteen bytes may be left.
+/// Does the same byte by byte, for a line of fewer than sixteen bytes.
 #[inline(always)]
 fn plain_end_slowly(text: &[u8], from: usize) -> usize
     requires { from ≤ length text.now }
@@ -68,7 +69,7 @@ fn plain_end_slowly(text: &[u8], from: usize) -> usize
     at
 }
 
-/// The first quote, backslash, control byte or byte that is not ASCII from `from` on, or the end.
+/// Returns the position of the first byte from `from` on that ends a plain text, or the end.
 #[inline(always)]
 pub(crate) fn plain_end(text: &[u8], from: usize) -> usize
     requires { from ≤ length text.now }
@@ -83,11 +84,20 @@ pub(crate) fn plain_end(text: &[u8], from: usize) -> usize
         }
         at += 16;
     }
-    plain_end_slowly(text, at)
+    if text.len() < 16 {
+        return plain_end_slowly(text, at);
+    }
+    // The last sixteen bytes, without those before `at`.
+    let last = text.len() - 16;
+    let found = stops(u8x16::from_slice(&text[last..])) >> (at - last);
+    if found == 0 {
+        return text.len();
+    }
+    at + found.trailing_zeros() as usize
 }
 
-/// The text that begins behind a quote, where it has no escape, and the place behind its closing
-/// quote.
+/// Returns the text after a quotation mark if it has no escape, and the position after its closing
+/// one.
 #[inline(always)]
 pub(crate) fn string(text: &[u8], from: usize) -> Option<(&str, usize)>
     requires { from ≤ length text.now }
@@ -100,7 +110,7 @@ pub(crate) fn string(text: &[u8], from: usize) -> Option<(&str, usize)>
 {
     let end = plain_end(text, from);
     if end < text.len() && text[end] == b'"' {
-        // Only ASCII stands before `end`.
+        // SAFETY: all bytes before `end` are ASCII.
         let word = unsafe { str::from_utf8_unchecked(&text[from..end]) };
         Some((word, end + 1))
     } else {
@@ -108,8 +118,8 @@ pub(crate) fn string(text: &[u8], from: usize) -> Option<(&str, usize)>
     }
 }
 
-/// The digits from `from` on, where none stands for nothing: their value, of at most 19 digits, and
-/// the place behind them.
+/// Returns the value of the digits from `from` on and the position after them: at most 19 digits,
+/// without a leading zero.
 #[inline(always)]
 fn digits(text: &[u8], from: usize) -> Option<(u64, usize)>
     requires { from ≤ length text.now }
@@ -135,7 +145,7 @@ fn digits(text: &[u8], from: usize) -> Option<(u64, usize)>
     Some((value, at))
 }
 
-/// Whether a number may end before this byte.
+/// Returns `true` if a number may end before this byte.
 #[inline(always)]
 fn ends_number(byte: u8) -> bool
     ensures { result ≡ true → ends_word (byte ∷ []) ≡ true }
@@ -143,7 +153,7 @@ fn ends_number(byte: u8) -> bool
     byte == b',' || byte == b'}' || byte == b' '
 }
 
-/// A whole number of at most 19 digits behind which its word ends, and the place behind it.
+/// Returns a whole number of at most 19 digits that ends its word, and the position after it.
 #[inline(always)]
 pub(crate) fn whole(text: &[u8], from: usize) -> Option<(u64, usize)>
     requires { from ≤ length text.now }
