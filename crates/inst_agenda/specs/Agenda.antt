@@ -1,25 +1,25 @@
--- What a run still has to do: the places whose transfers it goes over next, in order of originator
--- and place, and for each other one of which something may be left to do the moment from which it
--- may be. This hub's own choice.
+-- The agenda of a run: the places that it visits next, in order of originator and index, and for
+-- other places the moment from which there may be something to do. A choice of this hub.
 use Rattle.std.specs.Prelude.{ℕ, Bool, ◌&&◌, nat_eq, List}
 use Rattle.std.specs.List.{list_any}
 
--- the places that are waiting, each with its moment, and those that are next, by originator and
--- index
+-- The waiting places, each with its moment, and the places that are next, by originator and index.
 pub record Agenda : Type 0 where
   pub waiting : List (ℕ × (ℕ × ℕ))
   pub next : List (ℕ × ℕ)
 
+-- True if the place has this owner and index.
 abbrev pub is_same_place : ℕ → ℕ → ℕ × ℕ → Bool
 is_same_place owner index place = nat_eq place.0 owner && nat_eq place.1 index
 
+-- True if the entry is of this moment and place.
 abbrev pub is_entry : ℕ → ℕ → ℕ → ℕ × (ℕ × ℕ) → Bool
 is_entry moment owner index entry = nat_eq entry.0 moment && is_same_place owner index entry.1
 
--- whether the place waits for this moment
+-- True if the place waits for this moment.
 abbrev pub is_awaited : Agenda → ℕ → ℕ → ℕ → Bool
 is_awaited agenda moment owner index = list_any (is_entry moment owner index) agenda.waiting
 
--- whether the place is one of the next
+-- True if the place is one of the next.
 abbrev pub is_next : Agenda → ℕ → ℕ → Bool
 is_next agenda owner index = list_any (is_same_place owner index) agenda.next

@@ -1,5 +1,6 @@
--- What a run knows of its hub between two lines: whatever something is left to do of stands on its
--- agenda. So it goes over these transfers alone, and has gone over all. This hub's own choice.
+-- The relation between a hub and its agenda between two lines: each transfer with something left to
+-- do is on the agenda. So a follow-up that visits only those has the effect of visiting all. A
+-- choice of this hub.
 use Rattle.std.specs.Prelude.{◌≡◌, ℕ, ◌<◌, true, false, List, Some}
 use Rattle.inst_settings.specs.Settings.{HubSettings, is_participant}
 use Rattle.inst_command.specs.declared.step.Step.{Step}
@@ -10,13 +11,15 @@ use Rattle.inst_agenda.specs.Agenda.{Agenda, is_awaited, is_next}
 use Rattle.inst_world.specs.HasRun.{World, world_settings, HasRun}
 use Rattle.inst_agenda.specs.Resting.{Rests}
 
--- the place is none of the next, and waits for no moment up to this reading
+-- The place isn't one of the next, and waits for no moment up to this clock reading.
 pub record IsLeft (agenda : Agenda) (at p index : ℕ) : Type 0 where
   pub not_next : is_next agenda p index ≡ false
   pub not_due : (m : ℕ) → is_awaited agenda m p index ≡ true → at < m
 
--- next_named, waiting_named: the agenda's places are of participants
--- rests: of each transfer of theirs that it leaves at a reading nothing is left to do
+-- The agenda fits a hub after these steps.
+--
+-- - next_named, waiting_named: the agenda's places are of participants
+-- - rests: for a transfer that the agenda leaves out at a clock reading nothing is left to do
 pub record IsAgendaOf (s : HubSettings) (O : Opening) (L : List Step) (agenda : Agenda) : Type 0
   where
     pub next_named : (p index : ℕ) → is_next agenda p index ≡ true → is_participant s p ≡ true
@@ -26,7 +29,7 @@ pub record IsAgendaOf (s : HubSettings) (O : Opening) (L : List Step) (agenda : 
         at_place p (history s O L p) index ≡ Some x →
         (at : ℕ) → IsLeft agenda at p index → Rests s O L at p x
 
--- the hub has run these steps since this opening, and the agenda says what is left to do
+-- The hub has run these steps since this opening, and the agenda fits it.
 pub record Watches (O : Opening) (L : List Step) (hub : World) (agenda : Agenda) : Type 0 where
   pub ran : HasRun O L hub
   pub is_agenda : IsAgendaOf (world_settings hub) O L agenda

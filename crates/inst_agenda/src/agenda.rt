@@ -1,4 +1,5 @@
-//! What a run still has to do between its lines.
+//! The agenda of a run: the transfers that the next follow-up visits, and those that wait for a
+//! moment.
 ghost use Rattle.std.specs.Prelude.{◌≡◌, [], OnOk};
 ghost use Rattle.inst_agenda.specs.inner.Agenda.{Notes, Waits, TakesAnyDue, MovesDue, TakesAnyNext};
 
@@ -8,8 +9,10 @@ use std::alloc::{AllocError, Global};
 use std::collections::BTreeSet;
 use std::marker::Model;
 
-/// The places whose transfers are gone over next, in order of originator and index, and those that
-/// wait: before its moment there is nothing to do of a transfer. Each call costs the logarithm of
+/// The places that the next follow-up visits, in order of originator and index, and the places that
+/// wait for a moment.
+///
+/// Before its moment nothing is left to do for a waiting transfer. Each call costs O(log n) of
 /// their number.
 #[derive(Drop)]
 pub struct Agenda {
@@ -26,7 +29,7 @@ impl Model for Agenda {
 }
 
 impl Agenda {
-    /// Nothing to do. It takes no memory.
+    /// Returns an empty agenda; allocates nothing.
     pub(crate) fn new(alloc: Global) -> Self
         ensures { result ≡ record { waiting = []; next = [] } }
     {
@@ -36,7 +39,7 @@ impl Agenda {
         }
     }
 
-    /// The transfer at this place is gone over next.
+    /// Adds a place that the next follow-up visits.
     pub(crate) fn note(&mut self, place: Place) -> Result<(), AllocError>
         ensures ok { OnOk result (Notes self.old self.new place) }
     {
@@ -44,7 +47,7 @@ impl Agenda {
         Ok(())
     }
 
-    /// The transfer at this place waits for this moment.
+    /// Lets a place wait for this moment.
     pub(crate) fn wait(&mut self, moment: Moment, place: Place) -> Result<(), AllocError>
         ensures ok { OnOk result (Waits self.old self.new moment place) }
     {
@@ -52,7 +55,7 @@ impl Agenda {
         Ok(())
     }
 
-    /// Takes out the first place that waits, where its moment has come at `at`.
+    /// Removes the first waiting place if its moment has come at `at`.
     fn take_due(&mut self, at: Moment) -> Option<(Moment, Place)>
         ensures { TakesAnyDue self.old self.new at result }
     {
@@ -64,7 +67,7 @@ impl Agenda {
         Some((moment, Place { owner, index }))
     }
 
-    /// All transfers whose moment has come at `at` are gone over next.
+    /// Moves all places whose moment has come at `at` to those that are visited next.
     pub(crate) fn move_due(&mut self, at: Moment) -> Result<(), AllocError>
         ensures ok { OnOk result (MovesDue self.old self.new at) }
     {
@@ -74,7 +77,7 @@ impl Agenda {
         Ok(())
     }
 
-    /// Takes out the first place of the next.
+    /// Removes the first place that is visited next.
     pub(crate) fn take_next(&mut self) -> Option<Place>
         ensures { TakesAnyNext self.old self.new result }
     {

@@ -1,5 +1,4 @@
-//! What a run does after each line that it reads: it goes over the transfers of which there is
-//! something to do.
+//! Follow-ups: what a run does after each line for the transfers that have something left to do.
 ghost use Rattle.std.specs.Prelude.{◌≡◌, true, List, ◌++◌, reverse, OnOk};
 ghost use Rattle.inst_settings.specs.Settings.{is_participant};
 ghost use Rattle.inst_command.specs.declared.step.Step.{Step};
@@ -15,9 +14,16 @@ use inst_command::{Place, Step};
 use inst_world::World;
 use std::alloc::AllocError;
 
-/// Goes over all transfers taken so far, at the reading `at`, but for those that this adds nothing
-/// to. Refused memory leaves some of them undone. It costs the logarithm of what waits for each
-/// transfer that was named or is due.
+/// Follows up all live transfers at clock reading `at`.
+///
+/// The result is as if each had been delivered, learnt by its originator, let expire, and learnt by
+/// its beneficiary. Only the transfers that were noted or are due are visited; for the others
+/// nothing would change. Costs O(log n) of the agenda for each of those.
+///
+/// # Errors
+///
+/// [`AllocError`] if the hub or the agenda fails to allocate. Some transfers weren't followed up,
+/// and a later call may miss them.
 pub fn follow_up(runner: &mut Runner, at: Moment) -> Result<(), AllocError>
     ensures ok { OnOk result ((O : Opening) (L : List Step) →
         Watches O L runner.old.world runner.old.agenda →
@@ -32,9 +38,11 @@ pub fn follow_up(runner: &mut Runner, at: Moment) -> Result<(), AllocError>
     Ok(())
 }
 
-/// Goes over the transfer at the place, if there is one. Where it stays pending it waits for its
-/// deadline. Of one that is pending and not due only its beneficiary can have something to learn:
-/// neither side has an outcome to book, and nothing times out.
+/// Follows up the transfer at the place, if there is one. If it stays pending it waits for its
+/// deadline.
+///
+/// While it is pending and not due only a delivery can do anything: there is no outcome to book,
+/// and nothing times out.
 fn go_over(runner: &mut Runner, place: Place, at: Moment) -> Result<(), AllocError>
     ensures next { OnOk result (runner.new.agenda.next ≡ runner.old.agenda.next) }
     ensures ok { OnOk result ((O : Opening) (L : List Step) → HasRun O L runner.old.world →
@@ -59,7 +67,7 @@ fn go_over(runner: &mut Runner, place: Place, at: Moment) -> Result<(), AllocErr
     Ok(())
 }
 
-/// Tells both sides what there is to tell of one transfer.
+/// Delivers one transfer, lets its originator learn and expire it, and lets its beneficiary learn.
 fn follow_up_transfer(world: &mut World, place: Place, to: u8, at: Moment) -> Result<(), AllocError>
     requires originator { is_participant world.old.board.settings place.owner ≡ true }
     requires beneficiary { is_participant world.old.board.settings to ≡ true }

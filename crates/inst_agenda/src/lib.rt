@@ -1,5 +1,5 @@
-//! What is left to do of the transfers of a hub that is run line by line: those that a line names
-//! or makes due are gone over after it, and no others.
+//! A hub run line by line, with an agenda of the transfers that have something left to do: those
+//! that a line names or makes due.
 #![tactic(auto)]
 
 mod agenda;

@@ -1,5 +1,4 @@
-//! A hub that is run line by line, and goes over those transfers alone of which there is something
-//! to do.
+//! A hub that is run line by line.
 ghost use Rattle.std.specs.Prelude.{◌≡◌, ℕ, true, Some, List, [], ◌∷◌, IfOk, IfSome, OnOk};
 ghost use Rattle.inst_settings.specs.Settings.{is_participant};
 ghost use Rattle.inst_command.specs.Ask.{ask_fits};
@@ -22,17 +21,21 @@ use inst_settings::Settings;
 use inst_world::World;
 use std::alloc::{AllocError, Global};
 
-/// A hub, and what there is left to do of its transfers.
+/// A hub with the agenda of its transfers.
 #[derive(Drop)]
 pub struct Runner {
-    /// What was run so far.
+    /// The hub.
     pub world: World,
-    /// What is left to do of its transfers.
+    /// The transfers that have something left to do.
     pub agenda: Agenda,
 }
 
 impl Runner {
-    /// A hub that opens for the first time.
+    /// Opens a hub for the first time.
+    ///
+    /// # Errors
+    ///
+    /// [`AllocError`] if the hub can't be allocated.
     pub fn open(alloc: Global, settings: &Settings) -> Result<Runner, AllocError>
         ensures settings { IfOk result (λ runner. runner.world.board.settings ≡ settings.now) }
         ensures watches { IfOk result (λ runner.
@@ -42,8 +45,12 @@ impl Runner {
         Runner::new(alloc, world)
     }
 
-    /// Runs this hub from now on, whatever it has gone through: all its transfers are gone over
-    /// first.
+    /// Returns a runner of this hub, whatever it has run. The first follow-up visits all live
+    /// transfers.
+    ///
+    /// # Errors
+    ///
+    /// [`AllocError`] if the transfers can't be noted; the hub is dropped.
     pub fn new(alloc: Global, world: World) -> Result<Runner, AllocError>
         ensures world { IfOk result (λ runner. runner.world ≡ world) }
         ensures ok { IfOk result (λ runner. (O : Opening) (L : List Step) → HasRun O L world →
@@ -59,7 +66,7 @@ impl Runner {
         Ok(runner)
     }
 
-    /// All live transfers of an originator are gone over next.
+    /// Notes all live transfers of an originator.
     fn note_all(&mut self, owner: u8) -> Result<(), AllocError>
         ensures world { self.new.world ≡ self.old.world }
         ensures notes { OnOk result (NotesSome self.old.agenda self.new.agenda owner) }
@@ -78,14 +85,18 @@ impl Runner {
         Ok(())
     }
 
-    /// The settings of the hub.
+    /// Returns the settings of the hub.
     pub fn settings(&self) -> &Settings
         ensures { result.now ≡ self.now.world.board.settings }
     {
         self.world.settings()
     }
 
-    /// Runs a step of a script. What it names is not noted.
+    /// Runs a step of a script, without noting any transfer.
+    ///
+    /// # Errors
+    ///
+    /// [`AllocError`] as from [`World::step`]; the hub is unchanged.
     pub fn step(&mut self, step: &Step) -> Result<Answer, AllocError>
         requires fits { step_fits self.old.world.board.settings step.now ≡ true }
         ensures ok { IfOk result (λ answer. Runs self.old.world step.now answer self.new.world) }
@@ -96,8 +107,13 @@ impl Runner {
         self.world.step(step)
     }
 
-    /// Runs the ask of a line. What it names is gone over next, if the asker keeps something of it.
-    /// Refused memory may leave it run, and what it names not noted.
+    /// Runs a command. If it appends an event, the transfer that it names is noted for the next
+    /// follow-up.
+    ///
+    /// # Errors
+    ///
+    /// [`AllocError`] if the hub or the agenda fails to allocate. The command may have been run
+    /// without its transfer being noted.
     pub fn ask(&mut self, ask: Ask) -> Result<Answer, AllocError>
         requires fits { ask_fits self.old.world.board.settings ask ≡ true }
         ensures ok { IfOk result (λ told. (O : Opening) (L : List Step) →
@@ -109,14 +125,14 @@ impl Runner {
     {
         let events = self.world.journal(ask.who).events().len();
         let answer = self.world.step(&Step::Ask(ask))?;
-        // An ask of which nothing is kept decides nothing.
+        // A command that appends no event decides nothing.
         if self.world.journal(ask.who).events().len() > events {
             self.note_named(&ask)?;
         }
         Ok(answer)
     }
 
-    /// The transfer that the ask names is gone over next, if it is live.
+    /// Notes the transfer that the command names, if it is live.
     fn note_named(&mut self, ask: &Ask) -> Result<(), AllocError>
         requires fits { ask_fits self.old.world.board.settings ask.now ≡ true }
         ensures world { self.new.world ≡ self.old.world }
@@ -130,7 +146,7 @@ impl Runner {
         }
     }
 
-    /// The place of the transfer that the ask names, if it is live.
+    /// Returns the place of the transfer that the command names, if it is live.
     fn place_named(&self, ask: &Ask) -> Option<Place>
         requires fits { ask_fits self.now.world.board.settings ask.now ≡ true }
         ensures place { (O : Opening) (L : List Step) → HasRun O L self.now.world →

@@ -1,4 +1,4 @@
--- The texts that the hub takes: participant codes as BICs of 8 or 11 characters (ISO 9362),
+-- The texts that the hub takes: participants' codes as BICs of 8 or 11 characters (ISO 9362),
 -- identifiers of at most 35 characters of the scheme's basic Latin set (EPC004-16, chapter 4:
 -- attributes), and reasons of four characters.
 use Rattle.std.specs.Prelude.{ℕ, Bool, ◌&&◌, ◌||◌, ◌==◌, nat_le, if◌then◌else◌, List, length}
@@ -31,29 +31,29 @@ abbrev pub is_latin : ℕ → Bool
 is_latin c =
     is_small c || is_capital c || is_digit c || list_any (λ mark. c == mark) (codes "/-?:().,'+ ")
 
--- a participant's code
+-- True if the text is a participant's code.
 abbrev pub is_code : List ℕ → Bool
 is_code text =
     (length text == CODE_LENGTH || length text == BRANCH_CODE_LENGTH)
     && list_all is_code_character text
 
--- an identifier or a funding reference: 1 to 35 characters, in any arrangement
+-- True if the text is an identifier or a funding reference: 1 to 35 characters, in any arrangement.
 abbrev pub is_identifier : List ℕ → Bool
 is_identifier text =
     nat_le 1 (length text) && nat_le (length text) MOST_IDENTIFIER_LENGTH && list_all is_latin text
 
--- why a beneficiary rejects: four characters, passed on unread
+-- True if the text is a reason of a rejection: four characters, passed on unread.
 abbrev pub is_reason : List ℕ → Bool
 is_reason text = length text == REASON_LENGTH && list_all is_code_character text
 
--- the code of a text, or that it has another form
+-- The code of a text, or `BadField`.
 abbrev pub code_of : List ℕ → Result (List ℕ) Fault
 code_of text = if is_code text then Ok text else Err BadField
 
--- the identifier of a text, or that it is none
+-- The identifier of a text, or `BadIdentifier`.
 abbrev pub identifier_of : List ℕ → Result (List ℕ) Fault
 identifier_of text = if is_identifier text then Ok text else Err BadIdentifier
 
--- the reason of a text, or that it has another form
+-- The reason of a text, or `BadField`.
 abbrev pub reason_of : List ℕ → Result (List ℕ) Fault
 reason_of text = if is_reason text then Ok text else Err BadField

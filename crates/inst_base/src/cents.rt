@@ -1,3 +1,4 @@
+//! Amounts in cents.
 ghost use Rattle.std.specs.Prelude.{◌≡◌, ℕ, ◌≤◌};
 ghost use Rattle.inst_base.specs.Cents.{cents_of};
 ghost use Rattle.inst_base.specs.declared.cents.TheConstants.{MOST_CENTS};
@@ -5,10 +6,10 @@ ghost use Rattle.inst_base.specs.declared.cents.TheConstants.{MOST_CENTS};
 use crate::Fault;
 use std::marker::Model;
 
-/// The largest amount of one transfer or funding, in cents: 999,999,999.99 euro.
+/// The largest amount of a transfer or funding, in cents: 999,999,999.99 euro.
 pub const MOST_CENTS: u64 = 99_999_999_999;
 
-/// An amount of whole cents, 1 to 99,999,999,999.
+/// An amount in whole cents, 1 to 99,999,999,999.
 #[derive(Clone, Copy, Debug, PartialEq, Eq)]
 pub struct Cents {
     cents: u64,
@@ -25,7 +26,11 @@ impl Model for Cents {
 }
 
 impl Cents {
-    /// The amount of this many cents, or `BadAmount` outside 1 to 99,999,999,999.
+    /// Makes an amount of `cents` cents.
+    ///
+    /// # Errors
+    ///
+    /// [`Fault::BadAmount`] if `cents` is outside 1 to 99,999,999,999.
     pub fn new(cents: u64) -> Result<Cents, Fault>
         ensures { result ≡ cents_of cents }
     {
@@ -35,7 +40,7 @@ impl Cents {
         Ok(Cents { cents })
     }
 
-    /// The number of cents.
+    /// Returns the number of cents.
     pub fn get(self) -> u64
         ensures value { result ≡ self }
         ensures above { 1 ≤ result }

@@ -1,3 +1,4 @@
+//! Participants' codes.
 ghost use Rattle.std.specs.Prelude.{◌≡◌, ℕ, List, IsTrue, not, map};
 ghost use Rattle.std.specs.List.{list_all};
 ghost use Rattle.std.specs.Simd.Lanes.{mask_l};
@@ -8,14 +9,15 @@ use crate::short_text::ShortText;
 use std::marker::Model;
 use std::simd::prelude::*;
 
-/// The characters of a code that names no branch.
+/// The length of a code without a branch.
 pub const CODE_LENGTH: usize = 8;
 
-/// The characters of a code that names a branch: no code is longer.
+/// The length of a code with a branch, and the longest that a code can be.
 pub const BRANCH_CODE_LENGTH: usize = 11;
 
-/// A participant's code, as a BIC (ISO 9362): 8 or 11 characters of `A-Z 0-9`. No inner structure
-/// is checked.
+/// A participant's code in the form of a BIC (ISO 9362): 8 or 11 characters of `A-Z 0-9`.
+///
+/// The inner structure (bank, country, place, branch) isn't checked, nor that a bank has the code.
 #[derive(Clone, Copy, Debug, PartialEq, Eq)]
 pub struct Code {
     text: ShortText<BRANCH_CODE_LENGTH>,
@@ -32,7 +34,11 @@ impl Model for Code {
 }
 
 impl Code {
-    /// The code of this text, or `BadField` where it has another form.
+    /// Makes a code of a copy of `text`.
+    ///
+    /// # Errors
+    ///
+    /// [`Fault::BadField`] if `text` isn't 8 or 11 characters of `A-Z 0-9`.
     pub fn new(text: &str) -> Result<Code, Fault>
         ensures { result ≡ code_of text.now }
     {
@@ -44,7 +50,7 @@ impl Code {
         })
     }
 
-    /// The characters of the code.
+    /// Returns the characters of the code.
     pub fn text(&self) -> &str
         ensures value { result.now ≡ self.now }
         ensures form { IsTrue (is_code result.now) }
@@ -59,14 +65,14 @@ fn is_code(text: &[u8]) -> bool
     (text.len() == CODE_LENGTH || text.len() == BRANCH_CODE_LENGTH) && are_code_characters(text)
 }
 
-/// Whether the byte is one of `A-Z 0-9`.
+/// Returns `true` if the byte is one of `A-Z 0-9`.
 fn is_code_character(byte: u8) -> bool
     ensures { result ≡ is_code_character byte }
 {
     byte.is_ascii_uppercase() || byte.is_ascii_digit()
 }
 
-/// Which of eight bytes are none of `A-Z 0-9`.
+/// Returns a mask with a bit for each of the eight bytes that is not one of `A-Z 0-9`.
 #[inline(always)]
 fn not_code_characters(bytes: u8x8) -> u64
     ensures { result ≡ mask_l (map (λ x. not (is_code_character x)) bytes) }
@@ -76,7 +82,7 @@ fn not_code_characters(bytes: u8x8) -> u64
     (no_letter & no_digit).to_bitmask()
 }
 
-/// Whether each byte is one of `A-Z 0-9`.
+/// Returns `true` if each byte is one of `A-Z 0-9`.
 pub(crate) fn are_code_characters(text: &[u8]) -> bool
     ensures { result ≡ list_all is_code_character text.now }
 {

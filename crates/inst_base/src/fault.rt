@@ -1,3 +1,4 @@
+//! The eighteen faults: their numbers, names and explanations.
 ghost use Rattle.std.specs.Prelude.{◌≡◌};
 ghost use Rattle.inst_base.specs.declared.fault.Fault.TheVariants.{Memory};
 
@@ -5,43 +6,49 @@ use std::alloc::{AllocError, AllocFailed};
 use std::error::Error;
 use std::fmt::{self, Display, Formatter};
 
-/// Why a line, a command or a run is refused. The first fourteen are in the order in which the
-/// checks are made; the last four stand outside commands.
+/// Why a line, a command or a run is refused.
+///
+/// The first thirteen are declared in the order in which a line and a command are checked. `Memory`
+/// has no place in it: any call that allocates may return it. The last four concern settings, the
+/// length of a line, and the input and output of a run.
 #[derive(Clone, Copy, Debug, PartialEq, Eq)]
 pub enum Fault {
-    /// The line is no JSON text.
+    /// The line is not JSON.
     NotJson,
-    /// No object, an unknown command, or a field that is missing or of another form.
+    /// The line is no object, its command is unknown, or a field is missing or malformed.
     BadField,
-    /// An identifier or a funding reference that isn't 1 to 35 characters of the basic Latin set.
+    /// An identifier or a funding reference isn't 1 to 35 characters of the basic Latin set.
     BadIdentifier,
-    /// An amount outside 1 cent to the ceiling.
+    /// An amount is outside 1 cent to the hub's ceiling.
     BadAmount,
-    /// A moment outside the moments of the hub, or a deadline past the last one.
+    /// A moment is outside the hub's range, or a deadline is after its last moment.
     BadMoment,
-    /// A well-formed code that no participant has.
+    /// No participant has the code, which is well formed.
     UnknownParticipant,
-    /// A submission to its own originator.
+    /// A submission names its own originator as the beneficiary.
     SelfTransfer,
-    /// A transfer that the asker has no part in.
+    /// The transfer wasn't forwarded to the asker, which confirms or rejects it, or wasn't
+    /// submitted by the asker, which investigates it.
     UnknownTransfer,
-    /// The key is kept with other contents.
+    /// The identifier or reference is already kept with other contents.
     Duplicate,
-    /// A time stamp too far ahead of the reading.
+    /// A time stamp is too far after the clock reading.
     StampAhead,
-    /// A submission read at or after its deadline, or a confirmation read in the margin before it.
+    /// A submission is read at or after its deadline, or a confirmation of a pending transfer
+    /// within the margin before it.
     Expired,
-    /// All places, or all fundings, are used.
+    /// All places of the originator, or all fundings of the participant, are used until the next
+    /// opening.
     Full,
-    /// The amount is above what is available.
+    /// The amount is more than what is available.
     Shortage,
-    /// A growth was refused.
+    /// An allocation failed.
     Memory,
-    /// Settings outside their ranges.
+    /// Settings are outside their ranges.
     BadSettings,
-    /// A line of more than 4,096 bytes.
+    /// A line has more than 4,096 bytes.
     LineTooLong,
-    /// The input failed, or went past the limits of a run.
+    /// The input failed, or exceeded the limits of a run.
     ReadFault,
     /// The output failed, or took no byte.
     WriteFault,
@@ -50,14 +57,14 @@ pub enum Fault {
 impl Fault {
     ghost use Rattle.inst_base.specs.Fault.{number_of, name_of};
 
-    /// The number that a reply or the program's fault line shows, from 1 to 18.
+    /// Returns the number that a reply or the program's fault line shows, 1 to 18.
     pub fn number(self) -> u8
         ensures { result ≡ number_of self }
     {
         self as u8 + 1
     }
 
-    /// The name that a reply or the program's fault line shows.
+    /// Returns the name that a reply or the program's fault line shows.
     pub fn name(self) -> &'static str
         ensures { result.now ≡ name_of self }
     {
@@ -84,7 +91,7 @@ impl Fault {
     }
 }
 
-/// A sentence without a full stop, for whoever reads a log.
+/// Writes an explanation without a full stop, for people who read a log.
 impl Display for Fault {
     ghost use Rattle.std.specs.Prelude.{Some};
     ghost use Rattle.inst_base.specs.Fault.{meaning_of};
@@ -93,30 +100,30 @@ impl Display for Fault {
 
     fn fmt<W: fmt::Write>(&self, f: &mut Formatter<W>) -> fmt::Result {
         f.write_str(match self {
-            Fault::NotJson => "the line is no JSON text",
+            Fault::NotJson => "the line is not JSON",
             Fault::BadField => {
-                "the line is no object, its command is unknown, or a field is missing or of another form"
+                "the line is not an object, its command is unknown, or a field is missing or malformed"
             }
             Fault::BadIdentifier => {
                 "an identifier or a reference isn't 1 to 35 characters of the basic Latin set"
             }
-            Fault::BadAmount => "the amount isn't 1 cent to the ceiling",
+            Fault::BadAmount => "the amount isn't from 1 cent to the ceiling",
             Fault::BadMoment => {
-                "a moment is outside those of the hub, or the deadline is past the last one"
+                "a moment is outside the hub's range, or the deadline is after the last moment"
             }
             Fault::UnknownParticipant => "no participant has the code",
             Fault::SelfTransfer => "a transfer may not go to its own originator",
-            Fault::UnknownTransfer => "the asker has no part in the transfer",
-            Fault::Duplicate => "the key is kept with other contents",
-            Fault::StampAhead => "the time stamp lies too far ahead of the reading",
-            Fault::Expired => "the reading is too late",
+            Fault::UnknownTransfer => "the asker has no such transfer",
+            Fault::Duplicate => "the identifier or reference is taken with other contents",
+            Fault::StampAhead => "the time stamp is too far ahead of the clock reading",
+            Fault::Expired => "the clock reading is too late",
             Fault::Full => "all places or all fundings are used",
             Fault::Shortage => "the amount is above what is available",
-            Fault::Memory => "memory was refused",
+            Fault::Memory => "an allocation failed",
             Fault::BadSettings => "the settings are outside their ranges",
             Fault::LineTooLong => "the line has more than 4,096 bytes",
-            Fault::ReadFault => "the input failed, or went past the limits of a run",
-            Fault::WriteFault => "the output failed, or took no byte",
+            Fault::ReadFault => "reading the input failed, or it exceeded the limits of a run",
+            Fault::WriteFault => "writing the output failed, or it took no byte",
         })
     }
 }

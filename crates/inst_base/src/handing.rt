@@ -1,4 +1,4 @@
-//! Bytes are handed to a writer, and what was handed to it before a failure is known.
+//! Writes bytes so that, after a failure, a prefix of them is known to be written.
 ghost use Rattle.std.specs.Prelude.{OnOk, OnErr};
 ghost use Rattle.std.specs.Io.KnownBytes.{Appends};
 ghost use Rattle.inst_base.specs.Handing.{WritesPart};
@@ -6,13 +6,17 @@ ghost use Rattle.inst_base.specs.Handing.{WritesPart};
 use std::io::Write;
 use thiserror::Error;
 
-/// A write failed or took no byte.
+/// The error of [`write_bytes`]: a write failed or took no byte.
 #[derive(Clone, Copy, Debug, PartialEq, Eq, Error)]
 #[error("a write failed or took no byte")]
 pub struct Unwritten;
 
-/// Writes these bytes, in as many writes as they take, and doesn't flush. `Unwritten` comes where a
-/// write fails or takes no byte; a front of the bytes was written then.
+/// Writes all of `bytes` in as many writes as needed; doesn't flush.
+///
+/// # Errors
+///
+/// [`Unwritten`] if a write fails or takes no byte. A prefix of the bytes, perhaps empty, was
+/// written.
 pub fn write_bytes<W: Write>(writer: &mut W, bytes: &[u8]) -> Result<(), Unwritten>
     ensures ok { OnOk result
         (Appends (W.Write.contents writer.old) (W.Write.contents writer.new) bytes.now) }

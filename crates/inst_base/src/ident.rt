@@ -1,3 +1,4 @@
+//! Identifiers of transfers and references of fundings.
 ghost use Rattle.std.specs.Prelude.{◌≡◌, ℕ, List, IsTrue, not, map};
 ghost use Rattle.std.specs.List.{list_all};
 ghost use Rattle.std.specs.Simd.Lanes.{mask_l};
@@ -8,11 +9,13 @@ use crate::short_text::ShortText;
 use std::marker::Model;
 use std::simd::prelude::*;
 
-/// The characters of the longest identifier.
+/// The length of the longest identifier.
 pub const MOST_IDENTIFIER_LENGTH: usize = 35;
 
-/// The identifier of a transfer or the reference of a funding: 1 to 35 characters of the scheme's
-/// basic Latin set (`a-z A-Z 0-9 / - ? : ( ) . , ' +` and space), in any arrangement.
+/// An identifier of a transfer or a reference of a funding.
+///
+/// It has 1 to 35 characters of the scheme's basic Latin set (`a-z A-Z 0-9 / - ? : ( ) . , ' +` and
+/// space), in any arrangement.
 #[derive(Clone, Copy, Debug, PartialEq, Eq, Hash)]
 pub struct Ident {
     text: ShortText<MOST_IDENTIFIER_LENGTH>,
@@ -29,7 +32,11 @@ impl Model for Ident {
 }
 
 impl Ident {
-    /// The identifier of this text, or `BadIdentifier` where it is none.
+    /// Makes an identifier of a copy of `text`.
+    ///
+    /// # Errors
+    ///
+    /// [`Fault::BadIdentifier`] if `text` isn't 1 to 35 characters of the basic Latin set.
     pub fn new(text: &str) -> Result<Ident, Fault>
         ensures { result ≡ identifier_of text.now }
     {
@@ -41,7 +48,7 @@ impl Ident {
         })
     }
 
-    /// The characters of the identifier.
+    /// Returns the characters of the identifier.
     pub fn text(&self) -> &str
         ensures value { result.now ≡ self.now }
         ensures form { IsTrue (is_identifier result.now) }
@@ -56,7 +63,7 @@ fn is_identifier(text: &[u8]) -> bool
     !text.is_empty() && text.len() <= MOST_IDENTIFIER_LENGTH && are_latin(text)
 }
 
-/// Whether the byte is a character of the scheme's basic Latin set.
+/// Returns `true` if the byte is a character of the basic Latin set.
 fn is_latin(byte: u8) -> bool
     ensures { result ≡ is_latin byte }
 {
@@ -66,13 +73,13 @@ fn is_latin(byte: u8) -> bool
     )
 }
 
-/// Which of sixteen bytes are no characters of that set.
+/// Returns a mask with a bit for each of the sixteen bytes that is not in the basic Latin set.
 #[inline(always)]
 fn not_latin(bytes: u8x16) -> u64
     ensures { result ≡ mask_l (map (λ x. not (is_latin x)) bytes) }
 {
     let no_letter = ((bytes | u8x16::splat(0x20)) - u8x16::splat(b'a')).simd_ge(u8x16::splat(26));
-    // The signs of the set with the digits go from the apostrophe to the colon, but for the
+    // The set's digits and signs are the bytes from the apostrophe to the colon, except the
     // asterisk.
     let no_sign = (bytes - u8x16::splat(b'\'')).simd_ge(u8x16::splat(20))
         | bytes.simd_eq(u8x16::splat(b'*'));
@@ -80,7 +87,7 @@ fn not_latin(bytes: u8x16) -> u64
     (no_letter & no_sign & no_other).to_bitmask()
 }
 
-/// Whether each byte is a character of the scheme's basic Latin set.
+/// Returns `true` if each byte is a character of the basic Latin set.
 fn are_latin(text: &[u8]) -> bool
     ensures { result ≡ list_all is_latin text.now }
 {
@@ -95,6 +102,6 @@ fn are_latin(text: &[u8]) -> bool
         }
         at += 16;
     }
-    // What these sixteen share with those before was seen to pass.
+    // The last sixteen bytes may overlap bytes that have passed already.
     not_latin(u8x16::from_slice(&text[last..])) == 0
 }

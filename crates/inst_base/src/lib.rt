@@ -1,5 +1,5 @@
-//! Checked values, the rules of time, the eighteen faults, and the bytes of a line: where it ends,
-//! and what a writer was given of it.
+//! Checked values, the rules of time, the eighteen faults, and the bytes of a line: finding its end
+//! and writing it.
 #![tactic(auto)]
 
 mod cents;

@@ -1,3 +1,4 @@
+//! Moments, and the rules of time as methods of [`Moment`].
 ghost use Rattle.std.specs.Prelude.{◌≡◌, ℕ, ◌+◌, ◌≤◌, ◌^◌, true};
 ghost use Rattle.inst_base.specs.Moment.{is_moment, moment_of};
 ghost use Rattle.inst_base.specs.TimeLimit.{deadline_of, is_in_time, is_due, is_in_time_to_accept};
@@ -7,16 +8,19 @@ ghost use Rattle.inst_base.specs.declared.moment.TheConstants.{LAST};
 use crate::Fault;
 use std::marker::Model;
 
-/// The last moment, in milliseconds past the base of a hub: 2^41 - 1, some 69 years.
+/// The last moment, in milliseconds since the base of a hub: 2^41 - 1, about 69 years.
 pub const LAST: u64 = 2_199_023_255_551;
 
-/// A moment of a hub, in milliseconds past its base, 0 to 2^41 - 1.
+/// A moment of a hub, in milliseconds since its base, 0 to 2^41 - 1.
+///
+/// The base is the setting of that name, in milliseconds since an epoch that the embedding program
+/// chooses. Moments of hubs with different bases can't be compared.
 ///
 /// ```text
-/// let stamp = Moment::new(1_000_000, 1_001_000)?; // 1,000 ms past the base
-/// let deadline = stamp.deadline(10_000);          // 11,000 ms past it
-/// Moment::new(0, 10_999)?.is_in_time(deadline)    // true
-/// Moment::new(0, 11_000)?.is_due(deadline)        // true
+/// let stamp = Moment::new(1_000_000, 1_001_000)?;         // 1,000 ms since the base
+/// let deadline = stamp.deadline(10_000);                  // 11,000 ms since the base
+/// Moment::new(1_000_000, 1_010_999)?.is_in_time(deadline) // true
+/// Moment::new(1_000_000, 1_011_000)?.is_due(deadline)     // true
 /// ```
 #[derive(Clone, Copy, Debug, PartialEq, Eq, PartialOrd, Ord)]
 pub struct Moment {
@@ -34,8 +38,12 @@ impl Model for Moment {
 }
 
 impl Moment {
-    /// The moment at `ms` absolute milliseconds, for a hub that counts from `base`, or `BadMoment`
-    /// outside `base` to `base` + 2^41 - 1.
+    /// Makes the moment at `ms` milliseconds, for a hub whose base is `base`; both count from one
+    /// epoch.
+    ///
+    /// # Errors
+    ///
+    /// [`Fault::BadMoment`] if `ms` is outside `base` to `base` + 2^41 - 1.
     pub fn new(base: u64, ms: u64) -> Result<Moment, Fault>
         ensures { result ≡ moment_of base ms }
     {
@@ -47,7 +55,9 @@ impl Moment {
         })
     }
 
-    /// The absolute milliseconds of the moment, for a hub that counts from `base`.
+    /// Returns the moment in milliseconds since the epoch, for a hub whose base is `base`.
+    ///
+    /// Requires `base` of at most 2^62.
     pub fn millis(self, base: u64) -> u64
         requires { base ≤ 2 ^ 62 }
         ensures { result ≡ base + self }
@@ -55,7 +65,7 @@ impl Moment {
         base + self.past_base
     }
 
-    /// The milliseconds past the base, 0 to 2^41 - 1.
+    /// Returns the milliseconds since the base, 0 to 2^41 - 1.
     pub fn past_base(self) -> u64
         ensures value { result ≡ self }
         ensures within { result ≤ LAST }
@@ -63,15 +73,16 @@ impl Moment {
         self.past_base
     }
 
-    /// Whether a transfer with this time stamp has a deadline: it isn't past the last moment.
-    /// `limit` is in milliseconds.
+    /// Returns `true` if this time stamp plus `limit` milliseconds is at most 2^41 - 1.
     pub fn has_deadline(self, limit: u32) -> bool
         ensures { result ≡ is_moment (deadline_of limit self) }
     {
         self.past_base + u64::from(limit) <= LAST
     }
 
-    /// The deadline of a transfer with this time stamp, `limit` milliseconds later.
+    /// Returns the deadline of a transfer with this time stamp: `limit` milliseconds later.
+    ///
+    /// Requires `has_deadline(limit)`.
     pub fn deadline(self, limit: u32) -> Moment
         requires { is_moment (deadline_of limit self) ≡ true }
         ensures { result ≡ deadline_of limit self }
@@ -81,29 +92,31 @@ impl Moment {
         }
     }
 
-    /// Whether what is read at this moment is in time for the deadline: before it.
+    /// Returns `true` if this clock reading is before the deadline.
     pub fn is_in_time(self, deadline: Moment) -> bool
         ensures { result ≡ is_in_time deadline self }
     {
         self.past_base < deadline.past_base
     }
 
-    /// Whether a transfer with this deadline is due at this moment, so that it can only time out.
+    /// Returns `true` if a transfer with this deadline is due at this clock reading: it can only
+    /// time out.
     pub fn is_due(self, deadline: Moment) -> bool
         ensures { result ≡ is_due deadline self }
     {
         !self.is_in_time(deadline)
     }
 
-    /// Whether a confirmation that is read at this moment is in time: before the deadline by more
-    /// than `margin` milliseconds.
+    /// Returns `true` if a confirmation at this clock reading is in time: more than `margin`
+    /// milliseconds before the deadline.
     pub fn is_in_time_to_accept(self, margin: u32, deadline: Moment) -> bool
         ensures { result ≡ is_in_time_to_accept margin deadline self }
     {
         self.past_base + u64::from(margin) < deadline.past_base
     }
 
-    /// Whether this time stamp lies more than `ahead` milliseconds after the reading `at`.
+    /// Returns `true` if this time stamp is more than `ahead` milliseconds after the clock reading
+    /// `at`.
     pub fn is_ahead(self, ahead: u32, at: Moment) -> bool
         ensures { result ≡ is_ahead ahead self at }
     {

@@ -1,3 +1,4 @@
+//! Reasons of rejections.
 ghost use Rattle.std.specs.Prelude.{◌≡◌, ℕ, List, IsTrue};
 ghost use Rattle.inst_base.specs.Text.{is_reason, reason_of};
 
@@ -6,7 +7,7 @@ use crate::code::are_code_characters;
 use crate::short_text::ShortText;
 use std::marker::Model;
 
-/// The characters of a reason.
+/// The length of a reason.
 pub const REASON_LENGTH: usize = 4;
 
 /// Why a beneficiary rejects a transfer: four characters of `A-Z 0-9`, passed on unread.
@@ -26,7 +27,11 @@ impl Model for Reason {
 }
 
 impl Reason {
-    /// The reason of this text, or `BadField` where it has another form.
+    /// Makes a reason of a copy of `text`.
+    ///
+    /// # Errors
+    ///
+    /// [`Fault::BadField`] if `text` isn't four characters of `A-Z 0-9`.
     pub fn new(text: &str) -> Result<Reason, Fault>
         ensures { result ≡ reason_of text.now }
     {
@@ -38,7 +43,7 @@ impl Reason {
         })
     }
 
-    /// The four characters.
+    /// Returns the four characters.
     pub fn text(&self) -> &str
         ensures value { result.now ≡ self.now }
         ensures form { IsTrue (is_reason result.now) }

@@ -1,3 +1,4 @@
+//! Short ASCII texts, stored inline.
 ghost use Rattle.std.specs.Prelude.{◌≡◌, ◌≤◌, length, nat_eq};
 ghost use Rattle.std.specs.Cmp.{partial_equiv_from_equiv};
 ghost use Rattle.std.specs.Cmp.Lexicographic.{pointwise, nat_list_eq_equiv};
@@ -10,8 +11,8 @@ use std::hash::{Hash, Hasher};
 use std::marker::Model;
 use std::{fmt, str};
 
-/// A text of at most `N` ASCII bytes, which lie in the value itself. The bytes past its end are 0,
-/// so that equal texts are equal values.
+/// A text of at most `N` ASCII bytes, stored inline. Unused bytes are 0, so equal texts are equal
+/// values.
 #[derive(Clone, Copy)]
 pub(crate) struct ShortText<const N: usize> {
     bytes: [u8; N],
@@ -31,7 +32,7 @@ impl<const N: usize> Model for ShortText<N> {
 
     ghost inverse = { λ xs. record { bytes = xs ++ replicate (N - length xs) 0; len = length xs } };
 
-    // The text has `len` bytes, and filled up with zeros it is the array again.
+    // The text has `len` bytes; padded with zeros it is the array again.
     ghost inverse_ok = { λ text kept i.
         let within = subst (λ (n : ℕ). text.len ≤ n) (sym kept.room_is) kept.within in
         let same = length-take-le text.len text.bytes within in
@@ -44,7 +45,7 @@ impl<const N: usize> Model for ShortText<N> {
 }
 
 impl<const N: usize> ShortText<N> {
-    /// A copy of `text`.
+    /// Copies `text`.
     pub(crate) fn new(text: &str) -> Self
         requires fits { length text.now ≤ N }
         requires small { N ≤ 255 }
@@ -59,7 +60,7 @@ impl<const N: usize> ShortText<N> {
         }
     }
 
-    /// The text.
+    /// Returns the text.
     pub(crate) fn as_str(&self) -> &str
         ensures value { result.now ≡ self.now }
         ensures fits { length result.now ≤ N }

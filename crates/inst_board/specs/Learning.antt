@@ -1,6 +1,6 @@
--- What a call on a board tells its holder: what it knows afterwards, which looks and answers it can
--- get, and which decisions it may ask for. That a participant's slot alone opens its places and
--- alone answers what is addressed to it is this hub's own choice.
+-- The effect of a board's calls on its holder: what it knows afterwards, which looks and answers it
+-- can get, and which decisions it may make. Only a participant's slot opens its places, and only it
+-- answers transfers addressed to it. A choice of this hub.
 use Rattle.std.specs.Prelude.{◌≡◌, ◌↔◌, ◌⊎◌, ℕ, Option, Some, None}
 use Rattle.inst_command.specs.declared.outcome.Outcome.{Outcome}
 use Rattle.inst_command.specs.declared.outcome.Outcome.TheVariants.{Accepted, Rejected, TimedOut}
@@ -17,12 +17,13 @@ use Rattle.inst_board.specs.Standing.{Standing, unused, pending, decided, IsLawf
 use Rattle.inst_board.specs.Standing.{look_of, about}
 use Rattle.inst_board.specs.Wish.{wanted}
 
--- From the holder b to the holder c the place k was read, and it stands as p
--- lawful: it is a standing that a place may have
--- agrees: what was known of the place is true of it
--- kept: never less is known
--- shown: what the place shows is known
--- only: nothing else is learnt, but what is true of this place
+-- The holder b reads the place k, which has the standing p, and becomes c.
+--
+-- - lawful: a place may have the standing
+-- - agrees: all that was known of the place is true of it
+-- - kept: nothing known is forgotten
+-- - shown: all that the place shows is known afterwards
+-- - only: each fact that is known now was known before, or is one of this place and true of it
 pub record Learns {B : Type 0} (margin : ℕ) (knows : B → Fact →
     Type 0) (b : B) (k : Place) (p : Standing) (c : B) : Type 0 where
   pub lawful : IsLawful margin p
@@ -31,21 +32,21 @@ pub record Learns {B : Type 0} (margin : ℕ) (knows : B → Fact →
   pub shown : (a : About) → Shows p a → knows c (about k a)
   pub only : (f : Fact) → knows c f → knows b f ⊎ ((f.place ≡ k) × Says p f.about)
 
--- what is known of the place is true of one standing that a place may have
+-- The facts known of the place are true of one lawful standing.
 abbrev pub KnowsTruly : {B : Type 0} → ℕ → (B → Fact → Type 0) → B → Place → Type 0
 KnowsTruly margin knows b k =
     (p : Standing) × IsLawful margin p × ((a : About) → knows b (about k a) → Says p a)
 
--- both holders know the same
+-- Both holders know the same.
 abbrev pub KnowTheSame : {B : Type 0} → (B → Fact → Type 0) → B → B → Type 0
 KnowTheSame knows b c = (f : Fact) → knows c f ↔ knows b f
 
--- what the first wrote to the places for which P holds is written for the second
+-- The terms that the first wrote to the places with P are written for the second.
 abbrev pub KeepsWritten : {B : Type 0} → (B → Place → Terms → Type 0) → B → (Place → Type 0) → B →
     Type 0
 KeepsWritten wrote b P c = (k : Place) (t : Terms) → P k → wrote b k t → wrote c k t
 
--- what the originator's slot knows of each place that it opened
+-- The facts that the originator's slot knows of each place that it opened.
 abbrev pub IsOfOpening : About → Type 0
 IsOfOpening Opened = Unit {0}
 IsOfOpening (HasTerms terms) = Unit {0}
@@ -53,19 +54,22 @@ IsOfOpening (Due deadline) = Unit {0}
 IsOfOpening (Decided outcome) = ⊥
 IsOfOpening (DecidedAt moment) = ⊥
 
--- what the beneficiary's slot alone can have answered
+-- The outcomes that only the beneficiary's slot can have decided.
 abbrev pub IsAnswer : Outcome → Type 0
 IsAnswer Accepted = Unit {0}
 IsAnswer (Rejected reason) = Unit {0}
 IsAnswer TimedOut = ⊥
 
--- A look at the place k, from the holder b to the holder c
--- standing: what the place is then
--- own: who has the originator's role knew its opening
--- answered: who has the beneficiary's role knew whether it was accepted or rejected, and the terms
--- ended: who has both roles knew how it ended
--- before: an outcome that is shown may have stood before
--- reading: it tells no reading at which the place was decided
+-- A look of the holder b at the place k, after which it is c.
+--
+-- - standing: the place's standing at that time
+-- - own: if the holder has the originator's role and the place is opened, it knew the opening, the
+--   terms and the deadline
+-- - answered: if the holder has the beneficiary's role and the place is accepted or rejected, it
+--   knew that outcome and the terms
+-- - ended: if the holder has both roles and the place is decided, it knew the outcome
+-- - before: an outcome that is shown may have been decided before
+-- - reading: no clock reading of a decision is learnt
 pub record Looks {B : Type 0} (margin : ℕ) (knows : B → Fact → Type 0) (has_role : B → ℕ → Type 0)
     (stood : B → Place → Outcome → Type 0) (b : B) (k : Place) (look : Look) (c : B) : Type 0 where
   pub standing : Standing
@@ -83,13 +87,13 @@ pub record Looks {B : Type 0} (margin : ℕ) (knows : B → Fact → Type 0) (ha
   pub reading : (moment : ℕ) → knows c (about k (DecidedAt moment)) →
       knows b (about k (DecidedAt moment))
 
--- who may ask for this: the beneficiary, and for a time-out the originator too
+-- The role that a wish requires: the beneficiary's, and for a time-out either party's.
 abbrev pub IsParty : (ℕ → Type 0) → Wish → Place → Terms → Type 0
 IsParty has_role Accept k terms = has_role terms.to
 IsParty has_role (Reject reason) k terms = has_role terms.to
 IsParty has_role Expire k terms = has_role k.owner ⊎ has_role terms.to
 
--- the holder may decide the place by this wish: it knows its opening, and has the role
+-- The holder may decide the place by this wish: it knows the opening and has the role.
 pub record MayDecide {B : Type 0} (knows : B → Fact → Type 0) (has_role : B → ℕ →
     Type 0) (b : B) (k : Place)
     (wish : Wish) : Type 0 where
@@ -100,9 +104,9 @@ pub record MayDecide {B : Type 0} (knows : B → Fact → Type 0) (has_role : B 
   pub due : knows b (about k (Due deadline))
   pub party : IsParty (has_role b) wish k terms
 
--- the answer to a wish at the moment, where the place then stands as p: the outcome that stands,
--- which stood before, where that could be, or is what was wanted; and none where the transfer is
--- pending and nothing was wanted yet
+-- The answer to a wish at the clock reading, if the place then has this standing: its outcome,
+-- which may have been decided before or is what was wanted; none if the transfer is pending and the
+-- wish wanted no outcome.
 abbrev pub AnswersWish : ℕ → (Outcome → Type 0) → Wish → ℕ → Standing → Option Outcome → Type 0
 AnswersWish margin stood wish at unused found = ⊥
 AnswersWish margin stood wish at (pending terms deadline) found =
@@ -111,9 +115,12 @@ AnswersWish margin stood wish at (decided terms deadline outcome moment) found =
     (found ≡ Some outcome) ×
     (stood outcome ⊎ ((wanted margin wish deadline at ≡ Some outcome) × (moment ≡ at)))
 
--- `found` is an answer that a decision of the place k allows, for this wish and reading, from the
--- holder b to the holder c decided: an outcome that didn't stand before was decided now, and the
--- holder knows at which reading reading: it decides the place at this reading and at no other
+-- The answer `found` is one that a decision of the place k may return, for this wish and clock
+-- reading; the holder b becomes c.
+--
+-- - decided: an outcome that is returned may have been decided before, or the holder knows that it
+--   was decided at this reading
+-- - reading: a deciding reading that the holder knows now was known before, or is this one
 pub record Decides {B : Type 0} (margin : ℕ) (knows : B → Fact → Type 0) (stood : B → Place →
     Outcome → Type 0) (b : B) (k : Place)
     (wish : Wish) (at : ℕ) (found : Option Outcome) (c : B) : Type 0 where

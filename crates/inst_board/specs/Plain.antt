@@ -1,5 +1,5 @@
--- What a plain board keeps: one value for each place, up to the last one that was written. All of
--- it is known to its one holder. How places lie in a list is this hub's own choice.
+-- The content of a plain board: one value for each place, up to the last one that was written. Its
+-- one holder knows all of it. The order of places in the list is a choice of this hub.
 use Rattle.std.specs.Prelude.{◌≡◌, ◌≢◌, ◌≤◌, ℕ, ◌+◌, ◌*◌, List, Option, Some, None, true, false}
 use Rattle.std.specs.Prelude.{IsTrue, refl, if◌then◌else◌, length, get_or, slice_get}
 use Rattle.inst_command.specs.declared.outcome.Outcome.{Outcome}
@@ -18,42 +18,42 @@ use Rattle.inst_board.specs.Standing.{IsLawful, Says, about}
 use Rattle.inst_board.specs.Wish.{wanted}
 
 -- settings: those of the hub
--- kept: what is kept of each place, by rank; nothing of the places behind the last one
+-- kept: the content of each place, by rank; nothing for places after the last one written
 pub record Contents : Type 0 where
   pub settings : HubSettings
   pub kept : List Kept
 
--- the place's number among all, one originator after another
+-- The place's number among all, one originator after another.
 abbrev pub place_number : HubSettings → Place → ℕ
 place_number s place = place.owner * s.places + place.index
 
--- where a plain board keeps the place: those of one index stand side by side, since originators use
--- their places in order
+-- The place's rank on a plain board. Places with the same index are adjacent, since originators use
+-- their places in order.
 abbrev pub rank_of : HubSettings → Place → ℕ
 rank_of s place = place.index * participants s + place.owner
 
--- what is kept of a place, and nothing of one that the settings don't have
+-- The content of a place; `Unused` for one that the settings don't have.
 abbrev pub kept_at : Contents → Place → Kept
 kept_at board place =
     if is_place board.settings place then get_or board.kept (rank_of board.settings place) Unused
     else Unused
 
--- what a place is of which this is kept
+-- The standing of a place with this content.
 abbrev pub standing_of : Kept → Standing
 standing_of Unused = unused
 standing_of (Written terms) = unused
 standing_of (Pending terms deadline) = pending terms deadline
 standing_of (DecidedKept terms deadline outcome at) = decided terms deadline outcome at
 
--- what each place is
+-- The standing of each place.
 abbrev pub standing_at : Contents → Place → Standing
 standing_at board place = standing_of (kept_at board place)
 
--- all that is true of the places is known
+-- The holder knows all that is true of the places.
 abbrev pub plain_knows : Contents → Fact → Type 0
 plain_knows board fact = Says (standing_at board fact.place) fact.about
 
--- nothing is known of a place that the settings don't have
+-- The holder knows nothing about a place that the settings don't have.
 pub known_is_place : (board : Contents) (place : Place) (a : About) →
     plain_knows board (about place a) →
     IsPlace board.settings place
@@ -66,15 +66,15 @@ known_is_place board place a = elim (is_place board.settings place) as (λ has.
       | false ↦ λ says. absurd says
     ]
 
--- the terms written to a place that isn't opened
+-- The terms written to a place that isn't opened.
 abbrev pub plain_wrote : Contents → Place → Terms → Type 0
 plain_wrote board place terms = kept_at board place ≡ Written terms
 
--- the outcome stood before, exactly if it is the place's
+-- The outcome was decided before exactly if it is the place's.
 abbrev pub plain_stood : Contents → Place → Outcome → Type 0
 plain_stood board place outcome = Says (standing_at board place) (Decided outcome)
 
--- what a place is after a wish was read at the moment
+-- The standing of a place after a wish at the clock reading.
 abbrev pub standing_after : ℕ → Wish → ℕ → Standing → Standing
 standing_after margin wish at unused = unused
 standing_after margin wish at (pending terms deadline) = elim (wanted margin wish deadline at) [
@@ -84,31 +84,32 @@ standing_after margin wish at (pending terms deadline) = elim (wanted margin wis
 standing_after margin wish at (decided terms deadline outcome moment) =
     decided terms deadline outcome moment
 
--- the outcome that stands
+-- The outcome of the standing.
 abbrev pub outcome_of_standing : Standing → Option Outcome
 outcome_of_standing unused = None
 outcome_of_standing (pending terms deadline) = None
 outcome_of_standing (decided terms deadline outcome at) = Some outcome
 
--- no value is kept of more places than there are, and each is lawful
+-- There are no more values than places, and each is lawful.
 pub record IsContents (board : Contents) : Type 0 where
   pub sized : length board.kept ≤ participants board.settings * board.settings.places
   pub lawful : (k : ℕ) → IsLawful board.settings.margin (standing_of (get_or board.kept k Unused))
 
--- the terms that are kept of a place
+-- The terms in a place's content.
 abbrev pub kept_terms : Kept → Option Terms
 kept_terms Unused = None
 kept_terms (Written terms) = Some terms
 kept_terms (Pending terms deadline) = Some terms
 kept_terms (DecidedKept terms deadline outcome at) = Some terms
 
--- the terms that are kept of each place lie at its rank
+-- The terms of each place are at its rank.
 abbrev pub HaveTerms : List Kept → List Terms → Type 0
 HaveTerms kept all =
     (k : ℕ) (terms : Terms) → kept_terms (get_or kept k Unused) ≡ Some terms →
     slice_get all k ≡ Some terms
 
--- from the first to the second, the place k comes to be kept so, and all others stay
+-- From the first to the second the content of the place k becomes this, and all others are
+-- unchanged.
 pub record Becomes (old : Contents) (k : Place) (kept : Kept) (new : Contents) : Type 0 where
   pub settings : new.settings ≡ old.settings
   pub here : kept_at new k ≡ kept

@@ -1,23 +1,25 @@
+//! Facts about places, for contracts.
+
 use inst_base::Moment;
 use inst_command::{Outcome, Place};
 use inst_terms::Terms;
 
-/// What a holder can know of one place. Contracts speak of it; no value of it is made.
+/// A fact that a holder can know about a place. Only contracts use it; no value of it is made.
 pub enum About {
     /// A transfer was opened there.
     Opened,
-    /// It has these terms.
+    /// The transfer has these terms.
     HasTerms(Terms),
-    /// It has this deadline.
+    /// The transfer has this deadline.
     Due(Moment),
-    /// It ended so.
+    /// The transfer has this outcome.
     Decided(Outcome),
-    /// It was decided at this reading: only who decided it learns that, and who is told by that
-    /// one.
+    /// The transfer was decided at this clock reading. Only the holder that decided it learns that,
+    /// and holders that this one shares its knowledge with.
     DecidedAt(Moment),
 }
 
-/// One thing that a holder can know. Contracts speak of it; no value of it is made.
+/// A fact with the place that it is about. Only contracts use it; no value of it is made.
 pub struct Fact {
     pub place: Place,
     pub about: About,

@@ -1,10 +1,13 @@
+//! The trait of boards.
+
 use crate::{Look, PlaceState, Wish};
 use inst_base::Moment;
 use inst_command::{Outcome, Place};
 use inst_terms::Terms;
 
-/// A holder of the outcome words of all places. What it knows only grows, and whatever it knows of
-/// a place stays true. No call takes memory.
+/// A holder of the outcome words of all places.
+///
+/// Its knowledge only grows, and what it knows of a place stays true. No call allocates.
 pub trait Board {
     ghost use Rattle.std.specs.Prelude.{◌≡◌, ◌≢◌, ◌↔◌, ◌⊎◌, ℕ, ◌≤◌, IsTrue};
     ghost use Rattle.inst_settings.specs.Settings.{HubSettings, is_participant};
@@ -24,24 +27,23 @@ pub trait Board {
     /// The settings of the hub.
     ghost settings: { Self → HubSettings };
 
-    /// What the holder knows.
+    /// The facts that the holder knows.
     ghost knows: { Self → Fact → Type 0 };
 
-    /// Whether it has the role of the participant: it alone opens that one's places and answers
-    /// what is addressed to that one.
+    /// The holder has the role of this participant: only it opens the participant's places, and
+    /// only it answers transfers addressed to the participant.
     ghost has_role: { Self → ℕ → Type 0 };
 
-    /// The terms that it wrote to a place which isn't opened yet.
+    /// The terms that the holder wrote to a place that isn't opened yet.
     ghost wrote: { Self → Place → Terms → Type 0 };
 
-    /// Whether this outcome of the place may have been decided before.
+    /// This outcome of the place may have been decided before.
     ghost stood: { Self → Place → Outcome → Type 0 };
 
-    /// Whether the second is the same holder as the first, later.
+    /// The second is the same holder as the first, at a later time.
     ghost stays: { Self → Self → Type 0 };
 
-    /// Writes the terms of a place that the settings have, which is unused and the holder's to
-    /// open.
+    /// Writes the terms of an unused place that the holder may open.
     fn write_terms(&mut self, place: Place, terms: &Terms)
         requires place { IsPlace (settings self.old) place }
         requires beneficiary { IsTrue (is_participant (settings self.old) terms.now.to) }
@@ -53,8 +55,8 @@ pub trait Board {
         ensures knowledge { KnowTheSame knows self.old self.new }
         ensures stays { stays self.old self.new };
 
-    /// Opens the place, with the terms that were written last. It is pending until `deadline`,
-    /// which is at least 1 ms past the base.
+    /// Opens a place with the terms that were written last. It is pending until `deadline`, which
+    /// is at least 1 ms after the base.
     fn open(&mut self, place: Place, deadline: Moment)
         requires place { IsPlace (settings self.old) place }
         requires own { has_role self.old place.owner }
@@ -68,7 +70,7 @@ pub trait Board {
         ensures others { KeepsWritten wrote self.old (λ k. k ≢ place) self.new }
         ensures stays { stays self.old self.new };
 
-    /// What the place shows now: `Unused` too where the settings don't have it.
+    /// Returns what the place shows now; `Unused` also if the settings have no such place.
     fn look(&mut self, place: Place) -> Look
         ensures look { Looks (settings self.old).margin knows has_role stood self.old place result
             self.new }
@@ -76,7 +78,7 @@ pub trait Board {
         ensures written { KeepsWritten wrote self.old (λ _. Unit {0}) self.new }
         ensures stays { stays self.old self.new };
 
-    /// What a look at a place whose terms are known would show, without them.
+    /// Returns what [`look`](Board::look) shows, without the terms, which must be known.
     fn place_state(&mut self, place: Place) -> PlaceState
         requires terms { (terms : Terms) × knows self.old (about place (HasTerms terms)) }
 
@@ -86,10 +88,12 @@ pub trait Board {
         ensures written { KeepsWritten wrote self.old (λ _. Unit {0}) self.new }
         ensures stays { stays self.old self.new };
 
-    /// Decides a place that is known opened, with its terms and deadline: what was decided before
-    /// stands, else what the wish wants at the reading `at`. The answer is the outcome that stands
-    /// afterwards, `None` where the transfer is still pending. The holder is the beneficiary for
-    /// `Accept` and `Reject`, a party for `Expire`.
+    /// Decides a place that is known to be opened, with its terms and deadline.
+    ///
+    /// Returns the outcome that the place has afterwards, or `None` if the transfer is still
+    /// pending. An earlier outcome stays; else the place gets the outcome that the wish wants at
+    /// the clock reading `at`, if any. For `Accept` and `Reject` the holder must have the
+    /// beneficiary's role, for `Expire` that of a party.
     fn decide(&mut self, place: Place, wish: Wish, at: Moment) -> Option<Outcome>
         requires { MayDecide knows has_role self.old place wish }
 
@@ -106,16 +110,17 @@ pub trait Board {
 
     ghost stays_roles: { (a b : Self) (p : ℕ) → stays a b → has_role a p ↔ has_role b p };
 
-    /// The beneficiary's holder knows what it answered: else only the time-out may have stood.
+    /// The beneficiary's holder knows its own answers, so any other earlier outcome is the
+    /// time-out.
     ghost stood_seldom: { (b : Self) (k : Place) (t : Terms) (o : Outcome) →
         knows b (about k (HasTerms t)) → has_role b t.to →
         stood b k o → knows b (about k (Decided o)) ⊎ (o ≡ TimedOut) };
 
-    /// What the holder knows of a place is true of one standing.
+    /// The facts that the holder knows about a place are true of one standing.
     ghost knows_one: { (b : Self) (k : Place) →
         (p : Standing) × ((a : About) → knows b (about k a) → Says p a) };
 
-    /// It knows nothing of what the settings don't have.
+    /// The holder knows nothing about a place that the settings don't have.
     ghost knows_places: { (b : Self) (k : Place) (a : About) → knows b (about k a) →
         IsPlace (settings b) k };
 }

@@ -8,12 +8,14 @@ use inst_terms::{Word, pack_outcome, read_outcome};
 use std::marker::Model;
 use std::snapshot::Snapshot;
 
-/// The outcome word of a place, in eight bytes. Clauses see all that is kept of the place: its
-/// terms lie elsewhere, and the deadline of a decided one nowhere, since nothing reads it.
+/// The outcome word of a place, in eight bytes.
+///
+/// Contracts see all that is kept of the place. At run time the terms are stored elsewhere, and the
+/// deadline of a decided place isn't stored, since nothing reads it.
 #[derive(Drop)]
 pub(crate) struct KeptWord {
     number: u64,
-    /// What clauses see; it takes no room.
+    /// The value that contracts see; it takes no space.
     kept: Snapshot<Kept>,
 }
 
@@ -33,7 +35,7 @@ impl Model for KeptWord {
 }
 
 impl KeptWord {
-    /// The word of a place of which this is kept.
+    /// Makes the word of a place with this content.
     #[inline(always)]
     pub(crate) fn new(kept: &Kept) -> KeptWord
         requires { (margin : ℕ) × IsLawful margin (standing_of kept.now) }
@@ -45,7 +47,7 @@ impl KeptWord {
         }
     }
 
-    /// What the word says.
+    /// Returns the content of the word.
     #[inline(always)]
     pub(crate) fn says(&self) -> Word
         ensures { result ≡ word_of (standing_of self.now) }
@@ -57,7 +59,7 @@ impl KeptWord {
     }
 }
 
-/// What the word of a place says of which this is kept.
+/// Returns the content of the word of a place with this content.
 #[inline(always)]
 fn word_of(kept: &Kept) -> Word
     ensures { result ≡ word_of (standing_of kept.now) }

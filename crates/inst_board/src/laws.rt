@@ -1,5 +1,5 @@
-//! The laws of boards, and code over any board. A function without a body has the law for its
-//! contract, so that the check proves it.
+//! The laws of boards, and code over any board. A function without a body has the law as its
+//! contract, so the verifier proves it.
 ghost use Rattle.std.specs.Prelude.{◌≡◌, ◌≢◌, ◌≤◌, ℕ, Some, IfSome};
 ghost use Rattle.inst_board.specs.declared.about.About.TheVariants.{Opened};
 ghost use Rattle.inst_board.specs.Standing.{about};
@@ -27,37 +27,38 @@ use inst_base::Moment;
 use inst_command::{Outcome, Place};
 use inst_terms::Terms;
 
-/// Over any board a place is decided once.
+/// On any board a place is decided once.
 pub fn decided_once<B: Board>()
     ensures { (margin : ℕ) → DecidedOnce margin B.knows B.stood }
 {}
 
-/// Who may decide a place knows its opening and is a party of its transfer.
+/// A holder that may decide a place knows its opening and has the role of a party.
 pub fn only_parties_decide<B: Board>()
     ensures { OnlyPartiesDecide B.knows B.has_role }
 {}
 
-/// Who may confirm or reject is the beneficiary.
+/// A holder that may confirm or reject has the beneficiary's role.
 pub fn only_the_beneficiary_answers<B: Board>()
     ensures { OnlyTheBeneficiaryAnswers B.knows B.has_role }
 {}
 
-/// The beneficiary may have each wish, and the originator may let its transfer expire.
+/// If the opening is known, the beneficiary's holder may use each wish, and the originator's may
+/// let the transfer expire.
 pub fn each_party_may_decide<B: Board>()
     ensures { EachPartyMayDecide B.knows B.has_role }
 {}
 
-/// Who opens a place knows its terms and its deadline.
+/// A holder that opens a place knows its terms and its deadline.
 pub fn an_opening_is_known<B: Board>()
     ensures { (margin : ℕ) → AnOpeningIsKnown margin B.knows }
 {}
 
-/// Who looks at a place knows what it showed.
+/// A holder that looks at a place knows what it showed.
 pub fn a_look_is_known<B: Board>()
     ensures { (margin : ℕ) → ALookIsKnown margin B.knows B.has_role B.stood }
 {}
 
-/// A look hides nothing that is known.
+/// A look shows at least what was known.
 pub fn a_look_shows_what_is_known<B: Board>()
     ensures { (margin : ℕ) → ALookShowsWhatIsKnown margin B.knows B.has_role B.stood }
 {}
@@ -67,54 +68,56 @@ pub fn own_openings_are_known<B: Board>()
     ensures { (margin : ℕ) → OwnOpeningsAreKnown margin B.knows B.has_role B.stood }
 {}
 
-/// By a look the beneficiary's holder learns no acceptance and no rejection of what is addressed to
-/// it.
+/// By a look the beneficiary's holder learns no acceptance and no rejection of transfers addressed
+/// to it.
 pub fn own_answers_are_known<B: Board>()
     ensures { (margin : ℕ) → OwnAnswersAreKnown margin B.knows B.has_role B.stood }
 {}
 
-/// A decision answers a known outcome, and what it answers is known from then on.
+/// A decision returns a known outcome, and the outcome that it returns is known afterwards.
 pub fn a_decision_is_known<B: Board>()
     ensures { (margin : ℕ) → ADecisionIsKnown margin B.knows B.stood }
 {}
 
-/// Before the deadline an answer is wanted, an acceptance only before the margin; from the deadline
-/// on the time-out.
+/// From the deadline on each wish wants the time-out. Before it a rejection wants itself, an
+/// acceptance only before the margin, and an expiry nothing.
 pub fn each_wish_wants_by_its_reading()
     ensures { EachWishWantsByItsReading }
 {}
 
-/// Over any board a new outcome is in time.
+/// On any board a new outcome is in time.
 pub fn each_decision_is_in_time<B: Board>()
     ensures { (margin : ℕ) → EachDecisionIsInTime margin B.knows B.stood }
 {}
 
-/// Over any board a new outcome was decided at the reading of the wish.
+/// On any board a new outcome was decided at the clock reading of the wish.
 pub fn each_decision_is_of_its_reading<B: Board>()
     ensures { (margin : ℕ) → EachDecisionIsOfItsReading margin B.knows B.stood }
 {}
 
-/// Over any board a holder learns of no deciding reading but its own.
+/// On any board a holder learns no deciding clock reading by a look, and by a decision none but its
+/// own.
 pub fn only_own_readings_are_learnt<B: Board>()
     ensures { (margin : ℕ) → OnlyOwnReadingsAreLearnt margin B.knows B.has_role B.stood }
 {}
 
-/// Over any board an answer in time stands, unless the transfer was timed out before it.
+/// On any board an answer in time decides, unless the transfer was timed out before. The
+/// beneficiary must know no outcome.
 pub fn own_answers_stand<B: Board>()
     ensures { (margin : ℕ) → OwnAnswersStand margin B.knows B.has_role B.stood }
 {}
 
-/// What is known of a place stays true of one lawful standing, whatever is called.
+/// The facts known about a place stay true of one lawful standing, whatever is called.
 pub fn what_is_known_stays_true<B: Board>()
     ensures { (margin : ℕ) → WhatIsKnownStaysTrue margin B.knows }
 {}
 
-/// A place stands as its words may.
+/// The standings of a place follow the law of its words.
 pub fn standings_follow_the_word_law()
     ensures { StandingsFollowTheWordLaw }
 {}
 
-/// What a place shows is true of it, and a decided place shows nothing of its deadline.
+/// A place shows only facts that are true of it, and a decided place shows nothing of its deadline.
 pub fn a_place_shows_its_words()
     ensures { ShowsItsWords }
 {}
@@ -124,37 +127,37 @@ pub fn which_places_there_are()
     ensures { WhichPlacesThereAre }
 {}
 
-/// No two places have one number, by which threads share their words.
+/// Different places have different numbers, by which threads share their words.
 pub fn each_place_has_its_number()
     ensures { EachPlaceHasItsNumber }
 {}
 
-/// No two places lie in one another's stead on a plain board.
+/// Different places have different ranks on a plain board.
 pub fn each_place_has_its_rank()
     ensures { EachPlaceHasItsRank }
 {}
 
-/// What any board promises of a decision is exact on a plain one.
+/// On a plain board the contract of a decision is exact.
 pub fn plain_decides_exactly()
     ensures { PlainDecidesExactly }
 {}
 
-/// What any board promises of a look is exact on a plain one.
+/// On a plain board the contract of a look is exact.
 pub fn plain_looks_exactly()
     ensures { PlainLooksExactly }
 {}
 
-/// What any board promises of an opening is exact on a plain one.
+/// On a plain board the contract of an opening is exact.
 pub fn plain_opens_exactly()
     ensures { PlainOpensExactly }
 {}
 
-/// What becomes of a pending place of a plain board is in time.
+/// A pending place of a plain board either stays pending or is decided in time.
 pub fn what_is_decided_is_in_time()
     ensures { WhatIsDecidedIsInTime }
 {}
 
-/// Decides a place twice, over any board: the second answer is the first, if there was one.
+/// Decides a place twice, on any board: the second answer is the first, if there was an outcome.
 pub fn decide_twice<B: Board>(
     board: &mut B,
     place: Place,
@@ -180,7 +183,7 @@ pub fn decide_twice<B: Board>(
 }
 
 /// Decides a place of a plain board twice: the answers are exactly what the first wish that wanted
-/// something wanted.
+/// an outcome wanted.
 pub fn decide_plain_twice(
     board: &mut PlainBoard,
     place: Place,
@@ -200,8 +203,8 @@ pub fn decide_plain_twice(
     decide_twice(board, place, first, at, second, later)
 }
 
-/// Writes the terms of two places, over any board, and then opens both: each is known with its own
-/// terms, and nothing is forgotten.
+/// Writes the terms of two places on any board, then opens both: each is known with its own terms,
+/// and all earlier knowledge is kept.
 pub fn open_two<B: Board>(
     board: &mut B,
     one: Place,

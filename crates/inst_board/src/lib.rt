@@ -1,5 +1,5 @@
-//! Who holds the outcome words of places: the trait between a slot and the words, and the plain
-//! board of a hub on one thread.
+//! The trait between a slot and the outcome words of places, and the plain board of a hub in one
+//! thread.
 #![tactic(auto)]
 
 mod about;

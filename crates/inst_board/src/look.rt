@@ -1,14 +1,16 @@
+//! Looks at places.
+
 use inst_base::Moment;
 use inst_command::Outcome;
 use inst_terms::Terms;
 
-/// What a board shows of a place.
+/// The state of a place that a board shows.
 #[derive(Clone, Copy, Debug, PartialEq, Eq)]
 pub enum Look {
-    /// Nothing was opened there.
+    /// No transfer was opened there.
     Unused,
     /// The transfer's terms, and the deadline until which it is pending.
     Pending(Terms, Moment),
-    /// The transfer's terms, and how it ended.
+    /// The transfer's terms and outcome.
     Decided(Terms, Outcome),
 }

@@ -1,13 +1,15 @@
+//! Looks at places without terms.
+
 use inst_base::Moment;
 use inst_command::Outcome;
 
-/// What a board shows of a place to a holder that knows its terms: a look without them.
+/// The state of a place that a board shows to a holder that knows its terms.
 #[derive(Clone, Copy, Debug, PartialEq, Eq)]
 pub enum PlaceState {
-    /// Nothing was opened there.
+    /// No transfer was opened there.
     Unused,
     /// The deadline until which the transfer is pending.
     Pending(Moment),
-    /// How it ended.
+    /// The transfer's outcome.
     Decided(Outcome),
 }

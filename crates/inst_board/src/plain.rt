@@ -1,4 +1,4 @@
-//! The board of a hub on one thread.
+//! The board of a hub in one thread.
 ghost use Rattle.std.specs.Prelude.{◌≡◌, ◌+◌, ◌*◌, ◌<◌, ◌≤◌, ℕ, Some, IfOk, length, get_or};
 ghost use Rattle.std.specs.Prelude.{vec_capacity};
 ghost use Rattle.inst_board.specs.declared.plain.Kept.TheVariants.{Unused as KeptUnused};
@@ -14,7 +14,7 @@ use std::alloc::{AllocError, Global};
 use std::marker::Model;
 use std::snapshot::Snapshot;
 
-/// What a plain board keeps of a place, as clauses see it.
+/// The content of a place of a plain board, as contracts see it.
 #[derive(Clone, Copy)]
 pub enum Kept {
     /// Nothing.
@@ -23,15 +23,15 @@ pub enum Kept {
     Written(Terms),
     /// The terms and the deadline.
     Pending(Terms, Moment),
-    /// The terms, the deadline, the outcome and the reading at which it was decided.
+    /// The terms, the deadline, the outcome and the clock reading at which it was decided.
     Decided(Terms, Moment, Outcome, Moment),
 }
 
-/// A board that one holder has alone, with all roles. It knows all that is true of the places. Each
-/// call takes one look at one place; one that writes a place behind all that were written before
-/// also clears the places up to it. Room for all places is set aside at once, and is touched as
-/// they are used. The outcome words lie apart from the terms, so that a decision touches eight
-/// bytes of a place.
+/// A board with a single holder, which has all roles and knows all that is true of the places.
+///
+/// Capacity for all places is reserved when it is made, and touched as they are used. A call reads
+/// or writes one place; writing a place after the last one that was written also clears the places
+/// between. Outcome words are stored apart from the terms, so a decision writes only eight bytes.
 ///
 /// ```text
 /// let mut board = PlainBoard::new(alloc, &settings)?;
@@ -48,7 +48,7 @@ pub struct PlainBoard {
     margin: u32,
     /// The outcome words, by rank.
     words: Vec<KeptWord>,
-    /// The terms, by rank. Those of a place of which nothing is kept are any.
+    /// The terms, by rank; arbitrary for a place without content.
     terms: Vec<Terms>,
 }
 
@@ -78,7 +78,11 @@ impl PlainBoard {
     ghost use Rattle.inst_board.specs.Plain.{Becomes, kept_at, standing_at, standing_of};
     ghost use Rattle.inst_board.specs.Plain.{kept_terms};
 
-    /// The board of a hub that opens: each place is unused.
+    /// Makes the board of a hub that opens, with all places unused.
+    ///
+    /// # Errors
+    ///
+    /// [`AllocError`] if the capacity for all places can't be allocated.
     pub fn new(alloc: Global, settings: &Settings) -> Result<PlainBoard, AllocError>
         ensures unused { IfOk result (λ b. (b.settings ≡ settings.now)
             × ((place : Place) → kept_at b place ≡ KeptUnused)) }
@@ -102,7 +106,7 @@ impl PlainBoard {
         u16::from(place.owner) < self.participants && place.index < self.places
     }
 
-    /// What the word of the place says.
+    /// Returns the content of the place's word.
     #[inline(always)]
     fn word(&self, place: Place) -> Word
         ensures value { result ≡ word_of (standing_at self.now place) }
@@ -117,7 +121,7 @@ impl PlainBoard {
         }
     }
 
-    /// The terms of a place that was written.
+    /// Returns the terms of a place that was written.
     #[inline(always)]
     fn terms(&self, place: Place) -> Terms
         requires { (terms : Terms) × (kept_terms (kept_at self.now place) ≡ Some terms) }
@@ -126,7 +130,7 @@ impl PlainBoard {
         self.terms[rank_of(self.participants, place)]
     }
 
-    /// What the place shows.
+    /// Returns what the place shows.
     #[inline(always)]
     fn shown(&self, place: Place) -> Look
         ensures look { result ≡ look_of (standing_at self.now place) }
@@ -139,7 +143,7 @@ impl PlainBoard {
         }
     }
 
-    /// Keeps the terms of a place that isn't opened.
+    /// Stores the terms of a place that isn't opened.
     fn write(&mut self, place: Place, terms: &Terms)
         requires { IsPlace self.old.settings place }
         ensures { Becomes self.old place (Kept.Written terms.now) self.new }
@@ -149,7 +153,7 @@ impl PlainBoard {
         put(&mut self.words, rank, KeptWord::new(&Kept::Written(*terms)));
     }
 
-    /// Keeps this of a place whose terms were written.
+    /// Stores the content of a place whose terms were written.
     #[inline(always)]
     fn keep(&mut self, place: Place, kept: &Kept)
         requires written { (terms : Terms) × (kept_terms (kept_at self.old place) ≡ Some terms)
@@ -161,15 +165,15 @@ impl PlainBoard {
     }
 }
 
-/// Where the place is kept: those of one index stand side by side, since originators use theirs in
-/// order.
+/// Returns the rank of a place. Places with the same index are adjacent, since originators use
+/// theirs in order.
 fn rank_of(participants: u16, place: Place) -> usize
     ensures { result ≡ place.index * participants + place.owner }
 {
     usize::from(place.index) * usize::from(participants) + usize::from(place.owner)
 }
 
-/// Puts a word at its rank, where there is room. What is new before it is of unused places.
+/// Puts a word at its rank, within the capacity. New words before it are those of unused places.
 fn put(words: &mut Vec<KeptWord>, rank: usize, word: KeptWord)
     requires { rank < vec_capacity words.old }
     ensures puts { Puts words.old.items rank word words.new.items }
@@ -183,7 +187,7 @@ fn put(words: &mut Vec<KeptWord>, rank: usize, word: KeptWord)
     words.push_reserved(word);
 }
 
-/// Adds words of unused places until there are `len`, where there is room.
+/// Appends words of unused places until there are `len`, within the capacity.
 fn fill(words: &mut Vec<KeptWord>, len: usize)
     requires room { len ≤ vec_capacity words.old }
     requires less { length words.old.items ≤ len }
@@ -197,7 +201,7 @@ fn fill(words: &mut Vec<KeptWord>, len: usize)
     }
 }
 
-/// Puts terms at their rank, where there is room. What is new before them is never read.
+/// Puts terms at their rank, within the capacity. New terms before them are never read.
 fn put_terms(all: &mut Vec<Terms>, rank: usize, terms: &Terms)
     requires { rank < vec_capacity all.old }
     ensures puts { PutsTerms all.old.items rank terms.now all.new.items }
@@ -213,7 +217,7 @@ fn put_terms(all: &mut Vec<Terms>, rank: usize, terms: &Terms)
     all.push_reserved(*terms);
 }
 
-/// What is kept of a decided place.
+/// Returns the content of a decided place.
 #[inline(always)]
 fn ended(terms: Terms, deadline: Moment, outcome: &Outcome, at: Moment) -> Kept
     ensures { result ≡ Kept.Decided terms deadline outcome.now at }

@@ -1,9 +1,10 @@
+//! Wishes for pending transfers.
 ghost use Rattle.std.specs.Prelude.{◌≡◌};
 
 use inst_base::{Moment, Reason};
 use inst_command::Outcome;
 
-/// What someone wants to become of a pending transfer.
+/// The outcome that someone wants for a pending transfer.
 #[derive(Clone, Copy, Debug, PartialEq, Eq)]
 pub enum Wish {
     /// The beneficiary confirms it.
@@ -17,9 +18,9 @@ pub enum Wish {
 impl Wish {
     ghost use Rattle.inst_board.specs.Wish.{wanted};
 
-    /// What the wish makes of a transfer that is pending until `deadline`, read at `at`: `None`
-    /// where it stays pending. An acceptance must come before the deadline by more than `margin`
-    /// milliseconds.
+    /// Returns the outcome that the wish gives a transfer with this `deadline` at the clock reading
+    /// `at`, or `None` if it stays pending. An acceptance must be more than `margin` milliseconds
+    /// before the deadline.
     pub fn outcome(self, margin: u32, deadline: Moment, at: Moment) -> Option<Outcome>
         ensures { result ≡ wanted margin self deadline at }
     {

@@ -1,4 +1,4 @@
--- The laws of books as text: what is written is read as it was. They are this hub's own promises.
+-- Laws of books as text (inst_books::laws): what was written reads back. Promises of this hub.
 use Rattle.std.specs.Prelude.{◌≡◌, ℕ, Bool, true, ◌&&◌, ◌==◌, if◌then◌else◌, Result, Ok}
 use Rattle.std.specs.Prelude.{Err, IsOkAnd}
 use Rattle.std.specs.Prelude.{List, [], ◌∷◌, length, get_or, take, flat_map}
@@ -22,13 +22,13 @@ use Rattle.inst_books.specs.declared.fault.BookFault.{BookFault}
 use Rattle.inst_books.specs.Reading.{Entry, event_of_line}
 use Rattle.inst_books.specs.Books.{AreWritable, book_lines, books_text, books_of_text}
 
--- whether a reason has its form
+-- True if a reason has its form.
 abbrev pub outcome_has_form : Outcome → Bool
 outcome_has_form Accepted = true
 outcome_has_form (Rejected reason) = is_reason reason
 outcome_has_form TimedOut = true
 
--- whether identifiers, amounts and moments are such, as they are in the program
+-- True if identifiers, amounts and moments have their form, as the program's types have.
 abbrev pub event_has_form : Event → Bool
 event_has_form (Funded funding) = is_identifier funding.reference && is_amount funding.cents
 event_has_form (Defunded funding) = is_identifier funding.reference && is_amount funding.cents
@@ -39,7 +39,7 @@ event_has_form (Booked from id outcome) = is_identifier id && outcome_has_form o
 event_has_form (Fetched count) = true
 event_has_form Opened = true
 
--- an event in the book of the participant `who` of a hub with these settings
+-- An event in the book of participant `who` of a hub with these settings.
 pub record IsEventOf (s : HubSettings) (who : ℕ) (event : Event) : Type 0 where
   pub settings : IsSettings s
   pub codes : list_all is_code s.codes ≡ true
@@ -47,40 +47,41 @@ pub record IsEventOf (s : HubSettings) (who : ℕ) (event : Event) : Type 0 wher
   pub writable : event_can_be_written s event ≡ true
   pub form : event_has_form event ≡ true
 
--- what is written of an event is read as the event
+-- The line of an event is read as the event.
 abbrev pub AnEventReadsBack : Type 0
 AnEventReadsBack = (s : HubSettings) (who : ℕ) (event : Event) → IsEventOf s who event →
     event_of_line s (event_line s who event) ≡ Ok (who, event)
 
--- a line begins as one of a log does, and has neither a newline nor a zero byte
+-- The line begins like a line of a log, and is printable ASCII without a newline.
 pub record IsPlainLine (line : List ℕ) : Type 0 where
   pub begins : take 1 line ≡ gate ∷ []
   pub quiet : NoNewline line
   pub printable : list_all is_printable line ≡ true
 
+-- The line of an event is plain.
 abbrev pub AnEventIsAPlainLine : Type 0
 AnEventIsAPlainLine = (s : HubSettings) (who : ℕ) (event : Event) → IsEventOf s who event →
     IsPlainLine (event_line s who event)
 
--- the same event, in the same book
+-- The same event, in the same book.
 pub record IsSameEntry (who : ℕ) (a : Event) (other : ℕ) (b : Event) : Type 0 where
   pub book : who ≡ other
   pub event : a ≡ b
 
--- two events with the same line are the same, and of one book
+-- Two events with the same line are the same, and of one book.
 abbrev pub ALineTellsItsEvent : Type 0
 ALineTellsItsEvent =
     (s : HubSettings) (who other : ℕ) (a b : Event) → IsEventOf s who a → IsEventOf s other b →
     event_line s who a ≡ event_line s other b → IsSameEntry who a other b
 
--- each event of a sound history can be written in the book of its participant
+-- Each event of a sound history can be written in the book of its participant.
 abbrev pub ASoundHistoryCanBeWritten : Type 0
 ASoundHistoryCanBeWritten =
     (s : HubSettings) (who : ℕ) (J : List Event) → is_participant s who ≡ true →
     IsSound s who J → list_all (event_can_be_written s) J ≡ true
 
--- the books of the participants of a hub with these settings, one for each in the order of their
--- numbers
+-- The books of the participants of a hub with these settings, one for each in the order of their
+-- numbers.
 pub record AreBooksOf (s : HubSettings) (books : List (List Event)) : Type 0 where
   pub settings : IsSettings s
   pub codes : list_all is_code s.codes ≡ true
@@ -88,39 +89,40 @@ pub record AreBooksOf (s : HubSettings) (books : List (List Event)) : Type 0 whe
   pub writable : AreWritable s books
   pub form : list_all (list_all event_has_form) books ≡ true
 
--- what is written of books is read as the books
+-- The text of books is read as the books.
 abbrev pub BooksReadBack : Type 0
 BooksReadBack = (s : HubSettings) (books : List (List Event)) → AreBooksOf s books →
     books_of_text s (books_text s books) ≡ Ok books
 
--- each of the lines is plain
+-- Each of the lines is plain.
 abbrev pub ArePlainLines : List (List ℕ) → Type 0
 ArePlainLines [] = Unit {0}
 ArePlainLines (line ∷ lines) = IsPlainLine line × ArePlainLines lines
 
--- the lines of books are plain, and a log whose lines they are has them as they are
+-- The lines are plain, and a log of these lines has them unescaped.
 pub record AreLinesOfALog (lines : List (List ℕ)) : Type 0 where
   pub plain : ArePlainLines lines
   pub kept : recovered_lines (blocks lines) ≡ lines
 
+-- The lines of books are plain, and a log has them unescaped.
 abbrev pub BooksArePlainLines : Type 0
 BooksArePlainLines = (s : HubSettings) (books : List (List Event)) → AreBooksOf s books →
     AreLinesOfALog (book_lines s books)
 
--- the event, where the line says one of the book of the participant p
+-- The event of a line, if it is in the book of participant p.
 abbrev pub said_of : ℕ → Result Entry BookFault → List Event
 said_of p (Ok entry) = if entry.0 == p then entry.1 ∷ [] else []
 said_of p (Err fault) = []
 
--- each line says an event of the book of some participant
+-- Each line is an event of the book of some participant.
 abbrev pub EachSaysAnEvent : HubSettings → List (List ℕ) → Type 0
 EachSaysAnEvent s [] = Unit {0}
 EachSaysAnEvent s (line ∷ lines) =
     IsOkAnd (event_of_line s line) (λ entry. is_participant s entry.0 ≡ true)
     × EachSaysAnEvent s lines
 
--- The text is whole lines, each of which says an event, and the book of each participant has the
--- events that the lines say to be of it, in the order of the lines.
+-- The text is whole lines, each of which is an event, and each participant's book has the events of
+-- its lines, in their order.
 pub record TellsTheBooks (s : HubSettings) (text : List ℕ) (books : List (List Event)) : Type 0
   where
     pub whole : AreWholeLines text
@@ -130,12 +132,12 @@ pub record TellsTheBooks (s : HubSettings) (text : List ℕ) (books : List (List
         get_or books p []
         ≡ flat_map (λ line. said_of p (event_of_line s line)) (recovered_lines text)
 
--- what is read of a text is what its lines say
+-- The books read from a text have what its lines say.
 abbrev pub ATextTellsWhatItsLinesSay : Type 0
 ATextTellsWhatItsLinesSay = (s : HubSettings) (text : List ℕ) (books : List (List Event)) →
     books_of_text s text ≡ Ok books → TellsTheBooks s text books
 
--- books with the same text are the same
+-- Books with the same text are the same.
 abbrev pub ATextTellsItsBooks : Type 0
 ATextTellsItsBooks = (s : HubSettings) (a b : List (List Event)) → AreBooksOf s a → AreBooksOf s b →
     books_text s a ≡ books_text s b → a ≡ b

@@ -1,8 +1,8 @@
--- Public contracts cite these.
+-- Definitions that public contracts cite.
 pub mod Events
 pub mod Reading
 pub mod Books
 pub mod Laws
 pub mod Tally
--- Only inner functions and proofs cite these.
+-- Definitions that only private functions and proofs cite.
 pub mod inner

@@ -1,4 +1,4 @@
-//! Whether a hub may open from journals.
+//! Checking if a hub may open from journals.
 ghost use Rattle.std.specs.Prelude.{◌≡◌, ◌↔◌, ℕ, ◌≤◌, [], length, IfOk, IfSome, IsSome, IsTrue};
 ghost use Rattle.inst_world.specs.NextOpening.{books_of, CanOpenFrom};
 ghost use Rattle.inst_books.specs.inner.Replaying.{CanBeBook, AreAllKept};
@@ -12,8 +12,8 @@ use inst_ledger::Ledger;
 use inst_settings::Settings;
 use std::alloc::{AllocError, Global};
 
-/// Keeps a history again event by event, and tells whether it can be a book. One that can't is kept
-/// as far as it may be.
+/// Replays a history; returns `true` if it can be a book. One that can't is replayed up to its
+/// first wrong event.
 fn keep_all(replay: &mut Replay, journal: &Journal) -> Result<bool, AllocError>
     requires blank { replay.old.events ≡ [] }
     ensures can { IfOk result (λ can. IsTrue can ↔
@@ -30,8 +30,7 @@ fn keep_all(replay: &mut Replay, journal: &Journal) -> Result<bool, AllocError>
     Ok(replay.may_open())
 }
 
-/// The books of the participant `who`, kept again event by event, or nothing where the journal
-/// can't be its book.
+/// Returns the replayed ledger of participant `who`; `None` if the journal can't be its book.
 fn replayed(
     alloc: Global,
     settings: &Settings,
@@ -47,7 +46,7 @@ fn replayed(
     Ok(can.then_some(replay.into_ledger()))
 }
 
-/// The books of all participants, or nothing where one of the journals can't be a book.
+/// Returns the replayed ledgers of all participants; `None` if one of the journals can't be a book.
 fn all_replayed(
     alloc: Global,
     settings: &Settings,
@@ -69,10 +68,17 @@ fn all_replayed(
     Ok(Some(ledgers))
 }
 
-/// Whether a hub of these settings can open from the journals, one for each participant by number:
-/// each is a history that its participant can have, opened from fewer than 500 times, and both
-/// sides of each transfer agree, so that the books are closed. It makes a copy of them with its
-/// tables, and costs a few looks at a table for each event, whatever the journals hold.
+/// Returns `true` if a hub with these settings can open from the journals, one for each participant
+/// by number.
+///
+/// They can be anything. Each must be a history that its participant can have, opened from fewer
+/// than 500 times, and both sides of each transfer must agree.
+///
+/// Replays the journals into ledgers, and makes a few table lookups per event.
+///
+/// # Errors
+///
+/// [`AllocError`] if the ledgers can't be allocated. The journals are only read.
 pub fn can_open(
     alloc: Global,
     settings: &Settings,

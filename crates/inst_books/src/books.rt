@@ -1,4 +1,4 @@
-//! The books of all participants as text, and from the text again.
+//! The books of all participants as text, and read from text.
 ghost use Rattle.std.specs.Prelude.{◌≡◌, ◌<◌, ◌++◌, true, length, map, IfOk, OnOk};
 ghost use Rattle.std.specs.List.{list_all};
 ghost use Rattle.inst_base.specs.Text.{is_code};
@@ -24,9 +24,14 @@ use inst_log::{first_line, whole_lines};
 use inst_settings::Settings;
 use std::alloc::{AllocError, Global};
 
-/// Puts the lines of all books at the end of `out`, each with its newline: of one journal for each
-/// participant, in the order of their numbers. After an error a part of the text may stand at the
-/// end.
+/// Appends the lines of all books to `out`: one journal for each participant, in the order of their
+/// numbers.
+///
+/// Each line has one event and ends with a newline.
+///
+/// # Errors
+///
+/// [`AllocError`] if `out` can't grow; it may end in a part of the text.
 #[tactic(auto, unfolding(crate::specs::Books::books_text))]
 pub fn append_books(
     settings: &Settings,
@@ -38,7 +43,7 @@ pub fn append_books(
     ensures text { OnOk result (out.new.items
         ≡ out.old.items ++ books_text settings.now (all_events journals.now)) }
 
-    // So what was written is read as the books.
+    // So the text is read as the books.
     ensures books { OnOk result (IsSettings settings.now →
         AreBooksOf settings.now (all_events journals.now)) }
 {
@@ -53,7 +58,7 @@ pub fn append_books(
     Ok(())
 }
 
-/// Puts the lines of one participant's book at the end of `out`, each with its newline.
+/// Appends the lines of one participant's book.
 #[tactic(auto, unfolding(crate::specs::Events::event_line))]
 fn append_book(
     settings: &Settings,
@@ -76,10 +81,16 @@ fn append_book(
     Ok(())
 }
 
-/// The journals that a text tells, one for each participant in the order of their numbers, or
-/// `BadLine` where a line is no event, a line begins with no brace or the end is no newline. The
-/// events of a book stand in the order of its lines, whatever lines of other books stand between
-/// them. `Memory` comes only where memory was refused. The text is passed over twice.
+/// Returns the journals in a text, one for each participant in the order of their numbers.
+///
+/// The events of a book are in the order of its lines; lines of other books may be between them.
+/// The result may be no books of a hub: ask [`can_open`](crate::can_open). Scans the text twice.
+///
+/// # Errors
+///
+/// - [`BookFault::BadLine`] if a line is no event or doesn't begin with a brace, or the last line
+///   lacks its newline.
+/// - [`BookFault::Memory`] on allocation failure.
 #[tactic(auto, unfolding(crate::specs::Books::books_of_text))]
 pub fn read_books(
     alloc: Global,
@@ -106,7 +117,7 @@ pub fn read_books(
     Ok(journals)
 }
 
-/// Puts the event of a line at the end of its journal.
+/// Appends the event of a line to its journal.
 fn read_line(
     alloc: Global,
     settings: &Settings,
@@ -125,7 +136,7 @@ fn read_line(
     Ok(())
 }
 
-/// Journals with no event, one for each participant.
+/// Returns journals without events, one for each participant.
 fn no_journals(alloc: Global, settings: &Settings) -> Result<Vec<Journal>, AllocError>
     ensures { IfOk result (λ journals. all_events journals.items ≡ no_books settings.now) }
 {
@@ -136,7 +147,7 @@ fn no_journals(alloc: Global, settings: &Settings) -> Result<Vec<Journal>, Alloc
     Ok(journals)
 }
 
-/// Puts an event at the end of the participant's journal.
+/// Appends an event to the participant's journal.
 fn keep(journals: &mut [Journal], who: u8, event: Event) -> Result<(), AllocError>
     requires { who < length journals.old }
     ensures { OnOk result (all_events journals.new

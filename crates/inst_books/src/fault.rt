@@ -1,17 +1,18 @@
+//! Errors of reading books.
 ghost use Rattle.std.specs.Prelude.{◌≡◌};
 ghost use Rattle.inst_books.specs.declared.fault.BookFault.TheVariants.{Memory};
 
 use std::alloc::AllocError;
 use thiserror::Error;
 
-/// Why books were not read.
+/// An error in reading books.
 #[derive(Clone, Copy, Debug, PartialEq, Eq, Error)]
 pub enum BookFault {
-    /// A line is no event of a participant's book.
-    #[error("a line is no event of a book")]
+    /// A line isn't an event of a participant's book.
+    #[error("a line isn't an event of a participant's book")]
     BadLine,
-    /// A growth was refused.
-    #[error("memory was refused")]
+    /// An allocation failed.
+    #[error("an allocation failed")]
     Memory,
 }
 

@@ -1,4 +1,4 @@
-//! What a line has under a name, as a part of an event.
+//! Reading the parts of an event from a line's JSON value.
 ghost use Rattle.std.specs.Prelude.{◌≡◌, true, IfOk};
 ghost use Rattle.serde_json.specs.View.{view};
 ghost use Rattle.inst_settings.specs.Settings.{is_participant};
@@ -12,7 +12,7 @@ use inst_json::{field_at, participant};
 use inst_settings::Settings;
 use serde_json::Value;
 
-/// The identifier under a name, or `BadField` or `BadIdentifier`.
+/// Returns the identifier under a name; `BadField` or `BadIdentifier`.
 #[tactic(auto, unfolding(crate::specs::Reading::identifier_in))]
 pub(crate) fn identifier(line: &Value, name: &str) -> Result<Ident, Fault>
     ensures { result ≡ identifier_in (field (view line.now) name.now) }
@@ -20,7 +20,7 @@ pub(crate) fn identifier(line: &Value, name: &str) -> Result<Ident, Fault>
     Ident::new(text(field_at(line, name))?)
 }
 
-/// The amount under a name, or `BadField` or `BadAmount`.
+/// Returns the amount under a name; `BadField` or `BadAmount`.
 #[tactic(auto, unfolding(crate::specs::Reading::amount_in))]
 pub(crate) fn amount(line: &Value, name: &str) -> Result<Cents, Fault>
     ensures { result ≡ amount_in (field (view line.now) name.now) }
@@ -28,7 +28,7 @@ pub(crate) fn amount(line: &Value, name: &str) -> Result<Cents, Fault>
     Cents::new(whole(field_at(line, name))?)
 }
 
-/// The moment under a name, or `BadField` or `BadMoment`.
+/// Returns the moment under a name; `BadField` or `BadMoment`.
 #[tactic(auto, unfolding(crate::specs::Reading::moment_in))]
 pub(crate) fn moment(settings: &Settings, line: &Value, name: &str) -> Result<Moment, Fault>
     ensures { result ≡ moment_in settings.now (field (view line.now) name.now) }
@@ -36,7 +36,7 @@ pub(crate) fn moment(settings: &Settings, line: &Value, name: &str) -> Result<Mo
     Moment::new(settings.base(), whole(field_at(line, name))?)
 }
 
-/// The number of the participant whose code stands under a name, or `BadField` or
+/// Returns the number of the participant whose code is under a name; `BadField` or
 /// `UnknownParticipant`.
 #[tactic(auto, unfolding(crate::specs::Reading::participant_in))]
 pub(crate) fn participant_at(settings: &Settings, line: &Value, name: &str) -> Result<u8, Fault>
@@ -46,7 +46,7 @@ pub(crate) fn participant_at(settings: &Settings, line: &Value, name: &str) -> R
     participant(settings, &code(field_at(line, name))?)
 }
 
-/// How a transfer ended, or `BadField`.
+/// Returns the outcome of a transfer; `BadField`.
 #[tactic(auto, unfolding(crate::specs::Reading::outcome_in))]
 pub(crate) fn outcome(line: &Value) -> Result<Outcome, Fault>
     ensures { result ≡ outcome_in (view line.now) }

@@ -1,16 +1,15 @@
-//! The laws of books as text. Each is a function without a body whose contract is the law, so that
-//! the check proves it.
+//! Laws of books as text: functions without a body, whose contract is the law.
 ghost use Rattle.inst_books.specs.Laws.{AnEventReadsBack, AnEventIsAPlainLine, ALineTellsItsEvent};
 ghost use Rattle.inst_books.specs.Laws.{ASoundHistoryCanBeWritten, BooksReadBack};
 ghost use Rattle.inst_books.specs.Laws.{BooksArePlainLines, ATextTellsWhatItsLinesSay};
 ghost use Rattle.inst_books.specs.Laws.{ATextTellsItsBooks};
 
-/// What is written of an event is read as the event, in the same book.
+/// The line of an event is read as the event, in the same book.
 pub fn an_event_reads_back()
     ensures { AnEventReadsBack }
 {}
 
-/// The line of an event begins with a brace, and has neither a newline nor a zero byte.
+/// The line of an event begins with a brace, and is printable ASCII without a newline.
 pub fn an_event_is_a_plain_line()
     ensures { AnEventIsAPlainLine }
 {}
@@ -25,19 +24,18 @@ pub fn a_sound_history_can_be_written()
     ensures { ASoundHistoryCanBeWritten }
 {}
 
-/// What is written of all books is read as the books.
+/// The text of all books is read as the books.
 pub fn books_read_back()
     ensures { BooksReadBack }
 {}
 
-/// Each line of books begins with a brace, and has neither a newline nor a zero byte: a log of
-/// these lines has them as they are.
+/// Each line of books begins with a brace and is printable ASCII without a newline; a log of these
+/// lines has them unescaped.
 pub fn books_are_plain_lines()
     ensures { BooksArePlainLines }
 {}
 
-/// What is read of a text is what its lines say, also where lines of several books stand between
-/// one another.
+/// The books read from a text have what its lines say, even if lines of several books are mixed.
 pub fn a_text_tells_what_its_lines_say()
     ensures { ATextTellsWhatItsLinesSay }
 {}

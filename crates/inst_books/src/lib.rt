@@ -1,5 +1,5 @@
-//! Participants' books as text, lines of JSON with one event a line, and whether a hub may open
-//! from books.
+//! Participants' books as text, JSON lines with one event each, and checking if a hub may open from
+//! books.
 #![tactic(auto)]
 
 mod audit;

@@ -1,11 +1,11 @@
-//! The members of an object, each put at the end of those before.
+//! Appending the members of an event's JSON object.
 ghost use Rattle.std.specs.Prelude.{◌≡◌, ◌++◌, [], ◌∷◌, OnOk};
 ghost use Rattle.inst_books.specs.inner.Members.{begin_text, text_member, whole_member};
 
 use inst_json::piece::{push_number, push_text};
 use std::alloc::AllocError;
 
-/// Begins an object with the code of the participant in whose book it stands.
+/// Begins an object with the code of the participant whose book it is in.
 pub(crate) fn push_book(out: &mut Vec<u8>, book: &str) -> Result<(), AllocError>
     ensures { OnOk result (out.new.items ≡ out.old.items ++ begin_text book.now) }
 {
@@ -14,7 +14,7 @@ pub(crate) fn push_book(out: &mut Vec<u8>, book: &str) -> Result<(), AllocError>
     push_text(out, "\"")
 }
 
-/// Puts one member more at the end, a text.
+/// Appends a member that is a text.
 pub(crate) fn push_text_member<'a>(
     out: &mut Vec<u8>,
     name: &'a str,
@@ -29,7 +29,7 @@ pub(crate) fn push_text_member<'a>(
     push_text(out, "\"")
 }
 
-/// Puts one member more at the end, a whole number.
+/// Appends a member that is a whole number.
 pub(crate) fn push_whole_member(
     out: &mut Vec<u8>,
     name: &str,

@@ -1,4 +1,4 @@
-//! From a line to the event that it says.
+//! Reading the event of a line.
 ghost use Rattle.std.specs.Prelude.{◌≡◌, true, IfOk};
 ghost use Rattle.serde_json.specs.View.{view};
 ghost use Rattle.inst_base.specs.Fault.{IsUnlessMemory as IsUnlessNoMemory};
@@ -22,10 +22,15 @@ use inst_settings::Settings;
 use serde_json::Value;
 use std::alloc::Global;
 
-/// The event of a line without its newline, and the number of the participant in whose book it
-/// stands, or `BadLine`. The members may stand in any order, those that the event doesn't have are
-/// ignored, and of one given twice the last counts. `Memory` comes only where memory was refused. A
-/// line has a tree while it is read.
+/// Returns the event of a line, and the number of the participant whose book it is in.
+///
+/// `line` is without its newline. Members may be in any order, and those that the event doesn't
+/// have are ignored. If one is given twice, the last one counts. The line is read as a JSON value.
+///
+/// # Errors
+///
+/// - [`BookFault::BadLine`] if the line isn't an event.
+/// - [`BookFault::Memory`] on allocation failure.
 pub fn read_event(alloc: Global, settings: &Settings, line: &[u8]) -> Result<(u8, Event), BookFault>
     ensures value { IsBookUnlessMemory result (event_of_line settings.now line.now) }
     ensures book { IfOk result (λ entry. is_participant settings.now entry.0 ≡ true) }
@@ -38,7 +43,7 @@ pub fn read_event(alloc: Global, settings: &Settings, line: &[u8]) -> Result<(u8
     }
 }
 
-/// The event of a line and whose it is, or why the line is refused.
+/// Returns the event of a line and its participant, or the fault of the line.
 #[tactic(auto, unfolding(crate::specs::Reading::entry_of_line))]
 fn entry_of_line(alloc: Global, settings: &Settings, line: &[u8]) -> Result<(u8, Event), Fault>
     ensures value { IsUnlessNoMemory result (entry_of_line settings.now line.now) }
@@ -49,7 +54,7 @@ fn entry_of_line(alloc: Global, settings: &Settings, line: &[u8]) -> Result<(u8,
     entry(settings, &value)
 }
 
-/// The JSON value of a line, or `NotJson`.
+/// Returns the JSON value of a line, or `NotJson`.
 fn value_of_line(alloc: Global, line: &[u8]) -> Result<Value, Fault>
     ensures { GivesUnlessMemory view result (json_of line.now) }
 {
@@ -60,7 +65,7 @@ fn value_of_line(alloc: Global, line: &[u8]) -> Result<Value, Fault>
     }
 }
 
-/// The event of a line's object and whose it is, or the first of its refusals.
+/// Returns the event of a line's object and its participant, or the first refusal.
 #[tactic(auto, unfolding(crate::specs::Reading::entry_in))]
 fn entry(settings: &Settings, line: &Value) -> Result<(u8, Event), Fault>
     ensures value { result ≡ entry_in settings.now (view line.now) }
@@ -73,7 +78,7 @@ fn entry(settings: &Settings, line: &Value) -> Result<(u8, Event), Fault>
     Ok((who, event))
 }
 
-/// The event that a name stands for.
+/// Returns the event of this name.
 fn event_named(settings: &Settings, line: &Value, name: &str) -> Result<Event, Fault>
     ensures value { result ≡ event_named settings.now (view line.now) name.now }
     ensures writable { IfOk result (λ event. event_can_be_written settings.now event ≡ true) }

@@ -1,4 +1,4 @@
-//! A history that is kept again event by event, where each may come next.
+//! Replaying a history event by event.
 ghost use Rattle.std.specs.Prelude.{◌≡◌, ◌≢◌, ◌↔◌, ◌<◌, ◌≤◌, true, [], IfOk, OnOk, OnErr, IsTrue};
 ghost use Rattle.inst_settings.specs.Settings.{is_participant, is_within_ceiling};
 ghost use Rattle.inst_journal.specs.Money.{available};
@@ -16,14 +16,15 @@ use inst_settings::Settings;
 use std::alloc::{AllocError, Global};
 use std::marker::Model;
 
-/// The books of one participant that are kept again event by event, of which each is told whether
-/// it may come next. Beside the ledger stands what it doesn't count, which would cost a running hub
-/// room and time for nothing.
+/// The books of one participant, replayed event by event; each event is checked before it is kept.
+///
+/// In addition to the ledger it counts what only a replay needs; a running hub would spend memory
+/// and time on it for nothing.
 ///
 /// ```text
 /// let mut replay = Replay::open(alloc, &settings, who)?;
-/// replay.may_keep(&event) // whether a participant's history can go on so
-/// replay.keep(event)?     // only where it may
+/// replay.may_keep(&event) // true if the event can come next in this history
+/// replay.keep(event)?     // only if it may
 /// ```
 #[derive(Drop)]
 pub struct Replay {
@@ -43,7 +44,11 @@ impl Model for Replay {
 }
 
 impl Replay {
-    /// No events yet of the participant `who`. It has a copy of the settings.
+    /// Opens a replay of participant `who` without events. It copies the settings.
+    ///
+    /// # Errors
+    ///
+    /// [`AllocError`] if the ledger can't be allocated.
     pub fn open(alloc: Global, settings: &Settings, who: u8) -> Result<Replay, AllocError>
         ensures ok { IfOk result (λ r.
             r ≡ record { settings = settings.now; who = who; events = [] }) }
@@ -54,7 +59,7 @@ impl Replay {
         })
     }
 
-    /// Whether the funding may come next, but for what is available.
+    /// Returns `true` if the funding may come next, leaving aside the available amount.
     fn may_fund(&self, funding: &Funding) -> bool
         ensures { IsTrue result ↔ FundedFits self.now.settings self.now.events funding.now }
     {
@@ -64,7 +69,7 @@ impl Replay {
             && settings.allows(funding.cents.get())
     }
 
-    /// Whether another participant has this number.
+    /// Returns `true` if another participant has this number.
     fn is_another(&self, number: u8) -> bool
         ensures { IsTrue result ↔
             ((is_participant self.now.settings number ≡ true) × (number ≢ self.now.who)) }
@@ -72,14 +77,14 @@ impl Replay {
         self.ledger.settings().has_participant(number) && number != self.ledger.who()
     }
 
-    /// Whether the amount is available.
+    /// Returns `true` if the amount is available.
     fn covers(&self, cents: Cents) -> bool
         ensures { IsTrue result ↔ (cents ≤ available self.now.events) }
     {
         u128::from(cents.get()) <= self.ledger.available()
     }
 
-    /// Whether there is a place for one more submission, and its amount may be reserved.
+    /// Returns `true` if there is a place for one more submission and its amount may be reserved.
     fn may_reserve(&self, cents: Cents) -> bool
         ensures { IsTrue result ↔
             ((live_submissions self.now.who self.now.events < self.now.settings.places)
@@ -92,7 +97,7 @@ impl Replay {
             && self.covers(cents)
     }
 
-    /// Whether the submission may come next.
+    /// Returns `true` if the submission may come next.
     fn may_take(&self, id: &Ident, to: u8, cents: Cents, stamp: Moment) -> bool
         ensures { IsTrue result ↔
             TakenFits self.now.settings self.now.who self.now.events id.now to cents stamp }
@@ -103,7 +108,7 @@ impl Replay {
             && self.may_reserve(cents)
     }
 
-    /// How many of the transfers of another originator are live.
+    /// Returns the number of live transfers that were forwarded from another originator.
     fn live_forwarded(&self, from: u8) -> usize
         requires { from ≢ self.now.who }
         ensures { result ≡ live_forwarded from self.now.events }
@@ -111,7 +116,7 @@ impl Replay {
         self.tally.live[usize::from(from)]
     }
 
-    /// Whether this transfer may come next.
+    /// Returns `true` if this forwarding may come next.
     fn may_forward(&self, from: u8, id: &Ident) -> bool
         ensures { IsTrue result ↔
             ForwardedFits self.now.settings self.now.who self.now.events from id.now }
@@ -121,7 +126,7 @@ impl Replay {
             && self.live_forwarded(from) < usize::from(self.ledger.settings().places())
     }
 
-    /// Whether the outcome of this transfer may be booked next.
+    /// Returns `true` if the outcome of this transfer may be booked next.
     fn may_book(&self, from: u8, id: &Ident) -> bool
         ensures { IsTrue result ↔ BookedFits self.now.who self.now.events from id.now }
     {
@@ -129,21 +134,22 @@ impl Replay {
         (is_own || self.ledger.is_forwarded(from, id)) && self.ledger.booked(from, id).is_none()
     }
 
-    /// Whether so many transfers may be handed out next.
+    /// Returns `true` if a fetch of so many transfers may come next.
     fn may_hand_out(&self, count: u32) -> bool
         ensures { IsTrue result ↔ FetchedFits self.now.events count }
     {
         is_count(count) && count as usize <= self.ledger.unread_count()
     }
 
-    /// Whether the hub may be opened from the books next.
+    /// Returns `true` if a hub may open from the books next, which were opened from fewer than 500
+    /// times.
     pub fn may_open(&self) -> bool
         ensures { IsTrue result ↔ OpenedFits self.now.events }
     {
         self.tally.openings < MOST_OPENINGS
     }
 
-    /// Whether the event may come next. It costs three looks at a table at most, and no walk over
+    /// Returns `true` if the event may come next. Makes at most three table lookups, and scans no
     /// events.
     pub fn may_keep(&self, event: &Event) -> bool
         ensures { IsTrue result ↔ Fits self.now.settings self.now.who self.now.events event.now }
@@ -164,7 +170,11 @@ impl Replay {
         }
     }
 
-    /// Keeps an event that fits. Where memory is refused the book is as it was.
+    /// Appends an event that fits the history.
+    ///
+    /// # Errors
+    ///
+    /// [`AllocError`] if the event can't be stored; the book is unchanged.
     pub fn keep(&mut self, event: Event) -> Result<(), AllocError>
         requires { Fits self.old.settings self.old.who self.old.events event }
         ensures ok { OnOk result (self.new ≡ ledger_with_event self.old event) }
@@ -187,7 +197,7 @@ impl Replay {
         Ok(())
     }
 
-    /// The books that were kept again.
+    /// Returns the replayed ledger.
     pub fn into_ledger(self) -> Ledger
         ensures { result.book ≡ self }
     {

@@ -1,4 +1,4 @@
-//! Whether both sides of each transfer agree.
+//! Comparing both sides of each transfer.
 ghost use Rattle.std.specs.Prelude.{◌≡◌, ◌↔◌, ◌≤◌, ℕ, IsTrue, length};
 ghost use Rattle.std.specs.List.{All};
 ghost use Rattle.inst_base.specs.TimeLimit.{deadline_of};
@@ -12,29 +12,29 @@ use inst_command::Outcome;
 use inst_journal::Event;
 use inst_ledger::{Forwarding, Ledger, Sending};
 
-/// Whether an end is booked that releases the amount.
+/// Returns `true` for an outcome that releases the amount.
 fn is_released(outcome: &Option<Outcome>) -> bool
     ensures { IsTrue result ↔ IsReleased outcome.now }
 {
     matches!(outcome, Some(Outcome::Rejected(_) | Outcome::TimedOut))
 }
 
-/// Whether both have booked the same, or neither anything.
+/// Returns `true` if both sides have booked the same outcome, or neither has one.
 fn is_same(one: &Option<Outcome>, other: &Option<Outcome>) -> bool
     ensures { IsTrue result ↔ (one.now ≡ other.now) }
 {
     one == other
 }
 
-/// Whether a transfer with this time stamp has this deadline.
+/// Returns `true` if a transfer with this time stamp has this deadline.
 fn is_deadline(stamp: Moment, limit: u32, deadline: Moment) -> bool
     ensures { IsTrue result ↔ (deadline_of limit stamp ≡ deadline) }
 {
     deadline.past_base() == stamp.past_base() + u64::from(limit)
 }
 
-/// Whether what came to the beneficiary agrees with what was sent, and what was booked `there` with
-/// what its originator has booked `here`.
+/// Returns `true` if the forwarding agrees with the submission, and the outcome booked `there` with
+/// the originator's, `here`.
 fn is_received(
     came: &Option<Forwarding>,
     sent: &Sending,
@@ -55,7 +55,7 @@ fn is_received(
     }
 }
 
-/// Whether what was sent agrees with what came to the beneficiary `to`.
+/// Returns `true` if the submission agrees with the transfer forwarded to the beneficiary `to`.
 fn is_sent(sent: &Option<Sending>, limit: u32, to: u8, cents: Cents, deadline: Moment) -> bool
     ensures { IsTrue result ↔ IsSent limit to cents deadline sent.now }
 {
@@ -69,7 +69,7 @@ fn is_sent(sent: &Option<Sending>, limit: u32, to: u8, cents: Cents, deadline: M
     }
 }
 
-/// What came of the transfer to the participant `who`.
+/// Returns the details of the transfer as it was forwarded to participant `who`.
 fn forwarding(ledgers: &[Ledger], who: u8, from: u8, id: &Ident) -> Option<Forwarding>
     ensures { result
         ≡ first_some (forwarding_of (from, id.now)) (ledger_histories ledgers.now who) }
@@ -77,22 +77,22 @@ fn forwarding(ledgers: &[Ledger], who: u8, from: u8, id: &Ident) -> Option<Forwa
     ledgers.get(usize::from(who))?.forwarding(from, id)
 }
 
-/// What the participant `who` has sent with the transfer.
+/// Returns the details of the transfer as participant `who` submitted it.
 fn sending(ledgers: &[Ledger], who: u8, id: &Ident) -> Option<Sending>
     ensures { result ≡ first_some (sending_of id.now) (ledger_histories ledgers.now who) }
 {
     ledgers.get(usize::from(who))?.sending(id)
 }
 
-/// The outcome that the participant `who` has booked for the transfer.
+/// Returns the outcome that participant `who` has booked for the transfer.
 fn booked(ledgers: &[Ledger], who: u8, from: u8, id: &Ident) -> Option<Outcome>
     ensures { result ≡ booked from id.now (ledger_histories ledgers.now who) }
 {
     ledgers.get(usize::from(who))?.booked(from, id)
 }
 
-/// Whether what the event of the participant `who` says of a transfer agrees with what the other
-/// side has. It costs three looks at a table at most.
+/// Returns `true` if an event of participant `who` agrees with the other side. Makes at most three
+/// table lookups.
 fn agrees(ledgers: &[Ledger], limit: u32, who: u8, event: &Event) -> bool
     ensures { IsTrue result ↔ Agrees limit (ledger_histories ledgers.now) who event.now }
 {
@@ -127,7 +127,7 @@ fn agrees(ledgers: &[Ledger], limit: u32, who: u8, event: &Event) -> bool
     }
 }
 
-/// Whether each of these events of the participant `who` agrees with the other side.
+/// Returns `true` if each of these events of participant `who` agrees with the other side.
 fn all_agree(ledgers: &[Ledger], limit: u32, who: u8, events: &[Event]) -> bool
     ensures { IsTrue result ↔ All (Agrees limit (ledger_histories ledgers.now) who) events.now }
 {
@@ -137,7 +137,7 @@ fn all_agree(ledgers: &[Ledger], limit: u32, who: u8, events: &[Event]) -> bool
         .all(|event| agrees(ledgers, limit, who, event))
 }
 
-/// Whether all that the ledgers have of each transfer agrees, event by event.
+/// Returns `true` if the ledgers agree on each transfer, event by event.
 pub(crate) fn books_agree(ledgers: &[Ledger], limit: u32) -> bool
     requires { length ledgers.now ≤ 256 }
     ensures { IsTrue result ↔

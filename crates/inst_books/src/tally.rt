@@ -1,22 +1,21 @@
-//! What is counted of a history beside what a ledger keeps.
+//! Counts over a history that a ledger doesn't have.
 ghost use Rattle.std.specs.Prelude.{◌≡◌, ℕ, ◌+◌, ◌-◌, ◌<◌, ◌≤◌, ◌^◌, slice_index, slice_set};
 ghost use Rattle.inst_settings.specs.declared.ranges.TheConstants.{MOST_PARTICIPANTS};
 
 use inst_settings::MOST_PARTICIPANTS;
 
-/// How many transfers came from each originator, by its number, and how often the hub was opened:
-/// an entry for each number that a participant may have.
+/// Counts of forwarded transfers by their originator's number, and the number of openings.
 #[derive(Clone, Copy, Drop)]
 pub(crate) struct LiveCounts {
-    /// Those that are live.
+    /// The live ones.
     pub(crate) live: [usize; MOST_PARTICIPANTS],
-    /// Those with nothing booked.
+    /// Those without a booked outcome.
     pub(crate) waiting: [usize; MOST_PARTICIPANTS],
     pub(crate) openings: usize,
 }
 
 impl LiveCounts {
-    /// Of an empty history.
+    /// Returns the counts of an empty history.
     pub(crate) fn new() -> LiveCounts
         ensures live { (from : ℕ) → from < MOST_PARTICIPANTS → slice_index result.live from ≡ 0 }
         ensures waiting { (from : ℕ) → from < MOST_PARTICIPANTS →
@@ -30,7 +29,7 @@ impl LiveCounts {
         }
     }
 
-    /// A transfer came from this originator.
+    /// Counts a transfer forwarded from this originator.
     pub(crate) fn arrive(&mut self, from: u8)
         requires live { slice_index self.old.live from + 1 < 2 ^ 64 }
         requires waiting { slice_index self.old.waiting from + 1 < 2 ^ 64 }
@@ -44,7 +43,7 @@ impl LiveCounts {
         self.waiting[usize::from(from)] += 1;
     }
 
-    /// The outcome of a transfer that came from this originator is booked.
+    /// Counts the booked outcome of a transfer from this originator.
     pub(crate) fn settle(&mut self, from: u8)
         requires { 1 ≤ slice_index self.old.waiting from }
         ensures live { self.new.live ≡ self.old.live }
@@ -55,7 +54,7 @@ impl LiveCounts {
         self.waiting[usize::from(from)] -= 1;
     }
 
-    /// The hub was opened: what has nothing booked is live, and nothing else.
+    /// Counts an opening: only transfers without a booked outcome stay live.
     pub(crate) fn begin(&mut self)
         requires { self.old.openings + 1 < 2 ^ 64 }
         ensures live { self.new.live ≡ self.old.waiting }

@@ -1,4 +1,4 @@
-//! The line of each event, put at the end of others member by member.
+//! Writing events as lines.
 ghost use Rattle.std.specs.Prelude.{◌≡◌, ◌+◌, ◌++◌, ◌&&◌, true, IsTrue, OnOk};
 ghost use Rattle.serde_json.specs.Written.{compact_text};
 ghost use Rattle.inst_base.specs.Cents.{is_amount};
@@ -21,9 +21,11 @@ use inst_json::code_text;
 use inst_settings::Settings;
 use std::alloc::AllocError;
 
-/// Puts the line of an event in the book of the participant with this code, without its newline, at
-/// the end of `out`: compact JSON with the keys in byte order. Moments are absolute milliseconds,
-/// and amounts are cents. After an error a part of the line may stand at the end.
+/// Appends the line of an event in the book with this code, without its newline: compact JSON with
+/// the keys in byte order.
+///
+/// Moments are absolute milliseconds, amounts are cents. On allocation failure `out` may end in a
+/// part of the line.
 pub(crate) fn append_event(
     settings: &Settings,
     book: &str,
@@ -65,7 +67,7 @@ pub(crate) fn append_event(
     }
 }
 
-/// The moment in absolute milliseconds.
+/// Returns the moment in absolute milliseconds.
 fn millis(settings: &Settings, moment: Moment) -> u64
     ensures value { result ≡ settings.now.base + moment }
     ensures form { is_moment moment ≡ true }
@@ -73,7 +75,7 @@ fn millis(settings: &Settings, moment: Moment) -> u64
     moment.millis(settings.base())
 }
 
-/// A funding or defunding, by its name.
+/// Appends a funding or defunding, by its name.
 fn append_funding<'a>(
     out: &mut Vec<u8>,
     book: &'a str,
@@ -95,7 +97,7 @@ fn append_funding<'a>(
     push_end(out)
 }
 
-/// A submission that was taken. The stamp is in absolute milliseconds.
+/// Appends a taken submission. The stamp is in absolute milliseconds.
 fn append_taken<'a>(
     out: &mut Vec<u8>,
     book: &'a str,
@@ -120,7 +122,7 @@ fn append_taken<'a>(
     push_end(out)
 }
 
-/// A transfer that was forwarded. The deadline is in absolute milliseconds.
+/// Appends a forwarded transfer. The deadline is in absolute milliseconds.
 fn append_forwarded<'a>(
     out: &mut Vec<u8>,
     book: &'a str,
@@ -145,7 +147,7 @@ fn append_forwarded<'a>(
     push_end(out)
 }
 
-/// An outcome that was booked.
+/// Appends a booked outcome.
 fn append_booked<'a>(
     out: &mut Vec<u8>,
     book: &'a str,
@@ -166,7 +168,7 @@ fn append_booked<'a>(
     }
 }
 
-/// An outcome without a reason, by its name.
+/// Appends an outcome without a reason, by its name.
 fn append_outcome<'a>(
     out: &mut Vec<u8>,
     book: &'a str,

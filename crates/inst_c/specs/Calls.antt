@@ -1,5 +1,4 @@
--- What the calls of C do to the hub of a handle, and which status they answer. This hub's own
--- choice.
+-- What the calls for C do to the hub of a handle, and their statuses. A choice of this hub.
 use Rattle.std.specs.Prelude.{◌≡◌, ◌⊎◌, ◌<◌, ◌≤◌, ℕ, false, List, [], ◌++◌, length, drop, Option}
 use Rattle.std.specs.Prelude.{Some, None}
 use Rattle.inst_base.specs.Fault.{number_of}
@@ -14,14 +13,14 @@ use Rattle.inst_c.specs.declared.calls.Told.{Told}
 use Rattle.inst_c.specs.declared.status.TheConstants.{DONE, CLOSED, STILL_OPEN, SHORT}
 use Rattle.inst_c.specs.LineHub.{HasFirstOpened}
 
--- a hub of these settings has opened
+-- A hub of these settings has opened.
 pub record HasOpenedOf (s : HubSettings) (mode : Mode) (new : Option LineHub) : Type 0 where
   pub hub : LineHub
   pub is : new ≡ Some hub
   pub opened : HasFirstOpened mode s hub
   pub good : AreOfAHub s
 
--- a hub opens where none is open, if it can have the settings and there is memory for it
+-- A hub is opened if none is open, a hub can have the settings, and no allocation fails.
 abbrev pub OpensHub : HubSettings → Mode → Option LineHub → Option LineHub → ℕ → Type 0
 OpensHub s mode (Some hub) new status = (status ≡ STILL_OPEN) × (new ≡ Some hub)
 OpensHub s mode None new status =
@@ -29,7 +28,7 @@ OpensHub s mode None new status =
     ⊎ (((status ≡ number_of Memory) × (new ≡ None))
     ⊎ ((status ≡ number_of BadSettings) × ((new ≡ None) × ¬ (AreOfAHub s))))
 
--- the hub has answered the line: as the model does, whatever it had gone through
+-- The hub has answered the line as the model does, by its past.
 pub record HasAnswered (line : List ℕ) (old : LineHub) (new : Option LineHub) (told : Told) : Type 0
   where
     pub hub : LineHub
@@ -40,20 +39,20 @@ pub record HasAnswered (line : List ℕ) (old : LineHub) (new : Option LineHub) 
         [] hub.reply.items told.is_refused
     pub length_is : told.length ≡ length hub.reply.items
 
--- a line is answered where a hub is open; where there is no memory for that, the hub is closed
+-- An open hub answers the line; after an allocation failure it is closed.
 abbrev pub Answers : List ℕ → Option LineHub → Option LineHub → Told → Told → ℕ → Type 0
 Answers line None new was told status = (status ≡ CLOSED) × ((new ≡ None) × (told ≡ was))
 Answers line (Some hub) new was told status =
     ((status ≡ DONE) × HasAnswered line hub new told)
     ⊎ ((status ≡ number_of Memory) × ((new ≡ None) × (told ≡ was)))
 
--- bytes are copied to the front of a buffer, or nothing where it has no room for all of them
+-- The bytes are copied to the beginning of the buffer; nothing is copied if it is too small.
 abbrev pub CopiesBytes : List ℕ → List ℕ → List ℕ → ℕ → Type 0
 CopiesBytes bytes old new status =
     ((status ≡ DONE) × ((length bytes ≤ length old) × (new ≡ bytes ++ drop (length bytes) old)))
     ⊎ ((status ≡ SHORT) × ((length old < length bytes) × (new ≡ old)))
 
--- so is the last reply of the hub that is open
+-- The open hub's last reply is copied in this way.
 abbrev pub Copies : Option LineHub → List ℕ → List ℕ → ℕ → Type 0
 Copies None old new status = (status ≡ CLOSED) × (new ≡ old)
 Copies (Some hub) old new status = CopiesBytes hub.reply.items old new status

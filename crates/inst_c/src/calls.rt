@@ -1,4 +1,4 @@
-//! What C calls. The header `inst.h` says what each call is given, and what it answers.
+//! The calls for C. The header `inst.h` says what each call requires and returns.
 ghost use Rattle.std.specs.Prelude.{◌≡◌, IfOk, IfErr, None, is_some, if◌then◌else◌};
 ghost use Rattle.inst_settings.specs.Lawful.{AreOfAHub};
 ghost use Rattle.inst_c.specs.LineHub.{HasFirstOpened};
@@ -12,17 +12,20 @@ use crate::status::{CLOSED, DONE, SHORT, STILL_OPEN};
 use inst_base::Fault;
 use std::alloc::Global;
 
-/// How a line was answered.
+/// The length of a reply, and whether it is a refusal.
 #[repr(C)]
 #[derive(Clone, Copy)]
 pub struct Told {
-    /// How many bytes the reply has, its newline among them.
+    /// The length of the reply in bytes, with its newline.
     pub length: usize,
-    /// Whether the reply is a refusal.
+    /// `true` if the reply is a refusal.
     pub is_refused: bool,
 }
 
-/// Opens a hub for the first time.
+/// Opens a hub for the first time, unless the handle has an open one.
+///
+/// Returns `DONE`, `STILL_OPEN`, or the number of `Memory` or `BadSettings`; after these two no hub
+/// is open.
 #[unsafe(no_mangle)]
 pub extern "C" fn inst_open(
     alloc: Global,
@@ -46,7 +49,7 @@ pub extern "C" fn inst_open(
     }
 }
 
-/// A hub of these settings.
+/// Returns a hub of these settings.
 fn opened(
     alloc: Global,
     participants: &[u8],
@@ -63,7 +66,10 @@ fn opened(
     Ok(Box::new(alloc, hub)?)
 }
 
-/// Answers a line. The hub keeps the reply.
+/// Answers a line, given without its newline. The hub stores the reply until the next line.
+///
+/// Returns `DONE`, `CLOSED`, or the number of `Memory`; after that the hub is closed, and `told` is
+/// unchanged.
 #[unsafe(no_mangle)]
 pub extern "C" fn inst_answer(
     alloc: Global,
@@ -76,7 +82,7 @@ pub extern "C" fn inst_answer(
     let Some(mut hub) = handle.take(alloc) else {
         return CLOSED;
     };
-    // Where memory was refused, the hub is let go.
+    // After an allocation failure the hub is dropped.
     let Ok(is_refused) = hub.answer(line) else {
         return u32::from(Fault::Memory.number());
     };
@@ -88,7 +94,10 @@ pub extern "C" fn inst_answer(
     DONE
 }
 
-/// Copies the last reply to the front of a buffer.
+/// Copies the reply to the last line to the beginning of the buffer.
+///
+/// Returns `DONE`, `CLOSED`, or `SHORT` if the buffer is too small; nothing was copied then. The
+/// hub is unchanged.
 #[unsafe(no_mangle)]
 pub extern "C" fn inst_reply(alloc: Global, handle: &mut Handle, buffer: &mut [u8]) -> u32
     ensures hub { handle.new.held.hub ≡ handle.old.held.hub }
@@ -102,7 +111,7 @@ pub extern "C" fn inst_reply(alloc: Global, handle: &mut Handle, buffer: &mut [u
     status
 }
 
-/// Copies these bytes to the front of a buffer, if there is room for all of them.
+/// Copies these bytes to the beginning of the buffer, if it is large enough for all of them.
 fn copy(bytes: &[u8], buffer: &mut [u8]) -> u32
     ensures { CopiesBytes bytes.now buffer.old buffer.new result }
 {
@@ -113,7 +122,7 @@ fn copy(bytes: &[u8], buffer: &mut [u8]) -> u32
     DONE
 }
 
-/// Closes the hub, and frees all that it had.
+/// Closes the hub and frees its memory. Returns `DONE`, or `CLOSED` if none was open.
 #[unsafe(no_mangle)]
 pub extern "C" fn inst_close(alloc: Global, handle: &mut Handle) -> u32
     ensures none { handle.new.held.hub ≡ None }

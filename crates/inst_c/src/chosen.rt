@@ -1,4 +1,4 @@
-//! The settings that C chooses.
+//! The settings of a hub, as C gives them.
 ghost use Rattle.std.specs.Prelude.{◌≡◌, IfOk, IfErr};
 ghost use Rattle.inst_c.specs.Chosen.{mode_of};
 
@@ -7,23 +7,23 @@ use inst_lines::Mode;
 use inst_settings::{HubParameters, Settings, parse_codes};
 use std::alloc::Global;
 
-/// The settings of a hub but for its participants. The header has their ranges.
+/// The settings of a hub without its participants. The header has their ranges.
 #[repr(C)]
 #[derive(Clone, Copy)]
 pub struct Chosen {
-    /// The absolute milliseconds from which moments are counted.
+    /// The base: the first moment, in absolute milliseconds.
     pub base: u64,
-    /// The largest amount of one command, in cents.
+    /// The maximum amount of a command, in cents.
     pub ceiling: u64,
     /// From time stamp to deadline, in milliseconds.
     pub limit: u32,
-    /// How long before its deadline a transfer can't be accepted any more, in milliseconds.
+    /// The cut-off before the deadline, in milliseconds: no transfer is accepted any more.
     pub margin: u32,
-    /// How far a time stamp may lie after the reading, in milliseconds.
+    /// How far a time stamp may be after the clock reading, in milliseconds.
     pub ahead: u32,
-    /// How many submissions each originator may have taken.
+    /// How many live transfers an originator may have.
     pub places: u16,
-    /// How many fund and defund commands are kept for each participant.
+    /// How many fund and defund commands a participant may have.
     pub fundings: u16,
 }
 
@@ -31,8 +31,12 @@ impl Chosen {
     ghost use Rattle.inst_settings.specs.Lawful.{AreOfAHub};
     ghost use Rattle.inst_c.specs.Chosen.{chosen, IsOpenRefusal};
 
-    /// The settings, with the participants whose codes stand in the text with commas between them.
-    /// `BadSettings` where no hub can have them, and `Memory` where there is no room for the codes.
+    /// Returns the settings, with the participants whose codes are in the text, separated by
+    /// commas.
+    ///
+    /// # Errors
+    ///
+    /// `BadSettings` if no hub can have them, `Memory` if an allocation fails.
     pub fn settings(&self, alloc: Global, participants: &[u8]) -> Result<Settings, Fault>
         ensures chosen { IfOk result (λ settings. settings ≡ chosen participants.now self.now) }
         ensures good { IfOk result AreOfAHub }
@@ -52,7 +56,7 @@ impl Chosen {
     }
 }
 
-/// What a line stands for.
+/// Returns the mode: steps if `is_play`, else commands.
 pub fn mode(is_play: bool) -> Mode
     ensures { result ≡ mode_of is_play }
 {

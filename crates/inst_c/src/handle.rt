@@ -7,19 +7,20 @@ use crate::line_hub::LineHub;
 use std::alloc::Global;
 use std::mem;
 
-/// A hub, if one is open. In C it is a struct of a pointer and a `bool`, which begins with all
-/// bytes 0.
+/// An optional hub. For C it is a struct of a pointer and a `bool`, which must begin with all bytes
+/// 0.
 #[repr(C)]
 #[derive(Drop)]
 pub struct Handle {
+    /// The hub, behind a pointer.
     pub held: HeldHub,
-    /// Whether a hub is open.
+    /// `true` if a hub is open.
     pub is_open: bool,
     ghost same: { is_open ≡ is_some held.hub },
 }
 
 impl Handle {
-    /// Takes the hub, if one is open. The handle has none then.
+    /// Takes the hub out of the handle, if one is open.
     pub fn take(&mut self, alloc: Global) -> Option<Box<LineHub>>
         ensures taken { TakesHub self.old.held.hub result }
         ensures none { self.new.held.hub ≡ None }
@@ -32,7 +33,7 @@ impl Handle {
         if is_open { Some(held.into_box()) } else { None }
     }
 
-    /// Has this hub from now on.
+    /// Puts a hub into the handle, which must have none.
     pub fn put(&mut self, hub: Box<LineHub>)
         requires { self.old.held.hub ≡ None }
         ensures { self.new.held.hub ≡ Some hub.value }

@@ -1,4 +1,4 @@
-//! A hub behind a pointer that C holds, or none.
+//! A hub behind a pointer that C holds.
 ghost use Rattle.std.specs.Prelude.{◌≡◌, true, Option, Some, None, is_some};
 ghost use Rattle.inst_c.specs.HeldHub.{held_owns};
 ghost use Rattle.inst_c.specs.declared.line_hub.LineHub.{LineHub as TheHub};
@@ -11,12 +11,14 @@ use std::alloc::Global;
 use std::marker::Model;
 use std::ptr;
 
-/// A hub, or none. C sees the pointer alone. To drop it is to leak the hub, if there is one.
+/// An optional hub behind an opaque pointer for C. Dropping this value leaks the hub; `inst_close`
+/// frees it.
 #[repr(C)]
 #[derive(Drop)]
 pub struct HeldHub {
     at: *mut (),
     alloc: Global,
+    /// The hub at the pointer, for contracts.
     pub ghost hub: { Option TheHub },
 }
 
@@ -25,7 +27,7 @@ impl Model for HeldHub {
 }
 
 impl HeldHub {
-    /// No hub.
+    /// Returns the value without a hub.
     pub fn none(alloc: Global) -> HeldHub
         ensures { result.hub ≡ None }
     {
@@ -35,14 +37,14 @@ impl HeldHub {
         }
     }
 
-    /// This hub.
+    /// Returns the value with this hub.
     pub fn of(hub: Box<LineHub>) -> HeldHub
         ensures { result.hub ≡ Some hub.value }
     {
         HeldHub::of_parts(BoxParts::of(hub))
     }
 
-    /// The hub again.
+    /// Returns the hub, which must be there.
     pub fn into_box(self) -> Box<LineHub>
         requires { is_some self.hub ≡ true }
         ensures { self.hub ≡ Some result.value }

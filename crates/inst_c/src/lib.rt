@@ -1,4 +1,4 @@
-//! The hub in one thread for C: a hub is opened, answers a line at a time, and is closed.
+//! The hub in one thread for C: a hub is opened, answers one line at a time, and is closed.
 #![tactic(auto)]
 
 mod calls;

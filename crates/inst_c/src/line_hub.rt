@@ -1,4 +1,4 @@
-//! A hub that answers one line after another, and keeps the last reply.
+//! A hub that answers one line after another and stores the last reply.
 ghost use Rattle.std.specs.Prelude.{◌≡◌, false, [], IfOk};
 ghost use Rattle.inst_lines.specs.Answers.{AnswersLine};
 ghost use Rattle.inst_lines.specs.Answering.{hub_answerer, IsRunnerAt};
@@ -13,18 +13,22 @@ use std::alloc::{AllocError, Global};
 #[derive(Drop)]
 pub struct LineHub {
     reader: LineReader,
-    /// What a line stands for.
+    /// The mode: lines are commands or steps.
     pub mode: Mode,
-    /// What the lines so far have left.
+    /// The hub after the lines so far.
     pub runner: Runner,
-    /// The reply to the last line, with its newline, or nothing where there was none.
+    /// The reply to the last line with its newline; empty before the first line.
     pub reply: Vec<u8>,
 }
 
 impl LineHub {
     ghost use Rattle.inst_c.specs.LineHub.{HasFirstOpened};
 
-    /// A hub that opens for the first time.
+    /// Returns a hub that opens for the first time.
+    ///
+    /// # Errors
+    ///
+    /// [`AllocError`] if the hub can't be allocated.
     pub fn open(alloc: Global, mode: Mode, settings: &Settings) -> Result<LineHub, AllocError>
         ensures opened { IfOk result (HasFirstOpened mode settings.now) }
     {
@@ -37,8 +41,13 @@ impl LineHub {
         })
     }
 
-    /// Answers a line, whose newline is not among its bytes, and says whether it is refused. The
-    /// reply to the line before is let go. After an error the hub may have gone on: let it go.
+    /// Answers a line, given without its newline, and replaces the last reply. Returns `true` if
+    /// the reply is a refusal.
+    ///
+    /// # Errors
+    ///
+    /// [`AllocError`] if the reply or what the line stores can't be allocated. Drop the hub, since
+    /// it may have done part of the work.
     pub fn answer(&mut self, line: &[u8]) -> Result<bool, AllocError>
         ensures answers { IfOk result (λ refused.
             AnswersLine (hub_answerer self.old.mode) (IsRunnerAt self.old.mode) false line.now

@@ -1,10 +1,10 @@
-//! What a call answers. The other statuses are numbers of faults.
+//! The statuses of the calls. The others are the numbers of faults.
 
-/// All went well.
+/// Success.
 pub const DONE: u32 = 0;
-/// The handle has no open hub.
+/// No hub is open in the handle.
 pub const CLOSED: u32 = 100;
-/// The handle has an open hub already.
+/// A hub is open in the handle already.
 pub const STILL_OPEN: u32 = 101;
-/// The buffer has no room for the whole reply.
+/// The buffer is too small for the whole reply.
 pub const SHORT: u32 = 102;

@@ -1,5 +1,5 @@
--- What holders over the same words know together: what one has seen is true for the other. That
--- holders tell each other what they saw is this hub's own choice.
+-- What boards of one table know together: what one has seen is true for the other. Sharing
+-- knowledge between boards is a choice of this hub.
 use Rattle.std.specs.Prelude.{◌≡◌, ◌↔◌, ◌⊎◌, ◌++◌, ℕ}
 use Rattle.inst_command.specs.declared.outcome.Outcome.{Outcome}
 use Rattle.inst_terms.specs.declared.terms.Terms.{Terms}
@@ -12,17 +12,17 @@ use Rattle.inst_board.specs.Learning.{IsOfOpening, IsAnswer, KnowsTruly}
 use Rattle.inst_cell.specs.declared.shared_board.SharedBoard.{SharedBoard}
 use Rattle.inst_cell.specs.Held.{settings_of, roles_of, knows, has_role}
 
--- c knows exactly what a or b knew
+-- c knows exactly what a or b knew.
 abbrev pub KnowsBoth : SharedBoard → SharedBoard → SharedBoard → Type 0
 KnowsBoth a b c = (f : Fact) → knows c f ↔ (knows a f ⊎ knows b f)
 
--- what the board knows of each place is true of one standing that a place may have
+-- What the board knows of each place is true of one standing that a place may have.
 abbrev pub KnowsTruth : SharedBoard → Type 0
 KnowsTruth b = (k : Place) → KnowsTruly (settings_of b).margin knows b k
 
--- opening: what the other knows of the opening of a place whose originator's role the board has,
--- the board knows answer: what the other knows to be accepted or rejected the board knows, where it
--- has the beneficiary's role
+-- What the other board knows that this board must have known already.
+-- - opening: facts of the opening of a place whose originator's role the board has.
+-- - answer: an acceptance or rejection, with the terms, if the board has the beneficiary's role.
 pub record Vouches (board other : SharedBoard) : Type 0 where
   pub opening : (k : Place) (a : About) → has_role board k.owner → IsOfOpening a →
       knows other (about k a) →
@@ -32,7 +32,7 @@ pub record Vouches (board other : SharedBoard) : Type 0 where
       knows board (about k (Decided o)) ⊎ knows other (about k (Decided o)) →
       knows board (about k (HasTerms t)) × knows board (about k (Decided o))
 
--- the board has the roles of both
+-- The new board has the roles of both.
 pub record HasRolesOfBoth (board other new : SharedBoard) : Type 0 where
   pub roles : roles_of new ≡ roles_of board ++ roles_of other
   pub role : (p : ℕ) → has_role new p ↔ (has_role board p ⊎ has_role other p)

@@ -1,6 +1,6 @@
--- The boards and sights of a hub that opens. At first one board has the roles of all participants,
--- and nobody knows of any place; then each participant's board gets that one's role alone, and
--- knows what the one board knew. The sights have no role. This hub's own choice.
+-- The boards and sights of a hub that opens. First one board has the roles of all participants and
+-- knows of no place; then each participant's board gets that role alone, and knows what the one
+-- board knew. The sights have no role. A choice of this hub.
 use Rattle.std.specs.Prelude.{◌≡◌, ◌↔◌, ℕ, ◌≤◌, List, [], length, slice_get, Some}
 use Rattle.atomic_table.specs.Seated.{TableId}
 use Rattle.atomic_table.specs.Table.{Splits}
@@ -15,21 +15,22 @@ use Rattle.inst_cell.specs.Held.{settings_of, table_of, roles_of, has_role, know
 use Rattle.inst_cell.specs.Seen.{board_of_sight, sight_knows}
 use Rattle.inst_cell.specs.declared.shared_board.opening.TheConstants.{MOST_TELLERS}
 
--- how many tellers a hub may open with
+-- The numbers of tellers that a hub may open with.
 abbrev pub MayOpen : ℕ → Type 0
 MayOpen tellers = (1 ≤ tellers) × (tellers ≤ MOST_TELLERS)
 
--- it has the roles of all participants, in their order
+-- The board has the roles of all participants, in their order.
 abbrev pub HasAllRoles : SharedBoard → Type 0
 HasAllRoles b = roles_of b ≡ roles_from 0 (participants (settings_of b))
 
--- the board with all roles as the hub opens
+-- The board with all roles at the start: it knows nothing.
 pub record IsWhole (s : HubSettings) (b : SharedBoard) : Type 0 where
   pub settings : settings_of b ≡ s
   pub roles : HasAllRoles b
   pub nothing : (f : Fact) → ¬ knows b f
 
--- the board of p, over these words: it has that role alone, and knows exactly these facts
+-- The board of participant p over this table: it has that role alone, and knows exactly these
+-- facts.
 pub record IsDealt (s : HubSettings) (id : TableId) (facts : Fact →
     Type 0) (p : ℕ) (b : SharedBoard) : Type 0 where
   pub settings : settings_of b ≡ s
@@ -37,31 +38,30 @@ pub record IsDealt (s : HubSettings) (id : TableId) (facts : Fact →
   pub role : (q : ℕ) → has_role b q ↔ (q ≡ p)
   pub known : (f : Fact) → knows b f ↔ facts f
 
--- the board of p as the hub opens: it knows nothing
+-- The board of p at an opening: it knows nothing.
 abbrev pub IsOpened : HubSettings → TableId → ℕ → SharedBoard → Type 0
 IsOpened s id p b = IsDealt s id (λ f. ⊥) p b
 
--- the sight of a teller as the hub opens
+-- The sight of a teller at an opening: it has no role and knows nothing.
 pub record IsAdmitted (s : HubSettings) (id : TableId) (t : Sight) : Type 0 where
   pub settings : settings_of (board_of_sight t) ≡ s
   pub table : table_of (board_of_sight t) ≡ id
   pub roles : roles_of (board_of_sight t) ≡ []
   pub nothing : (f : Fact) → ¬ sight_knows t f
 
--- the boards of the participants, by number, each of which knows what `all` knew
+-- One board for each participant, by number. Each knows what `all` knew.
 pub record AreDealt (all : SharedBoard) (boards : List SharedBoard) : Type 0 where
   pub enough : length boards ≡ participants (settings_of all)
   pub each : (p : ℕ) (b : SharedBoard) → slice_get boards p ≡ Some b →
       IsDealt (settings_of all) (table_of all) (knows all) p b
 
--- so many sights, over the words of `all`
+-- n sights over the table of `all`. They know nothing.
 pub record AreAdmitted (all : SharedBoard) (n : ℕ) (sights : List Sight) : Type 0 where
   pub enough : length sights ≡ n
   pub each : (i : ℕ) (t : Sight) → slice_get sights i ≡ Some t →
       IsAdmitted (settings_of all) (table_of all) t
 
--- over one table, a board for each participant, by number, and as many sights as tellers were
--- wanted
+-- One table, a board for each participant, by number, and n sights. None knows anything.
 pub record AreOpened (s : HubSettings) (n : ℕ) (boards : List SharedBoard) (sights : List Sight) :
     Type 0 where
   pub table : TableId
@@ -70,8 +70,8 @@ pub record AreOpened (s : HubSettings) (n : ℕ) (boards : List SharedBoard) (si
   pub enough : length sights ≡ n
   pub sight : (i : ℕ) (t : Sight) → slice_get sights i ≡ Some t → IsAdmitted s table t
 
--- a seat's view is cut in two as the rule of the table allows: both are of the same hub, and know
--- of each place one standing
+-- A split of a seat's view that the table's rule allows. Both parts keep the hub's places and
+-- margin, and know of each place one standing.
 pub record CutsView (left right : View → View) : Type 0 where
   pub splits : (hub : HubSettings) (id : ℕ) (view : View) →
       Splits (IsKeptBoard hub) id view (left view) (right view)

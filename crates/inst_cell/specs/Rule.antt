@@ -1,8 +1,8 @@
--- What holds of the words of all places and of what all seats know, between any two steps of any
--- number of threads: an outcome word goes from unused to pending, then once to decided, in time,
--- and stays; the terms words of an opened place stay; what a seat knows is true of the words. How
--- transfers are accepted, rejected and timed out is the rulebook's (EPC004-16, chapter 4:
--- processing flow); the words, the roles and the seats are this hub's own choice.
+-- The rule that holds of the words of all places and of what all seats know, between any two steps
+-- of any number of threads. An outcome word goes from unused to pending, then once to decided, in
+-- time, and stays; the terms words of an opened place stay; what a seat knows is true of the words.
+-- How transfers are accepted, rejected and timed out is the rulebook's (EPC004-16, chapter 4:
+-- processing flow); the words, roles and seats are a choice of this hub.
 use Rattle.std.specs.Prelude.{◌≡◌, ◌⊎◌, ℕ, ◌+◌, ◌*◌, ◌/◌, ◌<◌, ◌≤◌, List, [], ◌∷◌, length}
 use Rattle.std.specs.Prelude.{slice_index, Contains, Some}
 use mathlib.Core.Option.{some}
@@ -24,11 +24,11 @@ use Rattle.inst_cell.specs.declared.view.Known.{Known}
 use Rattle.inst_cell.specs.declared.view.View.{View}
 use Rattle.inst_cell.specs.View.{known, all_that_is_known, count, note}
 
--- the outcome word of a place as a number
+-- The outcome word of a place as a number.
 abbrev pub encode : Standing → ℕ
 encode p = word_number (word_of p)
 
--- how a place may stand: as its six words can show, and in time, with this margin for acceptances
+-- The standings that six words can show, decided in time for this margin.
 abbrev pub IsShowable : ℕ → Standing → Type 0
 IsShowable margin unused = Unit {0}
 IsShowable margin (pending terms deadline) = IsTerms terms × IsWord (Pending deadline)
@@ -36,28 +36,36 @@ IsShowable margin (decided terms deadline outcome at) =
     IsTerms terms × (1 ≤ deadline) × InTime margin outcome deadline at
     × IsWord (DecidedWord outcome at)
 
--- how often all seats have the role of p
+-- How often all seats together have the role of p.
 abbrev pub seats_with_role : ℕ → List View → ℕ
 seats_with_role p [] = 0
 seats_with_role p (v ∷ vs) = count p v.roles + seats_with_role p vs
 
--- how many places there are
+-- The number of places.
 abbrev pub count_of_places : HubSettings → ℕ
 count_of_places s = s.places * participants s
 
--- each seat with this role learnt it by a step of its own
+-- Each seat with the role of p learnt the fact by its own step.
 abbrev pub AllLearnt : List View → ℕ → Known → Type 0
 AllLearnt views p f =
     (id : ℕ) (v : View) → get_elem? views id ≡ some v → 0 < count p v.roles → Contains v.facts f
 
--- world: each place stands somehow sized, shown, written: the words are those of how the places
--- stand; the terms words of an unused place may be any showable: each place stands as it may
--- honest: what a seat knows is true whole: who has the originator's role knows what is opened, with
--- its terms and its deadline answered: who has the beneficiary's role knows, with the terms, what
--- was accepted or rejected ended: each seat with the originator's role, or each with the
--- beneficiary's, learnt of a time-out by a step of its own decided: so one of the two learnt at
--- which reading a place was decided noted: who noted a terms word has the originator's role, and
--- while the place is unused the word is as noted alone: no two seats have one role
+-- The rule of the table.
+-- - world: the standing of each place.
+-- - sized, shown, written: the words encode these standings; only `noted` binds the terms words of
+-- an unused place.
+-- - showable: each standing is one that a place may have.
+-- - honest: what a seat knows is true.
+-- - whole: a seat with the originator's role knows what is opened, with terms and deadline.
+-- - answered: a seat with the beneficiary's role knows, with the terms, what was accepted or
+-- rejected.
+-- - ended: each seat with the originator's role, or each with the beneficiary's, learnt of a
+-- time-out by its own step.
+-- - decided: each seat with one of these two roles learnt the clock reading of a decision by its
+-- own step.
+-- - noted: a seat that noted a terms word has the originator's role, and while the place is unused
+-- the word is as noted.
+-- - alone: no two seats have one role.
 pub record KeepsBoard (s : HubSettings) (words : List ℕ) (views : List View) : Type 0 where
   pub world : ℕ → Standing
   pub sized : length words ≡ count_of_places s * 6
@@ -92,5 +100,6 @@ pub record KeepsBoard (s : HubSettings) (words : List ℕ) (views : List View) :
       × (¬ Says (world k) Opened → slice_index words (k * 6 + i) ≡ n)
   pub alone : (p : ℕ) → seats_with_role p views ≤ 1
 
+-- The rule as a predicate on a state of the table.
 abbrev pub IsKeptBoard : HubSettings → State (Unit {0}) View → Type 0
 IsKeptBoard s st = KeepsBoard s st.words st.views

@@ -1,4 +1,4 @@
-//! The laws of what holders at one table know.
+//! Laws about what two boards of one hub know.
 ghost use Rattle.std.specs.Prelude.{◌≡◌};
 ghost use Rattle.inst_command.specs.declared.outcome.Outcome.{Outcome};
 ghost use Rattle.inst_board.specs.declared.about.About.TheVariants.{Decided};
@@ -9,7 +9,8 @@ ghost use Rattle.inst_cell.specs.Meeting.{KnowsBoth};
 use crate::SharedBoard;
 use inst_command::Place;
 
-/// Two holders never know two outcomes of a place.
+/// Proves that two boards of one table never know different outcomes of a place. At run time the
+/// boards meet ([`SharedBoard::meet`]).
 pub fn same_outcome(first: &mut SharedBoard, second: &mut SharedBoard, place: Place)
     requires one { AtOneTable first.old second.old }
     ensures same { (o z : Outcome) → knows first.old (about place (Decided o)) →

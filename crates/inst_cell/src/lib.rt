@@ -1,5 +1,5 @@
-//! The board that the slots of a hub on many threads share: six atomic words a place, a seat for
-//! each slot that may change them, and seats for callers that only see.
+//! The board of a hub on many threads: six atomic words a place, a board for each slot, which may
+//! change them, and a sight for each teller, which only reads.
 #![tactic(auto)]
 
 pub mod laws;

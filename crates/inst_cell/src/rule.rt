@@ -1,9 +1,11 @@
+//! The rule of the table of words.
 use crate::View;
 use atomic_table::TableRule;
 use inst_settings::Settings;
 use std::snapshot::Snapshot;
 
-/// What holds of the words and of all seats' knowledge between any two steps of any threads.
+/// The rule that holds of the words and of what all seats know, between any two steps of any
+/// threads.
 pub struct Law;
 
 impl TableRule<(), View, Snapshot<Settings>> for Law {

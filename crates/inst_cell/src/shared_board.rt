@@ -1,3 +1,4 @@
+//! The shared board and the numbers of its words.
 ghost use Rattle.std.specs.Prelude.{◌≡◌, ◌≤◌, ◌+◌, ◌*◌, length};
 ghost use Rattle.std.specs.Arc.{arc_value};
 ghost use Rattle.inst_cell.specs.View.{KnowsOne, knows_one_once};
@@ -16,12 +17,14 @@ use std::alloc::Global;
 use std::snapshot::Snapshot;
 use std::sync::Arc;
 
+/// The table of all outcome and terms words.
 type Words = Table<(), View, Snapshot<Settings>, Law, Global>;
 
-/// One holder's board over the words that all boards and sights of a hub share. Only opening and
-/// dealing out take memory, and no call waits. A look costs one load, and five more where the place
-/// is opened; a glance one load; a decision one load and at most one exchange, which is never tried
-/// again.
+/// One slot's board over the words that all boards and sights of a hub share.
+///
+/// Implements [`Board`](inst_board::Board). No call blocks, and only opening and dealing allocate.
+/// A look costs one atomic load, and five more if the place is opened; `place_state` one load; a
+/// decision one load and at most one compare-exchange, which is never retried.
 ///
 /// ```text
 /// let (boards, sights) = SharedBoard::open(alloc, &settings, 2)?;
@@ -54,14 +57,14 @@ impl SharedBoard {
     ghost use Rattle.inst_board.specs.Plain.{place_number};
     ghost use Rattle.inst_cell.specs.Held.{settings_of};
 
-    /// Whether the settings have the place.
+    /// Returns `true` if the settings have the place.
     fn has(&self, place: Place) -> bool
         ensures { result ≡ is_place (settings_of self.now) place }
     {
         u16::from(place.owner) < self.participants && place.index < self.places
     }
 
-    /// The number of the place's first word.
+    /// Returns the number of the place's first word.
     fn first_word(&self, place: Place) -> usize
         requires { IsPlace (settings_of self.now) place }
         ensures value { result ≡ place_number (settings_of self.now) place * 6 }

@@ -1,3 +1,4 @@
+//! The sight of a teller.
 ghost use Rattle.std.specs.Prelude.{◌≡◌, []};
 ghost use Rattle.inst_cell.specs.Held.{roles_of};
 
@@ -6,8 +7,8 @@ mod telling;
 
 use crate::SharedBoard;
 
-/// What a teller sees of the shared words: a seat without a role, which knows what was seen by it
-/// and what it was told. No call of it takes memory or waits.
+/// A teller's view of the shared words: a seat without a role, which knows what it saw and what
+/// boards and other sights shared with it. No call of it allocates or blocks.
 ///
 /// ```text
 /// let ticket = board.tell(&mut sight, place);
@@ -20,6 +21,7 @@ pub struct Sight {
 }
 
 impl Sight {
+    /// Makes a sight of a board without roles.
     pub(crate) fn of(board: SharedBoard) -> Sight
         requires { roles_of board ≡ [] }
         ensures { result.board ≡ board }

@@ -1,4 +1,5 @@
-//! The kinds of step on the shared words, and what each tells the seat that takes it.
+//! The kinds of step on the shared words. Each type's contract says what the seat that takes the
+//! step learns.
 use crate::View;
 use atomic_table::{Join, Play, Split};
 
@@ -20,7 +21,7 @@ impl Play<(), View> for LoadingTerm {
     ghost then = { loads_term };
 }
 
-/// A load for the sake of what the seat knows already: all of it is true of the words.
+/// A load that shows that all the seat knows is true of the words. Its value is not used.
 pub struct Vouching;
 
 impl Play<(), View> for Vouching {
@@ -29,7 +30,7 @@ impl Play<(), View> for Vouching {
     ghost then = { vouches };
 }
 
-/// The store of a terms word.
+/// A store of a terms word.
 pub struct Noting;
 
 impl Play<(), View> for Noting {
@@ -38,7 +39,7 @@ impl Play<(), View> for Noting {
     ghost then = { notes_term };
 }
 
-/// The store that opens a place.
+/// The store of an outcome word that opens a place.
 pub struct PlaceOpening;
 
 impl Play<(), View> for PlaceOpening {
@@ -47,7 +48,7 @@ impl Play<(), View> for PlaceOpening {
     ghost then = { opens };
 }
 
-/// The exchange that accepts, rejects or times out.
+/// The compare-exchange that accepts, rejects or times out.
 pub struct Deciding;
 
 impl Play<(), View> for Deciding {
@@ -56,7 +57,7 @@ impl Play<(), View> for Deciding {
     ghost then = { decides_word };
 }
 
-/// The first role goes to a new seat, which knows as much.
+/// The split that moves a seat's first role to a new seat, which knows as much.
 pub struct HandOver;
 
 impl Split<View> for HandOver {
@@ -67,7 +68,7 @@ impl Split<View> for HandOver {
     ghost right = { with_role };
 }
 
-/// A new seat knows as much, and has no role.
+/// The split that makes a new seat without roles, which knows as much.
 pub struct Tell;
 
 impl Split<View> for Tell {
@@ -78,7 +79,7 @@ impl Split<View> for Tell {
     ghost right = { informed_view };
 }
 
-/// One seat knows what both knew, with the roles of both.
+/// The join of two seats into one with the roles and the knowledge of both.
 pub struct Unite;
 
 impl Join<View> for Unite {

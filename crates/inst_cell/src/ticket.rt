@@ -1,9 +1,10 @@
+//! Tickets.
 ghost use Rattle.std.specs.Prelude.{◌≡◌};
 
 use inst_command::Place;
 use std::marker::Model;
 
-/// Names a place, for a caller that asks later what became of it. Contracts see it as the place.
+/// Names a place, so that a caller can ask later for its state. In contracts a ticket is its place.
 #[derive(Clone, Copy, Debug, PartialEq, Eq)]
 pub struct Ticket {
     place: Place,
@@ -20,13 +21,14 @@ impl Model for Ticket {
 }
 
 impl Ticket {
+    /// Makes a ticket of the place.
     pub(crate) fn of(place: Place) -> Ticket
         ensures { result ≡ place }
     {
         Ticket { place }
     }
 
-    /// The place that it names.
+    /// Returns the place that the ticket names.
     pub fn place(&self) -> Place
         ensures { result ≡ self.now }
     {

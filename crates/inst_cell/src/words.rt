@@ -1,4 +1,4 @@
-//! The words of a place, with what they are words of.
+//! Encoding and decoding of the words of a place.
 ghost use Rattle.std.specs.Prelude.{◌≡◌, ℕ, IsTrue};
 ghost use Rattle.inst_base.specs.Moment.{is_moment};
 ghost use Rattle.inst_terms.specs.Terms.{IsTerms, words_of};
@@ -10,7 +10,7 @@ use inst_base::Moment;
 use inst_command::Outcome;
 use inst_terms::{Terms, Word, pack, pack_outcome, read_outcome};
 
-/// The outcome word of a place that is pending until the deadline.
+/// Returns the outcome word of a place that is pending until the deadline.
 pub(crate) fn pending_word(deadline: Moment) -> u64
     ensures value { result ≡ number deadline 0 0 }
     ensures moment { IsTrue (is_moment deadline) }
@@ -18,7 +18,7 @@ pub(crate) fn pending_word(deadline: Moment) -> u64
     pack_outcome(&Word::Pending(deadline))
 }
 
-/// The outcome word of a place that was decided at the reading `at`.
+/// Returns the outcome word of a place that was decided at the clock reading `at`.
 pub(crate) fn decided_word(outcome: &Outcome, at: Moment) -> u64
     ensures value { result ≡ outcome_number outcome.now at }
     ensures word { IsOutcome outcome.now × IsTrue (is_moment at) }
@@ -26,7 +26,7 @@ pub(crate) fn decided_word(outcome: &Outcome, at: Moment) -> u64
     pack_outcome(&Word::Decided(*outcome, at))
 }
 
-/// What the outcome word of a place says.
+/// Decodes the outcome word of a place.
 pub(crate) fn read_word(word: u64) -> Word
     requires { (margin : ℕ) × (p : Standing) × IsShowable margin p × (word ≡ encode p) }
     ensures { (margin : ℕ) (p : Standing) → IsShowable margin p → word ≡ encode p →
@@ -38,7 +38,7 @@ pub(crate) fn read_word(word: u64) -> Word
     }
 }
 
-/// The terms words.
+/// Encodes terms as five words.
 pub(crate) fn pack_terms(terms: &Terms) -> [u64; 5]
     ensures value { result ≡ words_of terms.now }
     ensures form { IsTerms terms.now }

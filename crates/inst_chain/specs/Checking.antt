@@ -1,4 +1,4 @@
--- What a marker and a checker stand for.
+-- The states of a marker and a checker. A choice of this hub.
 use Rattle.std.specs.Prelude.{◌≡◌, ◌<◌, ◌^◌, ℕ, true, false, List, [], ◌∷◌, ◌++◌, length}
 use Rattle.inst_log.specs.Layout.{recovered_lines, blocks}
 use Rattle.sha2.specs.Hashers.{Holds256}
@@ -7,25 +7,25 @@ use Rattle.inst_chain.specs.declared.marker.Marker.{Marker}
 use Rattle.inst_chain.specs.declared.prefix.Prefix.{Prefix}
 use Rattle.inst_chain.specs.declared.checker.Checker.{Checker}
 
--- the next mark would have the digest of this text
+-- The next mark will have the digest of this text.
 abbrev pub Digests : Marker → List ℕ → Type 0
 Digests marker text = Holds256 marker.hasher text
 
--- so many lines, with so many bytes, where a file can have as many
+-- The prefix has the number and bytes of these lines, if they are below 2^64 bytes.
 abbrev pub Counts : Prefix → List (List ℕ) → Type 0
 Counts prefix lines =
     length (blocks lines) < 2 ^ 64 →
     (prefix.lines ≡ length lines) × (prefix.bytes ≡ length (blocks lines))
 
--- the last line is a mark
+-- The last line is a mark.
 pub record EndsMarked (lines : List (List ℕ)) : Type 0 where
   pub before : List (List ℕ)
   pub mark : List ℕ
   pub is : is_mark mark ≡ true
   pub split : lines ≡ before ++ mark ∷ []
 
--- these lines came so far: batches with their right marks, the newest first, and the lines behind
--- the last mark
+-- The checker has taken these lines: batches with right marks, newest first, and the lines after
+-- the last mark.
 pub record HasGoneThrough (checker : Checker) (lines : List (List ℕ)) : Type 0 where
   pub older : List (List (List ℕ))
   pub part : List (List ℕ)
@@ -38,8 +38,7 @@ pub record HasGoneThrough (checker : Checker) (lines : List (List ℕ)) : Type 0
   pub came : Counts checker.came lines
   pub right : Counts checker.right (chained_lines older)
 
--- Of lines that come next, one is a mark that is wrong, and the lines up to the mark before it are
--- counted so.
+-- One of the next lines is a wrong mark, and `right` counts the lines up to the mark before it.
 pub record IsWrongAt (checker : Checker) (bytes : List ℕ) (right : Prefix) : Type 0 where
   pub mid : Checker
   pub done : List (List ℕ)

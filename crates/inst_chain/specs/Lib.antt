@@ -1,7 +1,7 @@
--- Public contracts cite these.
+-- Cited by public contracts.
 pub mod Chain
 pub mod Checking
 pub mod Verifying
 pub mod Summing
--- Only inner functions and proofs cite these.
+-- Cited only by private functions and proofs.
 pub mod inner

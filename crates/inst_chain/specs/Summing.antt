@@ -1,4 +1,4 @@
--- What a log that was read from its first byte has.
+-- The summary of a log that was read from its first byte. A choice of this hub.
 use Rattle.std.specs.Prelude.{◌≡◌, ◌<◌, ◌^◌, ◌∷◌, ℕ, List, [], ◌++◌, length, MatchResult}
 use Rattle.inst_log.specs.Layout.{recovered_lines}
 use Rattle.inst_log.specs.declared.error.LogError.{LogError}
@@ -10,33 +10,33 @@ use Rattle.inst_chain.specs.declared.digest.Digest.{Digest}
 use Rattle.inst_chain.specs.declared.prefix.Prefix.{Prefix}
 use Rattle.inst_chain.specs.declared.summary.Summary.{Summary}
 
--- the first of these lines
+-- The first of these lines.
 pub record HasFirst (lines : List (List ℕ)) (first : List ℕ) : Type 0 where
   pub rest : List (List ℕ)
   pub split : lines ≡ first ∷ rest
 
--- the last of these lines is the mark with this digest
+-- The last of these lines is the mark with this digest.
 pub record EndsBy (lines : List (List ℕ)) (digest : Digest) : Type 0 where
   pub before : List (List ℕ)
   pub split : lines ≡ before ++ mark_with digest.text ∷ []
 
--- the file is a log whose marks are right, and its last one has this digest
+-- The log's marks and end are right, and its last mark has this digest.
 pub record IsSealedBy (file : List ℕ) (digest : Digest) : Type 0 where
   pub sealed : IsSealed file
   pub last : EndsBy (recovered_lines file) digest
 
--- the file is damaged behind these lines, or has no marks, so that it is no log that is whole
+-- The file, if below 2^64 bytes, is damaged after these lines, or has no marks.
 abbrev pub IsUnsealed : List ℕ → Prefix → Type 0
 IsUnsealed file right = length file < 2 ^ 64 → IsDamagedAfter file right
 
--- the file has this first line, so many lines without marks, and this last mark if its marks are
--- right
+-- The file has this first line, this number of lines without marks, and this digest in its last
+-- mark if all marks and the end are right.
 pub record IsSummary (file : List ℕ) (summary : Summary) : Type 0 where
   pub first : HasFirst (recovered_lines file) summary.first.items
   pub count : summary.lines ≡ length (said (recovered_lines file))
   pub chain : MatchResult summary.chain (IsSealedBy file) (IsUnsealed file)
 
--- why it wasn't read: of no log, since it has no line
+-- The cause of an error: at `NoLog` the file has no line; the others have no cause here.
 abbrev pub Unsummed : List ℕ → LogError → Type 0
 Unsummed file NoLog = recovered_lines file ≡ []
 Unsummed file (Disk error) = Unit {0}

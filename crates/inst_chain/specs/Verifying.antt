@@ -1,4 +1,4 @@
--- What a file is found to have.
+-- The result of verifying a file. A choice of this hub.
 use Rattle.std.specs.Prelude.{◌≡◌, ◌<◌, ◌∷◌, ℕ, List, [], ◌++◌, length, MatchOption}
 use Rattle.inst_log.specs.Layout.{recovered_lines, blocks}
 use Rattle.inst_log.specs.Log.{HasCause}
@@ -12,19 +12,20 @@ use Rattle.inst_chain.specs.declared.verifying.Verified.{Verified}
 use Rattle.inst_chain.specs.declared.error.ChainError.{ChainError}
 use Rattle.inst_chain.specs.declared.error.ChainError.TheVariants.{Log, Damaged}
 
--- the file is a log whose marks are right, and this makes its next one
+-- The log's marks and end are right, and this marker makes its next mark.
 pub record SealedBy (file : List ℕ) (marker : Marker) : Type 0 where
   pub sealed : IsSealed file
   pub digests : Digests marker (front_of sealed.chain.batches)
 
--- the file has no line, or is a log that is whole, and its lines go so far
+-- The file has no line, or its marks and end are right; this is its extent.
 pub record IsFoundVerified (file : List ℕ) (verified : Verified) : Type 0 where
   pub extent : IsExtent file verified.extent
   pub marker : MatchOption verified.marker (recovered_lines file ≡ []) (λ marker.
       SealedBy file marker)
 
--- The file is damaged behind these lines, so many with so many bytes: they are batches with right
--- marks, and what follows does not begin by a further one. It is no log that is whole.
+-- The file is damaged after this number of lines and bytes. These are batches with right marks,
+-- what follows doesn't begin with a further one, and the file isn't a log whose marks and end are
+-- right.
 pub record IsDamagedAfter (file : List ℕ) (right : Prefix) : Type 0 where
   pub older : List (List (List ℕ))
   pub unmarked : HaveNoMark older
@@ -37,7 +38,7 @@ pub record IsDamagedAfter (file : List ℕ) (right : Prefix) : Type 0 where
   pub some : 0 < length (recovered_lines file)
   pub not_sealed : IsSealed file → ⊥
 
--- why it was not: the disk failed, there was no memory, or it is damaged
+-- The cause of an error: the disk failed, an allocation failed, or the file is damaged.
 abbrev pub Unverified : List ℕ → Type 0 → Type 0 → ChainError → Type 0
 Unverified file clean failed (Log error) = HasCause (clean → failed) (Unit {0}) ⊥ error
 Unverified file clean failed (Damaged right) = clean → IsDamagedAfter file right

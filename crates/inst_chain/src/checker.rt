@@ -1,4 +1,4 @@
-//! The lines of a log are checked one after the other.
+//! Checking the lines of a log one after the other.
 ghost use Rattle.std.specs.Prelude.{◌≡◌, ◌++◌, [], ◌∷◌, List, ℕ, true, false, IfErr, OnOk};
 ghost use Rattle.inst_chain.specs.Chain.{is_mark, mark_of, front_of};
 ghost use Rattle.inst_log.specs.Layout.{recovered_lines, blocks};
@@ -7,11 +7,11 @@ use crate::marker::{Marker, is_mark};
 use crate::prefix::Prefix;
 use inst_log::first_line;
 
-/// Checks lines as they come.
+/// Checks the marks of a log's lines as they arrive.
 #[derive(Drop)]
 pub struct Checker {
     marker: Marker,
-    /// Whether the last line that came is a mark.
+    /// `true` if the last line is a mark.
     sealed: bool,
     came: Prefix,
     /// The lines up to the last mark.
@@ -21,7 +21,7 @@ pub struct Checker {
 impl Checker {
     ghost use Rattle.inst_chain.specs.Checking.{HasGoneThrough, IsWrongAt};
 
-    /// No line has come.
+    /// Returns a checker before the first line of a log.
     pub fn new() -> Checker
         ensures { HasGoneThrough result [] }
     {
@@ -33,8 +33,8 @@ impl Checker {
         }
     }
 
-    /// Takes the next line, without its newline. Returns `false` if it is a mark that is wrong;
-    /// then drop the checker.
+    /// Takes the next line, without its newline. Returns `false` if it is a wrong mark; drop the
+    /// checker then.
     fn check(&mut self, line: &[u8]) -> bool
         ensures right { result ≡ true → (lines : List (List ℕ)) → HasGoneThrough self.old lines →
             HasGoneThrough self.new (lines ++ line.now ∷ []) }
@@ -59,11 +59,12 @@ impl Checker {
         true
     }
 
-    /// Takes the whole lines with which bytes begin.
+    /// Takes the whole lines that the bytes begin with.
     ///
     /// # Errors
     ///
-    /// A mark among them is wrong: the lines up to the mark before it. Then drop the checker.
+    /// The lines of the log up to the mark before, if a mark among these lines is wrong. Drop the
+    /// checker then.
     pub fn check_lines(&mut self, bytes: &[u8]) -> Result<(), Prefix>
         ensures right { OnOk result ((lines : List (List ℕ)) → HasGoneThrough self.old lines
             → HasGoneThrough self.new (lines ++ recovered_lines bytes.now)) }
@@ -80,7 +81,7 @@ impl Checker {
         Ok(())
     }
 
-    /// Returns `true` if the last line that came is a mark.
+    /// Returns `true` if the last line is a mark.
     pub fn is_sealed(&self) -> bool
         ensures { result ≡ self.now.sealed }
     {
@@ -94,7 +95,7 @@ impl Checker {
         self.right
     }
 
-    /// Returns what makes the next mark.
+    /// Returns the marker that makes the next mark.
     pub fn into_marker(self) -> Marker
         ensures { result ≡ self.marker }
     {

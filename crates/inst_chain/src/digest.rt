@@ -1,18 +1,19 @@
 //! The digest of a mark.
 ghost use Rattle.std.specs.Prelude.{◌≡◌, ◌≢◌, length, MatchOption};
 
-/// How many characters a digest has.
+/// The number of characters of a digest.
 pub const DIGEST_LEN: usize = 64;
 
-/// The digest of a mark: SHA-256 (FIPS 180-4) as 64 lower-case hexadecimal digits.
+/// The digest of a mark: a SHA-256 value (FIPS 180-4) as 64 lower-case hexadecimal digits.
 #[derive(Clone, Copy, Debug, PartialEq, Eq)]
 pub struct Digest {
+    /// The digits in ASCII.
     pub text: [u8; DIGEST_LEN],
 }
 
 impl Digest {
-    /// Returns the digest of this text, or `None` if it hasn't 64 bytes. A text with other
-    /// characters is no log's digest.
+    /// Returns the digest with this text, or `None` unless it has 64 bytes. Other characters than
+    /// digits aren't refused; no mark has such a digest.
     pub fn of(text: &str) -> Option<Digest>
         ensures { MatchOption result (length text.now ≢ 64) (λ digest. digest.text ≡ text.now) }
     {

@@ -1,3 +1,4 @@
+//! The errors of a log with marks.
 ghost use Rattle.std.specs.Prelude.{◌≡◌};
 ghost use Rattle.inst_log.specs.declared.error.LogError.TheVariants.{Disk, Memory};
 ghost use Rattle.inst_chain.specs.declared.error.ChainError.TheVariants.{Log};
@@ -8,14 +9,14 @@ use std::alloc::AllocError;
 use std::io;
 use thiserror::Error;
 
-/// What went wrong with a log of marked batches.
+/// Why a log with marks couldn't be verified.
 #[derive(Clone, Copy, Debug, Error)]
 pub enum ChainError {
-    /// The log below failed.
+    /// Reading the log failed.
     #[error("{0}")]
     Log(LogError),
-    /// The log is damaged after this prefix: the next mark is wrong, or the end. It was left as it
-    /// is.
+    /// The log is damaged after this prefix: the next mark is wrong, or the log doesn't end with a
+    /// mark and a byte 0. It is unchanged.
     #[error("the log is damaged after line {}, byte {}", .0.lines, .0.bytes)]
     Damaged(Prefix),
 }

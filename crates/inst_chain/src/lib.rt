@@ -1,5 +1,5 @@
-//! A log whose batches end with marks: a chain of SHA-256 digests, by which damage is told from
-//! what a crash leaves.
+//! A log whose batches end with marks: a chain of SHA-256 digests, by which damage is distinguished
+//! from the effects of a crash.
 #![tactic(auto)]
 
 mod checker;

@@ -1,4 +1,4 @@
-//! The digest of what was written since the last mark.
+//! Making and recognizing marks.
 ghost use Rattle.std.specs.Prelude.{◌≡◌, ◌<◌, ◌++◌, [], ◌∷◌, List, ℕ, slice_index, bytes_eq, true};
 ghost use Rattle.std.specs.Prelude.{false, OnOk};
 ghost use Rattle.inst_base.specs.Newline.{newline};
@@ -14,7 +14,7 @@ use inst_log::first_line;
 use sha2::{Digest as _, Sha256};
 use std::alloc::AllocError;
 
-/// How many bytes a mark has, without its newline.
+/// The length of a mark in bytes, without its newline.
 pub const MARK_LEN: usize = DIGEST_LEN + 3;
 
 /// Makes the marks of a log.
@@ -24,7 +24,7 @@ pub struct Marker {
 }
 
 impl Marker {
-    /// Begins a log.
+    /// Returns the marker of an empty log.
     pub fn new() -> Marker
         ensures { Digests result [] }
     {
@@ -33,15 +33,15 @@ impl Marker {
         }
     }
 
-    /// Adds bytes of the log.
+    /// Adds bytes of the log to the next digest.
     pub fn add(&mut self, bytes: &[u8])
         ensures { (text : List ℕ) → Digests self.old text → Digests self.new (text ++ bytes.now) }
     {
         self.hasher.update(bytes);
     }
 
-    /// Returns the mark of what was added, and adds it, with its newline: the next mark covers it
-    /// too.
+    /// Returns the mark of the bytes added since the last one, and adds this mark with its newline
+    /// to the next digest.
     pub fn mark(&mut self) -> [u8; MARK_LEN]
         ensures line { recovered_lines (result ++ newline ∷ []) ≡ result ∷ [] }
         ensures is { is_mark result ≡ true }
@@ -56,7 +56,7 @@ impl Marker {
     }
 }
 
-/// The mark with this digest.
+/// Returns the mark with this digest.
 fn mark_by(digest: &[u8; 32]) -> [u8; MARK_LEN]
     ensures mark { result ≡ 123 ∷ 1 ∷ 123 ∷ encode_lower digest.now }
     ensures bytes { (i : ℕ) → slice_index digest.now i < 256 }
@@ -67,7 +67,7 @@ fn mark_by(digest: &[u8; 32]) -> [u8; MARK_LEN]
     mark
 }
 
-/// The line is a mark.
+/// Returns `true` if the line is a mark.
 pub fn is_mark(line: &[u8]) -> bool
     ensures { result ≡ is_mark line.now }
 {
@@ -77,7 +77,11 @@ pub fn is_mark(line: &[u8]) -> bool
     }
 }
 
-/// Adds their mark to the lines of a batch that isn't closed. At `Err`, drop both.
+/// Appends their mark to the lines of a batch that has no closed byte yet.
+///
+/// # Errors
+///
+/// [`AllocError`] if the batch can't grow; drop marker and batch.
 pub fn mark_lines(marker: &mut Marker, batch: &mut Vec<u8>) -> Result<(), AllocError>
     requires { AreWholeLines batch.old.items }
     ensures whole { OnOk result (AreWholeLines batch.new.items) }
@@ -96,7 +100,7 @@ pub fn mark_lines(marker: &mut Marker, batch: &mut Vec<u8>) -> Result<(), AllocE
     Ok(())
 }
 
-/// Returns `true` if one of the lines with which bytes begin is a mark.
+/// Returns `true` if one of the whole lines that the bytes begin with is a mark.
 pub fn has_mark(bytes: &[u8]) -> bool
     ensures { result ≡ has_mark (recovered_lines bytes.now) }
 {
@@ -110,7 +114,7 @@ pub fn has_mark(bytes: &[u8]) -> bool
     false
 }
 
-/// Returns `true` if one of the lines with which bytes begin is the mark with this digest.
+/// Returns `true` if one of the whole lines that the bytes begin with is the mark with this digest.
 pub fn has_digest(bytes: &[u8], digest: &Digest) -> bool
     ensures { result ≡ has_digest digest.now (recovered_lines bytes.now) }
 {
@@ -124,7 +128,7 @@ pub fn has_digest(bytes: &[u8], digest: &Digest) -> bool
     false
 }
 
-/// The line is the mark with this digest.
+/// Returns `true` if the line is the mark with this digest.
 fn is_mark_with(line: &[u8], digest: &Digest) -> bool
     ensures { result ≡ bytes_eq line.now (mark_with digest.now.text) }
 {

@@ -1,26 +1,26 @@
-//! How far the lines of a log are right.
+//! A prefix of a log's lines, by its length.
 ghost use Rattle.std.specs.Prelude.{◌≡◌, ◌++◌, [], ◌∷◌, List, ℕ};
 
-/// Counts the first lines of a log.
+/// The length of a prefix of a log's lines.
 #[derive(Clone, Copy, Debug, PartialEq, Eq)]
 pub struct Prefix {
-    /// How many lines.
+    /// The number of lines, marks included.
     pub lines: u64,
-    /// How many bytes they have, with their newlines.
+    /// Their length in bytes, with newlines.
     pub bytes: u64,
 }
 
 impl Prefix {
     ghost use Rattle.inst_chain.specs.Checking.{Counts};
 
-    /// No line.
+    /// Returns the empty prefix.
     pub(crate) fn new() -> Prefix
         ensures { Counts result [] }
     {
         Prefix { lines: 0, bytes: 0 }
     }
 
-    /// Counts one line more, which is given without its newline.
+    /// Adds one line, given without its newline.
     pub(crate) fn add(&mut self, line: &[u8])
         ensures { (lines : List (List ℕ)) → Counts self.old lines →
             Counts self.new (lines ++ line.now ∷ []) }

@@ -1,4 +1,4 @@
-//! A log is read from its first byte to its end, in constant memory, and nothing of it is changed.
+//! Summarizing a log: one read from its first byte to its end, in pieces. Nothing is written.
 ghost use Rattle.std.specs.Prelude.{◌≡◌, ◌++◌, ◌∷◌, [], List, ℕ, Some, length, true, IfOk, IfErr};
 ghost use Rattle.std.specs.Prelude.{IfSome, OnOk, MatchBool};
 ghost use Rattle.std.specs.Io.{ReadsAtMost};
@@ -20,24 +20,25 @@ use std::io::Read;
 /// How many bytes are read at a time.
 const PIECE: usize = 65_536;
 
-/// What a log was found to have.
+/// The summary of a log.
 #[derive(Drop)]
 pub struct Summary {
-    /// Its first line, without its newline.
+    /// The first line, without its newline.
     pub first: Vec<u8>,
-    /// How many lines it has, the first one counted and marks not.
+    /// The number of lines, the first one included and marks excluded.
     pub lines: u64,
-    /// The digest of its last mark, if each mark is right and so is its end; else the lines up to
-    /// the last mark that is right. A log without marks has the latter.
+    /// The digest of the last mark if all marks and the end are right. Otherwise the lines up to
+    /// the last right mark, also for a log without marks.
     pub chain: Result<Digest, Prefix>,
 }
 
-/// Reads a log to its end, and verifies its marks. It takes the memory of two pieces of 64 KiB and
-/// of the longest line.
+/// Reads a log up to the end of its lines and verifies its marks. Takes memory for two pieces of 64
+/// KiB and for the longest line. May block on the reader.
 ///
 /// # Errors
 ///
-/// `NoLog` if what is read begins with no line, `Disk` if a read fails, `Full` for 2^64 bytes.
+/// `NoLog` if the input doesn't begin with a line, `Disk` if a read fails, `Memory` if an
+/// allocation fails, `Full` for a log near 2^64 bytes.
 pub fn summarize<R: Read>(alloc: Global, reader: &mut R) -> Result<Summary, LogError>
     ensures found { IfOk result (λ summary.
         IfSome (R.remaining reader.old) (λ file. IsSummary file summary)) }
@@ -53,7 +54,7 @@ pub fn summarize<R: Read>(alloc: Global, reader: &mut R) -> Result<Summary, LogE
     Err(LogError::Full)
 }
 
-/// A log on its way from a reader.
+/// A log that is being read.
 #[derive(Drop)]
 struct Reading {
     cutter: LineCutter,
@@ -61,7 +62,7 @@ struct Reading {
 }
 
 impl Reading {
-    /// Nothing was read.
+    /// Returns the state before the first read.
     fn new(alloc: Global) -> Reading
         ensures { (file : List ℕ) → HasRead result file (Some file) }
     {
@@ -71,7 +72,7 @@ impl Reading {
         }
     }
 
-    /// Reads once. Returns `true` if the log may have more lines.
+    /// Reads once. Returns `true` if the log may have further lines.
     fn turn<R: Read>(&mut self, alloc: Global, reader: &mut R) -> Result<bool, LogError>
         ensures more { IfOk result (λ more. (file : List ℕ) →
             HasRead self.old file (R.remaining reader.old)
@@ -92,7 +93,7 @@ impl Reading {
         Ok(!self.cutter.stops())
     }
 
-    /// Returns what the log has that was read to its end.
+    /// Returns the summary of a log that was read to its end.
     fn sum_up(self) -> Result<Summary, LogError>
         ensures found { IfOk result (λ summary. (file : List ℕ) → HasReadAll self file →
             IsSummary file summary) }
@@ -113,7 +114,7 @@ impl Reading {
     }
 }
 
-/// Reads into `buf`, and returns how many bytes.
+/// Reads into `buf` and returns the number of bytes.
 fn read_bytes<R: Read>(reader: &mut R, buf: &mut [u8]) -> Result<usize, LogError>
     ensures bound { ReadsAtMost result buf.new }
     ensures bytes { ReadConsumes (R.remaining reader.old) (R.remaining reader.new) result buf.new }
@@ -122,17 +123,17 @@ fn read_bytes<R: Read>(reader: &mut R, buf: &mut [u8]) -> Result<usize, LogError
     reader.read(buf).map_err(LogError::Disk)
 }
 
-/// The lines that have come, and whether their marks are right.
+/// The lines so far, and a check of their marks.
 #[derive(Drop)]
 struct LineTally {
     seen: Seen,
     checker: Checker,
-    /// The lines up to the last mark that is right, if one is wrong.
+    /// If a mark was wrong, the lines up to the last right one.
     wrong: Option<Prefix>,
 }
 
 impl LineTally {
-    /// No line has come.
+    /// Returns the state before the first line.
     fn new() -> LineTally
         ensures { Tallies result [] }
     {
@@ -143,7 +144,7 @@ impl LineTally {
         }
     }
 
-    /// Takes the whole lines with which bytes begin.
+    /// Takes the whole lines that the bytes begin with.
     fn add(&mut self, alloc: Global, bytes: &[u8]) -> Result<(), AllocError>
         ensures { OnOk result ((done : List (List ℕ)) → Tallies self.old done →
             Tallies self.new (done ++ recovered_lines bytes.now)) }
@@ -158,7 +159,8 @@ impl LineTally {
         Ok(())
     }
 
-    /// Returns the digest of the last mark, if each mark is right, and the log ends behind it.
+    /// Returns the digest of the last mark if all marks are right and the log ends with a mark and
+    /// the byte 0.
     fn chain(&self, is_shut: bool) -> Result<Digest, Prefix>
         ensures { IsChain self.now is_shut result }
     {
@@ -179,18 +181,18 @@ impl LineTally {
     }
 }
 
-/// The lines that have come.
+/// The first line, the number of lines and the last digest so far.
 #[derive(Drop)]
 struct Seen {
     first: Option<Vec<u8>>,
-    /// How many are no marks.
+    /// The number of lines that aren't marks.
     lines: u64,
     /// The digest of the last mark.
     digest: Digest,
 }
 
 impl Seen {
-    /// No line has come.
+    /// Returns the state before the first line.
     fn new() -> Seen
         ensures { Sees result [] }
     {
@@ -203,7 +205,7 @@ impl Seen {
         }
     }
 
-    /// Takes the whole lines with which bytes begin.
+    /// Takes the whole lines that the bytes begin with.
     fn add(&mut self, alloc: Global, bytes: &[u8]) -> Result<(), AllocError>
         ensures { OnOk result ((done : List (List ℕ)) → Sees self.old done →
             Sees self.new (done ++ recovered_lines bytes.now)) }
@@ -230,7 +232,7 @@ impl Seen {
         Ok(())
     }
 
-    /// Keeps the next line, if it is the first one.
+    /// Stores the next line if it is the first one.
     fn keep_first(&mut self, alloc: Global, line: &[u8]) -> Result<(), AllocError>
         ensures first { OnOk result ((done : List (List ℕ)) → IsFirstOf self.old.first done →
             IsFirstOf self.new.first (done ++ line.now ∷ [])) }
@@ -252,7 +254,7 @@ fn digest_in(mark: &[u8]) -> Digest
     let mut digest = Digest {
         text: [b'0'; DIGEST_LEN],
     };
-    // No mark of this crate has another length.
+    // A right mark always has this length.
     if mark.len() == MARK_LEN {
         digest.text.copy_from_slice(&mark[MARK_LEN - DIGEST_LEN..]);
     }

@@ -1,4 +1,4 @@
-//! The marks of a file are verified, and nothing of it is changed.
+//! Verifying the marks of a disk's file. Nothing is written.
 ghost use Rattle.std.specs.Prelude.{◌≡◌, ◌++◌, List, ℕ, IsTrue, IfOk, IfErr, MatchResult, ⊤};
 ghost use Rattle.sqlite_disk.specs.Disk.{MoreFaults};
 ghost use Rattle.inst_log.specs.Disks.{HasKeptFaith, IsOnlyRead};
@@ -17,24 +17,24 @@ use inst_log::{Extent, FileLines};
 use sqlite_disk::Disk;
 use std::alloc::Global;
 
-/// What a file was found to have.
+/// A file whose marks and end are right, or one without a line.
 #[derive(Drop)]
 pub struct Verified {
-    /// How far its lines go.
+    /// The length of the file, and where its lines end.
     pub extent: Extent,
-    /// What makes its next mark, if it has a line.
+    /// The marker that makes the next mark; `None` if the file has no line.
     pub marker: Option<Marker>,
-    /// Whether it has the mark that was asked for.
+    /// `true` if the file has the mark that was asked for, or none was.
     pub has_wanted: bool,
 }
 
-/// Reads the file that the disk has, whatever a crash left of it, verifies each mark, and looks for
-/// the one with the wanted digest. It takes the memory of a piece of 64 KiB and of the longest
-/// line.
+/// Verifies each mark of the disk's file, in whatever state a crash left it, and looks for the mark
+/// with the wanted digest. Takes memory for a piece of 64 KiB and for the longest line.
 ///
 /// # Errors
 ///
-/// `Damaged` if a mark is wrong, or the end is. Nothing is written in any case.
+/// `Damaged` if a mark or the end is wrong, `Log` with `Disk` if the disk fails or with `Memory` if
+/// an allocation fails. Nothing is written in any case.
 pub fn verify<D: Disk>(
     alloc: Global,
     disk: &mut D,
@@ -63,8 +63,7 @@ pub fn verify<D: Disk>(
     end(&lines, checker, has_wanted)
 }
 
-/// Whether the mark with the wanted digest was found before these lines or is one of them, or none
-/// is wanted.
+/// Returns `true` if no digest is wanted, or its mark was found before or is one of these lines.
 fn find_wanted(found: bool, lines: &[u8], wanted: Option<Digest>) -> bool
     ensures { (done : List (List ℕ)) → found ≡ has_wanted wanted done →
         result ≡ has_wanted wanted (done ++ recovered_lines lines.now) }
@@ -75,7 +74,7 @@ fn find_wanted(found: bool, lines: &[u8], wanted: Option<Digest>) -> bool
     }
 }
 
-/// What a file has whose lines were all checked.
+/// Returns the result for a file whose lines were all checked.
 fn end(lines: &FileLines, checker: Checker, has_wanted: bool) -> Result<Verified, ChainError>
     ensures found { IfOk result (λ verified. (file : List ℕ) → IsChecked file lines.now checker →
         IsFoundVerified file verified) }

@@ -1,6 +1,5 @@
--- What is left of a hub when it closes, seen from its tellers: the books go on from all that they
--- have seen, with nothing but deliveries and learnings, and tell all that they knew. This hub's own
--- choice.
+-- What is left of a hub when it closes, as its tellers see it: the books extend all that they have
+-- seen, by deliveries and bookings only, and have all that they knew. A choice of this hub.
 use Rattle.std.specs.Prelude.{◌≡◌, ◌≢◌, ℕ, ◌<◌, List, [], ◌∷◌, ◌++◌, slice_get, Some}
 use mathlib.Core.List.{IsPrefix}
 use Rattle.inst_settings.specs.Settings.{participants}
@@ -38,40 +37,40 @@ use Rattle.inst_close.specs.declared.closing.CloseFault.{CloseFault}
 use Rattle.inst_close.specs.declared.closing.CloseFault.TheVariants.{Memory}
 use Rattle.inst_close.specs.ClosedHub.{ClosedHub}
 
--- the hub was opened in this way, from books that can be opened from
+-- The hub has this opening, and could be opened so.
 abbrev pub IsOpenedSo : Opening → Hub → Type 0
 IsOpenedSo O h = IsOpening h.settings O × HasOpenedHub O h
 
--- the books were opened in this way, and not since
+-- The books have this opening, and none after it.
 abbrev pub HaveOpened : Opening → ClosedHub → Type 0
 HaveOpened O closed =
     (p : ℕ) → p < participants closed.settings → carried (histories closed.books p) ≡ beginning O p
 
--- the histories of n participants go on from all that the tellers have seen of them
+-- The histories of n participants extend all that the tellers have seen of them.
 abbrev pub GoOnFrom : List Teller → ℕ → (ℕ → List Event) → Type 0
 GoOnFrom tellers n J =
     (i : ℕ) (t : Teller) (p : ℕ) (h : List Event) → slice_get tellers i ≡ Some t → p < n →
     HasSeen p h t.seat → IsPrefix h (J p)
 
--- each history of n participants is one that one of the tellers has seen, and then deliveries and
--- learnings alone
+-- Each history of n participants is one that a teller has seen, followed by deliveries and bookings
+-- only.
 abbrev pub AreOnlyTold : List Teller → ℕ → (ℕ → List Event) → Type 0
 AreOnlyTold tellers n J =
     (p : ℕ) → p < n → (h : List Event) × OneHasSeen tellers p h × OnlyTold h (J p)
 
--- the books tell all that the teller knew of the place
+-- The books have all that the teller knew of the place.
 pub record IsToldAs (t : Teller) (J : ℕ → List Event) (k : Place) : Type 0 where
   pub used : state_in_books J k ≢ Unused
   pub terms : (x : Terms) → knows_of t (about k (HasTerms x)) → IsTakenWith J k x
   pub outcome : (o : Outcome) → knows_of t (about k (IsDecided o)) → state_in_books J k ≡ Decided o
 
--- of each place that a teller knew opened
+-- The same for each place that a teller knew to be opened.
 abbrev pub TellAll : List Teller → (ℕ → List Event) → Type 0
 TellAll tellers J =
     (i : ℕ) (t : Teller) (k : Place) → slice_get tellers i ≡ Some t → knows_of t (about k Opened) →
     IsToldAs t J k
 
--- the parts are those of the hub with these tellers
+-- The parts are those of the hub with these tellers.
 pub record AreOfHub (h : Hub) (tellers : List Teller) (parts : Parts) : Type 0 where
   pub settings : hub_of parts ≡ h.settings
   pub opened : (O : Opening) → IsOpenedSo O h → IsPartsOf O parts
@@ -80,22 +79,22 @@ pub record AreOfHub (h : Hub) (tellers : List Teller) (parts : Parts) : Type 0 w
   pub knows : (i : ℕ) (t : Teller) (f : Fact) → slice_get tellers i ≡ Some t → knows_of t f →
       knows (board_of parts) f
 
--- what is left of the hub with these tellers: they as they were, or its parts
+-- What is left of the hub with these tellers: both unchanged, or the hub's parts.
 abbrev pub IsLeftOf : Hub → List Teller → Rest → Type 0
 IsLeftOf h tellers (Whole hub handed) = (hub ≡ h) × (handed.items ≡ tellers)
 IsLeftOf h tellers (Apart parts) = AreOfHub h tellers parts
 
--- what is left can be closed: these are all the tellers of a hub that was opened, or the parts of
--- one
+-- What is left can be closed: all tellers of an opened hub, or the parts of one.
 abbrev pub MayClose : Rest → Type 0
 MayClose (Whole hub handed) =
     AreOf hub handed.items × HaveAllParts handed.items × ((O : Opening) × IsOpenedSo O hub)
 MayClose (Apart parts) = (O : Opening) × IsPartsOf O parts
 
+-- What a failed closing left.
 abbrev pub rest_of : CloseFault → Rest
 rest_of (Memory rest) = rest
 
--- the books are those of the hub with these tellers
+-- The books are those of the hub with these tellers.
 pub record IsClosedFrom (h : Hub) (tellers : List Teller) (books : ClosedHub) : Type 0 where
   pub settings : books.settings ≡ h.settings
   pub opened : (O : Opening) → IsOpenedSo O h → HaveOpened O books
@@ -103,18 +102,18 @@ pub record IsClosedFrom (h : Hub) (tellers : List Teller) (books : ClosedHub) : 
   pub only_told : AreOnlyTold tellers (participants h.settings) (histories books.books)
   pub told : TellAll tellers (histories books.books)
 
--- the hub was opened from these books
+-- The hub was opened from these books.
 pub record IsNextOf (books : List Book) (h : Hub) : Type 0 where
   pub from : ℕ → List Event
   pub same : (p : ℕ) → from p ≡ histories books p
   pub opened : IsOpenedSo (FromBooks from) h
 
--- what is seen of the books once n participants have opened again
+-- What is seen of the books once n participants have opened again.
 abbrev pub next_fronts : List Book → ℕ → List (Front Event)
 next_fronts books n = first_fronts n (λ p. histories books p ++ AnOpening ∷ [])
 
--- the tellers of a hub that was opened from these books: they have all parts of its row, have seen
--- each book with an opening, and know of no place
+-- The tellers of a hub that was opened from these books: they have all parts of its row, have seen
+-- each book with an opening after it, and know of no place.
 pub record AreNextTellers (books : List Book) (h : Hub) (tellers : List Teller) : Type 0 where
   pub of : AreOf h tellers
   pub parts : HaveAllParts tellers

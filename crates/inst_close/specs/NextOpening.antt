@@ -1,5 +1,5 @@
--- When the next hub can be opened from the books of a closed one, with more participants. This
--- hub's own choice.
+-- When the next hub can be opened from the books of a closed one, with more participants. A choice
+-- of this hub.
 use Rattle.std.specs.Prelude.{ℕ, List}
 use Rattle.inst_settings.specs.Lawful.{IsSettings}
 use Rattle.inst_cell.specs.Opening.{MayOpen}
@@ -8,9 +8,10 @@ use Rattle.inst_participant.specs.Wider.{widened}
 use Rattle.inst_close.specs.ClosedHub.{ClosedHub}
 use Rattle.inst_participant.specs.Together.{histories}
 
--- Books can be opened from with participants of these codes behind the others few: none was opened
--- from too often settings, seats: no code stands twice, there are not too many participants, and
--- there are 1 to 16 tellers
+-- The books can be opened from, with participants of these codes after the existing ones.
+-- - few: no book was opened from too often.
+-- - settings: no code occurs twice, and there are not too many participants.
+-- - seats: there are 1 to 16 tellers.
 pub record MayOpenWider (closed : ClosedHub) (codes : List (List ℕ)) (tellers : ℕ) : Type 0 where
   pub few : (p : ℕ) → HasOpeningsLeft (histories closed.books p)
   pub settings : IsSettings (widened closed.settings codes)

@@ -1,3 +1,4 @@
+//! The books of a closed hub.
 ghost use Rattle.std.specs.Prelude.{◌≡◌, ◌<◌, length};
 ghost use Rattle.inst_settings.specs.Lawful.{IsSettings};
 ghost use Rattle.inst_settings.specs.Settings.{participants};
@@ -14,8 +15,8 @@ use inst_settings::Settings;
 use inst_slot::Slot;
 use std::marker::Model;
 
-/// The books of all participants of a hub that was closed: each is a history that a participant can
-/// have, and together they are closed.
+/// The books of all participants of a closed hub. Each is a history that a participant can have,
+/// and together they are closed.
 #[derive(Drop)]
 pub struct Books {
     pub(crate) settings: Settings,
@@ -33,7 +34,7 @@ impl Model for Books {
 }
 
 impl Books {
-    /// The books that these slots have.
+    /// Makes books of these slots.
     pub(crate) fn of(settings: Settings, slots: Vec<Slot>) -> Books
         requires one_each { length slots.items ≡ participants settings }
         requires numbered { AreNumbered slots.items }
@@ -44,7 +45,7 @@ impl Books {
         Books { settings, slots }
     }
 
-    /// The settings of the hub. Its books are closed.
+    /// Returns the settings of the hub. The contract also says that the books are closed.
     pub fn settings(&self) -> &Settings
         ensures settings { result.now ≡ self.now.settings }
         ensures lawful { IsSettings self.now.settings }
@@ -55,7 +56,8 @@ impl Books {
         &self.settings
     }
 
-    /// The history of the participant `who`.
+    /// Returns the history of the participant `who`. Requires `who` below the number of
+    /// participants.
     pub fn journal(&self, who: u8) -> &Journal
         requires { who < participants self.now.settings }
         ensures events { result.now.events ≡ histories self.now.books who }
@@ -64,8 +66,8 @@ impl Books {
         self.slots[usize::from(who)].journal()
     }
 
-    /// What the originator's book says of the ticket's place: `Unused` where no transfer was taken
-    /// there.
+    /// Returns the state that the originator's book has for the ticket's place: `Unused` if no
+    /// transfer was taken there.
     pub fn told(&self, ticket: &Ticket) -> State
         ensures { result ≡ state_in_books (histories self.now.books) ticket.now }
     {

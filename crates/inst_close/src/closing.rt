@@ -1,4 +1,4 @@
-//! How the parts of a hub are closed.
+//! Closing a hub, and closing what is left of it again.
 ghost use Rattle.std.specs.Prelude.{◌≡◌, ℕ, List, IfOk, IfErr};
 ghost use Rattle.inst_board.specs.declared.about.About.TheVariants.{Opened};
 ghost use Rattle.inst_command.specs.declared.place.Place.{Place};
@@ -23,34 +23,43 @@ use std::alloc::Global;
 use std::fmt;
 use thiserror::Error;
 
-/// What is left of a hub whose closing found no memory: it can be closed again.
+/// What is left of a hub whose closing failed to allocate. It can be closed again.
 #[derive(Drop)]
 pub enum Rest {
-    /// The hub and its tellers, as they were.
+    /// The hub and its tellers, unchanged.
     Whole { hub: Hub, tellers: Vec<Teller> },
-    /// What the hub was taken apart into. What was booked and had come before stands.
+    /// The parts of the hub. What was booked and delivered before is kept.
     Apart(Parts),
 }
 
-/// Why a hub wasn't closed.
+/// The error of [`close`] and [`Rest::close`]; returns what is left of the hub.
 #[derive(Drop, Error)]
 pub enum CloseFault {
-    /// A growth was refused.
-    #[error("no memory to close the hub: what is left of it can be closed again")]
+    /// Allocation failed.
+    #[error("an allocation failed while the hub was closed; what is left of it can be closed again")]
     Memory { rest: Rest },
 }
 
-/// It shows which fault, and nothing of the hub.
+/// Prints which fault it is, and nothing of the hub.
 impl fmt::Debug for CloseFault {
     fn fmt<W: fmt::Write>(&self, f: &mut fmt::Formatter<W>) -> fmt::Result {
         f.write_str("Memory { .. }")
     }
 }
 
-/// The books of the hub, once each participant has booked and got what there is for it, and nothing
-/// else. They were opened as the hub was, go on from all that the tellers have seen, and tell all
-/// that these knew. It waits for no lock, since nobody else has the hub. `Memory` hands back what
-/// is left of the hub.
+/// Closes a hub and returns its books.
+///
+/// Each participant books each decided outcome of its live transfers and receives what is pending
+/// for it; nothing else is added to the books. They extend all that the tellers have seen, and have
+/// all that these knew of places. Takes no clock reading, and settling the books decides nothing.
+///
+/// Requires an opened hub with all its tellers, and so waits for no lock. Cost: participants² ×
+/// places visits.
+///
+/// # Errors
+///
+/// [`CloseFault::Memory`] if allocation fails; it has what is left of the hub, which can be closed
+/// again.
 pub fn close(alloc: Global, hub: Hub, tellers: Vec<Teller>) -> Result<Books, CloseFault>
     requires of { AreOf hub tellers.items }
     requires parts { HaveAllParts tellers.items }
@@ -67,7 +76,7 @@ pub fn close(alloc: Global, hub: Hub, tellers: Vec<Teller>) -> Result<Books, Clo
     }
 }
 
-/// The books of these parts, once each participant has booked and got what there is for it.
+/// Settles these parts and returns their books.
 fn close_parts(parts: Parts) -> Result<Books, CloseFault>
     requires parts { (O : Opening) × IsPartsOf O parts }
     ensures settings { IfOk result (λ books. books.settings ≡ hub_of parts) }
@@ -90,8 +99,14 @@ fn close_parts(parts: Parts) -> Result<Books, CloseFault>
 }
 
 impl Rest {
-    /// The books of the hub that this is left of: they are what `close` makes of it with its
-    /// tellers. `Memory` hands back what is left then.
+    /// Closes what is left of a hub. The books are those of [`close`] with the hub's tellers.
+    ///
+    /// Requires what a failed closing returned.
+    ///
+    /// # Errors
+    ///
+    /// [`CloseFault::Memory`] if allocation fails; it has what is left then, which can be closed
+    /// again.
     pub fn close(self, alloc: Global) -> Result<Books, CloseFault>
         requires may { MayClose self }
         ensures books { IfOk result (λ books. (h : Hub) (tellers : List Teller) →

@@ -1,4 +1,4 @@
-//! One order of events that explains the books of a closed hub.
+//! One order of steps that explains the books of a closed hub.
 ghost use Rattle.std.specs.Prelude.{IfOk, IfSome};
 ghost use Rattle.inst_model.specs.Opening.{Opening};
 ghost use Rattle.inst_participant.specs.Together.{histories};
@@ -12,15 +12,19 @@ use std::alloc::{AllocError, Global};
 
 impl Books {
     /// Returns steps of a hub in one thread that leave exactly these books after a first opening,
-    /// if it finds some. So a hub with threads that was closed keeps the headline for its rebuilt
-    /// run. The steps' clock readings are not those of the calls that were made.
+    /// if it finds some.
     ///
-    /// `None` promises nothing. Takes time linear in the number of events, and memory for the
-    /// steps, a copy of the books and the hub that runs the steps.
+    /// All that is proved of a run (`KeepsTheHeadline` in the specs of `inst_world`) then holds of
+    /// a run of these steps. Their clock readings are not those of the calls that were made. `None`
+    /// says nothing about the books.
+    ///
+    /// Takes time linear in the number of events. Allocates the steps, a copy of the books and the
+    /// hub that runs the steps.
     ///
     /// # Errors
     ///
-    /// `AllocError` if an allocation fails.
+    /// [`AllocError`] if the steps or the hub that runs them can't be allocated; the books are
+    /// unchanged.
     pub fn interleaving(&self, alloc: Global) -> Result<Option<Vec<Step>>, AllocError>
         ensures headline { IfOk result (λ found.
             IfSome found (λ steps.
@@ -30,13 +34,16 @@ impl Books {
         interleaving(alloc, self.settings(), &journals)
     }
 
-    /// Returns such steps of a hub that was opened from the books `before`, as by `open_next` or
-    /// `open_wider`. Participants that joined have empty books there. `None` is also the answer if
-    /// no hub of these settings can be opened from `before`.
+    /// Returns such steps of a hub that was opened from the books `before`, as by
+    /// [`open_next`](Books::open_next) or [`open_wider`](Books::open_wider). Participants that
+    /// joined have empty books there.
+    ///
+    /// Also returns `None` if no hub of these settings can be opened from `before`.
     ///
     /// # Errors
     ///
-    /// `AllocError` if an allocation fails.
+    /// [`AllocError`] if the steps or the hub that runs them can't be allocated; both books are
+    /// unchanged.
     pub fn interleaving_from(
         &self,
         alloc: Global,

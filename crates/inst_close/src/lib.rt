@@ -1,4 +1,4 @@
-//! The books of a hub that was closed.
+//! The books of a closed hub, what they sum to, steps that explain them, and the next opening.
 #![tactic(auto)]
 
 mod books;

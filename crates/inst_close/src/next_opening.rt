@@ -1,4 +1,4 @@
-//! The hub of the next opening.
+//! Opening the next hub from the books.
 ghost use Rattle.std.specs.Prelude.{◌≡◌, ◌⊎◌, [], ℕ, true, false, length, IfOk, IfErr, Err};
 ghost use Rattle.inst_journal.specs.Opened.{HasOpeningsLeft};
 ghost use Rattle.inst_participant.specs.Together.{histories};
@@ -15,7 +15,7 @@ use inst_journal::Journal;
 use std::alloc::{AllocError, Global};
 
 impl Books {
-    /// Copies of the books, by number.
+    /// Copies the books, by number.
     pub(crate) fn copies(&self, alloc: Global) -> Result<Vec<Journal>, AllocError>
         ensures ok { IfOk result (λ journals. AreCopies self.now.books journals.items) }
     {
@@ -26,7 +26,7 @@ impl Books {
         Ok(journals)
     }
 
-    /// Copies of the books, by number, and so many empty ones behind them.
+    /// Copies the books, by number, and appends so many empty ones.
     pub(crate) fn copies_and(&self, alloc: Global, more: usize) -> Result<Vec<Journal>, AllocError>
         ensures ok { IfOk result (λ journals. AreCopiesAnd self.now.books more journals.items) }
     {
@@ -37,7 +37,8 @@ impl Books {
         Ok(journals)
     }
 
-    /// Whether each book can be opened from once more. It walks over the events of each.
+    /// Returns `true` if each book can be opened from once more: it has fewer than 500 openings.
+    /// Scans the events of each book.
     pub fn may_open(&self) -> bool
         ensures few { result ≡ true → (p : ℕ) → HasOpeningsLeft (histories self.now.books p) }
         ensures many { result ≡ false → ¬ ((p : ℕ) → HasOpeningsLeft (histories self.now.books p)) }
@@ -50,10 +51,18 @@ impl Books {
         true
     }
 
-    /// The hub of the next opening, with as many tellers as are wanted, which have seen each book
-    /// with an opening after it. What was pending goes on, what was decided gives its place back.
-    /// The books stay as they are. `BadSettings` where the tellers are not 1 to 16 or a book can't
-    /// be opened from once more, `Memory` where there is no room.
+    /// Opens the hub of the next opening, with 1 to 16 tellers that have seen each book with an
+    /// opening after it.
+    ///
+    /// Pending transfers stay pending; decided ones give their places back. The books are copied
+    /// and stay unchanged.
+    ///
+    /// # Errors
+    ///
+    /// - `BadSettings` if `tellers` is not 1 to 16 or a book can't be opened from once more.
+    /// - [`Memory`](Fault::Memory) if allocation fails.
+    ///
+    /// The books are unchanged.
     pub fn open_next(&self, alloc: Global, tellers: u8) -> Result<(Hub, Vec<Teller>), Fault>
         ensures settings { IfOk result (λ r. r.0.settings ≡ self.now.settings) }
         ensures tellers { IfOk result (λ r. (length r.1.items ≡ tellers)
@@ -66,9 +75,16 @@ impl Books {
         self.open_wider(alloc, Vec::new(alloc), tellers)
     }
 
-    /// The hub of the next opening as `open_next` gives it, which participants of these codes join:
-    /// they have the numbers behind the others, and empty books. `BadSettings` also where a code
-    /// stands twice or there are more than 256 participants then.
+    /// Opens the hub of the next opening as [`open_next`](Books::open_next) does, with participants
+    /// of these codes, who join: their numbers follow the existing ones, and their books are empty.
+    ///
+    /// # Errors
+    ///
+    /// - `BadSettings` as for [`open_next`](Books::open_next), and if a code occurs twice or there
+    ///   are then more than 256 participants.
+    /// - [`Memory`](Fault::Memory) if allocation fails.
+    ///
+    /// The books are unchanged.
     pub fn open_wider(
         &self,
         alloc: Global,

@@ -1,4 +1,4 @@
-//! What all books sum to.
+//! Sums over all books.
 ghost use Rattle.std.specs.Prelude.{◌≡◌, pos};
 ghost use Rattle.inst_journal.specs.Money.{position};
 ghost use Rattle.inst_journal.specs.Sums.{net};
@@ -8,8 +8,8 @@ ghost use Rattle.inst_participant.specs.Together.{histories};
 use crate::Books;
 
 impl Books {
-    /// The net funding of all participants, in cents: what was funded less what was defunded, over
-    /// all openings. It costs the events of all books.
+    /// Returns the net funding of all participants over all openings, in cents: what was funded
+    /// less what was defunded. Scans the events of all books.
     pub fn net(&self) -> u128
         ensures { pos result
             ≡ signed_total self.now.settings (λ p. net (histories self.now.books p)) }
@@ -21,7 +21,8 @@ impl Books {
         total.unsigned_abs()
     }
 
-    /// All positions, in cents. They are the net funding of all, since the books are closed.
+    /// Returns the sum of all positions, in cents. It is the net funding, since the books are
+    /// closed.
     pub fn sum(&self) -> u128
         ensures sum { result ≡ sum_over_participants self.now.settings (λ p.
             position (histories self.now.books p)) }

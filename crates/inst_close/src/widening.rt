@@ -1,4 +1,4 @@
-//! The settings of a hub that participants join.
+//! Settings with more participants.
 ghost use Rattle.std.specs.Prelude.{◌≡◌, ◌⊎◌, ◌++◌, Err, IfOk, IfErr};
 ghost use Rattle.inst_settings.specs.Lawful.{IsSettings};
 ghost use Rattle.inst_participant.specs.Wider.{widened};
@@ -7,7 +7,7 @@ use inst_base::{Code, Fault};
 use inst_settings::Settings;
 use std::alloc::{AllocError, Global};
 
-/// The codes of the participants, and then these.
+/// Returns the codes of the participants, followed by these.
 fn codes_with(alloc: Global, settings: &Settings, more: &[Code]) -> Result<Vec<Code>, AllocError>
     ensures { IfOk result (λ codes. codes.items ≡ settings.now.codes ++ more.now) }
 {
@@ -22,8 +22,12 @@ fn codes_with(alloc: Global, settings: &Settings, more: &[Code]) -> Result<Vec<C
     Ok(codes)
 }
 
-/// The settings with these codes behind the others. `BadSettings` where there are more than 256
-/// then or one stands twice, `Memory` where there is no room.
+/// Returns the settings with these codes after the existing ones.
+///
+/// # Errors
+///
+/// `BadSettings` if there are then more than 256 codes or one occurs twice;
+/// [`Memory`](Fault::Memory) if allocation fails.
 pub(crate) fn widened(alloc: Global, settings: &Settings, more: &[Code]) -> Result<Settings, Fault>
     ensures ok { IfOk result (λ s. (s ≡ widened settings.now more.now) × IsSettings s) }
     ensures bad { result ≡ Err Fault.BadSettings → ¬ IsSettings (widened settings.now more.now) }

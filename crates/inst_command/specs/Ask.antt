@@ -1,5 +1,5 @@
--- Which asks belong to a hub. The commands stand for the scheme's messages between a participant
--- and the mechanism (EPC004-16, chapter 4, processing flow: submission, positive and negative
+-- The asks that fit a hub. The commands stand for the scheme's messages between a participant and
+-- the mechanism (EPC004-16, chapter 4, processing flow: submission, positive and negative
 -- confirmation, investigation); funding, fetching, positions and statements are this hub's own.
 use Rattle.std.specs.Prelude.{ℕ, Bool, true, ◌&&◌, nat_le}
 use Rattle.inst_base.specs.Moment.{is_moment}
@@ -14,16 +14,16 @@ use Rattle.inst_command.specs.declared.query.Query.{Query as QueryValue}
 use Rattle.inst_command.specs.declared.query.Query.TheVariants.{Position, Statement}
 use Rattle.inst_command.specs.declared.count.TheConstants.{MOST_COUNT}
 
--- whether so many entries or lines can be asked for
+-- True if a command may ask for this number of entries or lines.
 abbrev pub is_count : ℕ → Bool
 is_count count = nat_le 1 count && nat_le count MOST_COUNT
 
--- whether the query may be asked
+-- True if the query may be asked.
 abbrev pub query_fits : QueryValue → Bool
 query_fits Position = true
 query_fits (Statement skip count) = is_count count
 
--- whether the command is one of a hub with these settings
+-- True if the command fits a hub with these settings.
 abbrev pub command_fits : HubSettings → Command → Bool
 command_fits s (Fund funding) = is_within_ceiling s funding.cents
 command_fits s (Defund funding) = is_within_ceiling s funding.cents
@@ -36,6 +36,6 @@ command_fits s (Investigate id) = true
 command_fits s (Fetch max) = is_count max
 command_fits s (Query query) = query_fits query
 
--- whether the ask is one of a hub with these settings
+-- True if the ask fits a hub with these settings.
 abbrev pub ask_fits : HubSettings → Ask → Bool
 ask_fits s ask = is_participant s ask.who && command_fits s ask.command

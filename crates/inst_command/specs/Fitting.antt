@@ -1,5 +1,4 @@
--- Which commands, asks and steps belong to a hub, in numbers: what they name is there, and what
--- they move, count and stamp is in its range. This hub's own promise.
+-- The commands, asks and steps that fit a hub, in numbers. A promise of this hub.
 use Rattle.std.specs.Prelude.{◌≡◌, ◌↔◌, ℕ, ◌+◌, ◌<◌, ◌≤◌, true, List, length}
 use Rattle.inst_settings.specs.Settings.{HubSettings}
 use Rattle.inst_command.specs.declared.command.Command.TheVariants.{Fund, Defund, Submit, Confirm}
@@ -15,24 +14,23 @@ use Rattle.inst_command.specs.declared.submission.Submission.{Submission}
 use Rattle.inst_command.specs.Ask.{command_fits, ask_fits}
 use Rattle.inst_command.specs.Step.{step_fits}
 
--- a participant has this number
+-- A participant has this number.
 abbrev pub IsNumbered : HubSettings → ℕ → Type 0
 IsNumbered s number = number < length s.codes
 
--- a command may move so many cents
+-- A command may have this amount: 1 cent to the ceiling.
 abbrev pub MayMove : HubSettings → ℕ → Type 0
 MayMove s cents = (1 ≤ cents) × (cents ≤ s.ceiling)
 
--- so many entries or lines may be asked for
+-- A command may ask for this number of entries or lines: 1 to 100.
 abbrev pub MayBeAskedFor : ℕ → Type 0
 MayBeAskedFor count = (1 ≤ count) × (count ≤ MOST_COUNT)
 
--- the beneficiary is a participant, the amount may be moved, and the deadline is a moment: below
--- 2^41
+-- The beneficiary is a participant, the amount is allowed, and the deadline is below 2^41.
 abbrev pub MayBeSubmitted : HubSettings → Submission → Type 0
 MayBeSubmitted s x = (IsNumbered s x.to × MayMove s x.cents) × (x.stamp + s.limit ≤ 2199023255551)
 
--- which commands fit
+-- The commands that fit.
 pub record CommandsFit (s : HubSettings) : Type 0 where
   pub fund : (funding : Funding) → (command_fits s (Fund funding) ≡ true) ↔ MayMove s funding.cents
   pub defund : (funding : Funding) → (command_fits s (Defund funding) ≡ true) ↔
@@ -48,7 +46,7 @@ pub record CommandsFit (s : HubSettings) : Type 0 where
   pub statement : (skip count : ℕ) → (command_fits s (Query (Statement skip count)) ≡ true) ↔
       MayBeAskedFor count
 
--- which asks and steps fit: any place will do, and any reading
+-- The asks and steps that fit: any index and any clock reading.
 pub record StepsFit (s : HubSettings) : Type 0 where
   pub ask : (a : Ask) → (ask_fits s a ≡ true) ↔
       (IsNumbered s a.who × (command_fits s a.command ≡ true))
@@ -59,5 +57,6 @@ pub record StepsFit (s : HubSettings) : Type 0 where
       (IsNumbered s who × IsNumbered s from)
   pub expire : (who index at : ℕ) → (step_fits s (Expire who index at) ≡ true) ↔ IsNumbered s who
 
+-- The law: both for all settings.
 abbrev pub WhatFits : Type 0
 WhatFits = (s : HubSettings) → CommandsFit s × StepsFit s

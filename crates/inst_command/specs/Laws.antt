@@ -1,5 +1,5 @@
--- The laws of statement lines: each has one length, and its text tells the line, but for spaces at
--- the end of its identifier. They are this hub's own promises.
+-- The laws of statement lines: all have one length, and the text determines the line, except for
+-- spaces at the end of the identifier. Promises of this hub.
 use Rattle.std.specs.Prelude.{◌≡◌, ◌<◌, ◌≤◌, ◌^◌, true, IsTrue, length}
 use Rattle.std.specs.List.{list_all}
 use Rattle.inst_base.specs.Text.{is_code, is_identifier}
@@ -9,7 +9,7 @@ use Rattle.inst_settings.specs.Lawful.{IsSettings}
 use Rattle.inst_command.specs.LineText.{left_in, line_fits, line_text}
 use Rattle.inst_command.specs.declared.line.Line.{Line}
 
--- a statement line of a hub with these settings
+-- A statement line of a hub with these settings.
 pub record IsLineOf (s : HubSettings) (line : Line) : Type 0 where
   pub settings : IsSettings s
   pub codes : list_all is_code s.codes ≡ true
@@ -18,7 +18,7 @@ pub record IsLineOf (s : HubSettings) (line : Line) : Type 0 where
   pub amount : line.cents ≤ MOST_CENTS
   pub position : line.position < 2 ^ 64
 
--- the same line, but for spaces at the end of its identifier
+-- The lines are equal, except for spaces at the end of the identifier.
 pub record IsSameButForSpaces (a b : Line) : Type 0 where
   pub number : a.number ≡ b.number
   pub kind : a.kind ≡ b.kind
@@ -27,12 +27,12 @@ pub record IsSameButForSpaces (a b : Line) : Type 0 where
   pub cents : a.cents ≡ b.cents
   pub position : a.position ≡ b.position
 
--- every line is as long as the others
+-- The text of each line has 91 characters.
 abbrev pub EachLineHas91Characters : Type 0
 EachLineHas91Characters =
     (s : HubSettings) (line : Line) → IsLineOf s line → length (line_text s line) ≡ 91
 
--- two lines with the same text are the same but for spaces
+-- Two lines with the same text are equal, except for those spaces.
 abbrev pub ATextTellsItsLine : Type 0
 ATextTellsItsLine =
     (s : HubSettings) (a b : Line) → IsLineOf s a → IsLineOf s b → line_text s a ≡ line_text s b →

@@ -1,4 +1,4 @@
--- What a statement line's layout writes.
+-- The text that a `LineText` writes. A choice of this hub.
 use Rattle.std.specs.Prelude.{ℕ, List}
 use Rattle.inst_command.specs.LineText.{line_text}
 use Rattle.inst_command.specs.declared.layout.LineText.{LineText}

@@ -1,5 +1,5 @@
--- What becomes of a refusal: the participant is told of it by a reply. That memory was refused is
--- told to nobody, since nothing happened. This hub's own choice.
+-- Refusals as replies. An allocation failure isn't a reply, since nothing happened. A choice of
+-- this hub.
 use Rattle.std.specs.Prelude.{Result, Ok, Err, alloc_error}
 use Rattle.std.specs.declared.alloc.AllocError.{AllocError}
 use Rattle.inst_base.specs.declared.fault.Fault.{Fault}
@@ -7,7 +7,7 @@ use Rattle.inst_base.specs.declared.fault.Fault.TheVariants.{Memory}
 use Rattle.inst_command.specs.declared.reply.Reply.{Reply}
 use Rattle.inst_command.specs.declared.reply.Reply.TheVariants.{Refused}
 
--- what is answered, with each refusal but Memory as a reply
+-- The result with each refusal but `Memory` as a reply.
 abbrev pub refusals_told : Result Reply Fault → Result Reply AllocError
 refusals_told (Ok reply) = Ok reply
 refusals_told (Err Memory) = Err alloc_error

@@ -1,12 +1,11 @@
--- Which steps belong to a hub. A step is one event under one participant's lock: this hub's own
--- choice.
+-- The steps that fit a hub. A step is one event under one participant's lock. A choice of this hub.
 use Rattle.std.specs.Prelude.{Bool, ◌&&◌}
 use Rattle.inst_settings.specs.Settings.{HubSettings, is_participant}
 use Rattle.inst_command.specs.Ask.{ask_fits}
 use Rattle.inst_command.specs.declared.step.Step.{Step}
 use Rattle.inst_command.specs.declared.step.Step.TheVariants.{Ask, Deliver, Learn, Expire}
 
--- whether the step is one of a hub with these settings
+-- True if the step fits a hub with these settings.
 abbrev pub step_fits : HubSettings → Step → Bool
 step_fits s (Ask ask) = ask_fits s ask
 step_fits s (Deliver from index to) = is_participant s from && is_participant s to

@@ -1,3 +1,4 @@
+//! Commands with their asker and clock reading.
 ghost use Rattle.std.specs.Prelude.{◌≡◌};
 ghost use Rattle.inst_command.specs.Ask.{ask_fits};
 
@@ -5,11 +6,11 @@ use crate::Command;
 use inst_base::Moment;
 use inst_settings::Settings;
 
-/// A command of a participant, with the clock's reading.
+/// A participant's command, with the clock reading.
 ///
 /// ```text
 /// let ask = Ask { who: 0, command: Command::Query(Query::Position), at: Moment::new(0, 1_000)? };
-/// ask.fits(&settings) // true where the hub has a participant
+/// ask.fits(&settings) // true if participant 0 exists
 /// ```
 #[derive(Clone, Copy, Debug, PartialEq, Eq)]
 pub struct Ask {
@@ -20,8 +21,8 @@ pub struct Ask {
 }
 
 impl Ask {
-    /// Whether the ask is one of a hub with these settings: the asker is a participant, and the
-    /// command fits.
+    /// Returns `true` if the ask fits a hub with these settings: the asker is a participant, and
+    /// the command fits.
     pub fn fits(&self, settings: &Settings) -> bool
         ensures { result ≡ ask_fits settings.now self.now }
     {

@@ -1,3 +1,5 @@
+//! Entries of an inbox.
+
 use crate::Items;
 use inst_base::{Cents, Ident, Moment};
 

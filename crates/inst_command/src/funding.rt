@@ -1,9 +1,13 @@
+//! The contents of a fund or defund command.
+
 use inst_base::{Cents, Ident};
 
-/// What a fund command adds to the asker's net funding, or a defund command takes from it.
+/// The amount that a fund command adds to the asker's net funding, or a defund command takes from
+/// it.
 #[derive(Clone, Copy, Debug, PartialEq, Eq)]
 pub struct Funding {
-    /// The key of the command, which fund and defund commands share.
+    /// The reference, which identifies the command among the asker's fund and defund commands
+    /// together.
     pub reference: Ident,
     pub cents: Cents,
 }

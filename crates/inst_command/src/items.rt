@@ -1,6 +1,8 @@
+//! The lists in replies.
+
 use std::marker::Model;
 
-/// What a reply lists, in order. Contracts see it as a list.
+/// The items that a reply lists, in order. Contracts see them as a list.
 #[derive(Debug, Drop)]
 pub struct Items<T> {
     items: Vec<T>,
@@ -17,14 +19,14 @@ impl<T> Model for Items<T> {
 impl<T> Items<T> {
     ghost use Rattle.std.specs.Prelude.{◌≡◌};
 
-    /// These items, without a copy.
+    /// Takes these items, without copying them.
     pub fn new(items: Vec<T>) -> Self
         ensures { result ≡ items.items }
     {
         Items { items }
     }
 
-    /// The items as a slice.
+    /// Returns the items as a slice.
     pub fn as_slice(&self) -> &[T]
         ensures { result.now ≡ self.now }
     {

@@ -1,3 +1,4 @@
+//! The text of a statement line.
 ghost use Rattle.std.specs.Prelude.{◌≡◌, ◌≤◌, true, length, Some, IfOk, string_bytes};
 ghost use Rattle.std.specs.List.{list_all};
 ghost use Rattle.inst_base.specs.Text.{is_code_character, is_latin};
@@ -10,10 +11,18 @@ use inst_settings::Settings;
 use std::alloc::{AllocError, Global};
 use std::fmt::{self, Display, Formatter};
 
-/// A statement line as text, which `Display` writes with no memory of its own: 91 characters in six
-/// columns with a space between. The number, right in 6; the kind, left in 3; the other
-/// participant's code, left in 11, blank for a funding; the identifier or reference, left in 35;
-/// the cents, right in 11; the position after the entry in cents, right in 20.
+/// A statement line as text of 91 characters; `Display` writes it without allocating.
+///
+/// It has six columns, separated by a space:
+///
+/// | Column | Width | Aligned |
+/// |---|---|---|
+/// | number of the line | 6 | right |
+/// | kind: `FND`, `DFD`, `IN`, `OUT` | 3 | left |
+/// | code of the other participant, blank for a funding | 11 | left |
+/// | identifier or reference | 35 | left |
+/// | amount in cents | 11 | right |
+/// | position after the entry, in cents | 20 | right |
 #[derive(Clone, Copy)]
 pub struct LineText<'a> {
     settings: &'a Settings,
@@ -21,14 +30,16 @@ pub struct LineText<'a> {
 }
 
 impl<'a> LineText<'a> {
-    /// The text of `line` in a hub of these settings.
+    /// Makes the text of `line` in a hub with these settings. The line's number must be at most
+    /// 999,999, and only a transfer names another participant.
     pub fn new(settings: &'a Settings, line: &'a Line) -> LineText<'a>
         requires { line_fits settings.now line.now ≡ true }
         ensures text { shown result ≡ line_text settings.entry.now line.entry.now }
         ensures len { length (shown result) ≡ 91 }
         ensures latin { list_all is_latin (shown result) ≡ true }
     {
-        // No effect: that the text has 91 characters, all Latin, rests on the forms of its parts.
+        // No effect at run time: the verifier learns the forms of the parts, on which the length
+        // and the character set depend.
         let _id = line.id.text();
         let _cents = line.cents.get();
         let _other = other_code(settings, line.other);
@@ -55,7 +66,11 @@ impl Display for LineText<'_> {
     }
 }
 
-/// The text of a statement line, as `LineText` writes it.
+/// Returns the text of a statement line, as [`LineText`] writes it.
+///
+/// # Errors
+///
+/// [`AllocError`] if the text can't be allocated.
 pub fn line_text(alloc: Global, settings: &Settings, line: &Line) -> Result<String, AllocError>
     requires { line_fits settings.now line.now ≡ true }
     ensures text { IfOk result (λ text. string_bytes text ≡ line_text settings.now line.now) }
@@ -64,7 +79,7 @@ pub fn line_text(alloc: Global, settings: &Settings, line: &Line) -> Result<Stri
     LineText::new(settings, line).to_string(alloc)
 }
 
-/// What a line calls its kind.
+/// Returns the text for a line's kind.
 pub fn kind_name(kind: LineKind) -> &'static str
     ensures value { result.now ≡ kind_name kind }
     ensures short { length result.now ≤ 3 }
@@ -78,7 +93,7 @@ pub fn kind_name(kind: LineKind) -> &'static str
     }
 }
 
-/// The other participant's code, blank where there is none.
+/// Returns the other participant's code, or an empty text without one.
 pub fn other_code(settings: &Settings, other: Option<u8>) -> &str
     ensures value { result.now ≡ other_code settings.now other }
     ensures short { length result.now ≤ BRANCH_CODE_LENGTH }

@@ -1,4 +1,4 @@
-//! What is asked of a hub and what it answers.
+//! The commands, steps and replies of a hub as values, and the text of a statement line.
 #![tactic(auto)]
 
 mod ask;

@@ -1,21 +1,23 @@
+//! Lines of a statement.
+
 use crate::Items;
 use inst_base::{Cents, Ident};
 
-/// What a statement line shows.
+/// The kind of a statement line.
 #[derive(Clone, Copy, Debug, PartialEq, Eq)]
 pub enum LineKind {
     Funded,
     Defunded,
-    /// A transfer from another participant that was accepted.
+    /// A transfer from another participant was accepted.
     Received,
-    /// A transfer to another participant that was accepted.
+    /// A transfer to another participant was accepted.
     Paid,
 }
 
-/// A statement line: an entry of a participant's account, with the position after it.
+/// A statement line: a change of a participant's position, and the position after it.
 #[derive(Clone, Copy, Debug, PartialEq, Eq)]
 pub struct Line {
-    /// The number of the entry in the participant's statement, from 1.
+    /// The number of the line in the participant's statement, from 1.
     pub number: u32,
     pub kind: LineKind,
     /// The other participant's number, for a transfer.
@@ -23,7 +25,7 @@ pub struct Line {
     /// The identifier of the transfer, or the reference of the funding.
     pub id: Ident,
     pub cents: Cents,
-    /// The position after the entry, in cents.
+    /// The position after the change, in cents.
     pub position: u64,
 }
 

@@ -1,3 +1,5 @@
+//! States and outcomes of transfers.
+
 use inst_base::Reason;
 
 /// How a transfer ended.
@@ -8,10 +10,10 @@ pub enum Outcome {
     TimedOut,
 }
 
-/// How far a transfer has come.
+/// The state of a transfer.
 #[derive(Clone, Copy, Debug, PartialEq, Eq)]
 pub enum State {
-    /// Nothing was taken at the place.
+    /// No transfer has the place.
     Unused,
     Pending,
     Decided(Outcome),

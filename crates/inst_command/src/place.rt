@@ -1,4 +1,6 @@
-/// A place of the hub: the `index`-th taken submission of the originator `owner`, from 0.
+//! Places of live transfers.
+
+/// A place of the originator `owner`: that of its `index`-th live transfer, counted from 0.
 #[derive(Clone, Copy, Debug, PartialEq, Eq)]
 pub struct Place {
     pub owner: u8,

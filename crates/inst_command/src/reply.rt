@@ -1,3 +1,4 @@
+//! Replies to commands, and answers to steps.
 ghost use Rattle.std.specs.Prelude.{◌≡◌};
 ghost use Rattle.inst_command.specs.Refusals.{refusals_told};
 
@@ -5,51 +6,55 @@ use crate::{Entries, Lines, State};
 use inst_base::{Fault, Ident, Moment};
 use std::alloc::AllocError;
 
-/// What a participant is answered. Money is in cents.
+/// The reply to a command. Money is in cents.
 #[derive(Debug, Drop)]
 pub enum Reply {
     /// The funding with this reference is done.
     Done {
         reference: Ident,
     },
-    /// The submission is taken, with this deadline.
+    /// The submission is taken, and its transfer has this deadline.
     Taken {
         id: Ident,
         deadline: Moment,
     },
-    /// How far the transfer of the originator `from` has come.
+    /// The state of a transfer of the originator `from`.
     State {
         from: u8,
         id: Ident,
         state: State,
     },
-    /// The forwarded transfers that are handed out.
+    /// The fetched transfers.
     Inbox {
         entries: Entries,
     },
-    /// The position, what of it is reserved, and what is available.
+    /// The position, the part of it that is reserved, and the part that is available.
     Position {
         position: u64,
         reserved: u64,
         available: u64,
     },
-    /// The statement lines that were asked for.
+    /// The requested statement lines.
     Statement {
         lines: Lines,
     },
-    /// The command changed nothing.
+    /// The command was refused and changed nothing.
     Refused(Fault),
 }
 
-/// What a step is answered: an ask its reply, each other step whether it booked or forwarded
-/// anything.
+/// The answer to a step: the reply to an ask; for another step, `true` if it booked or forwarded
+/// something.
 #[derive(Debug, Drop)]
 pub enum Answer {
     Reply(Reply),
     New(bool),
 }
 
-/// What is answered, with each refusal but `Memory` as a reply.
+/// Makes each refusal but `Memory` a reply.
+///
+/// # Errors
+///
+/// [`AllocError`] if the refusal is [`Fault::Memory`].
 pub fn refusals_told(answer: Result<Reply, Fault>) -> Result<Reply, AllocError>
     ensures { result ≡ refusals_told answer }
 {

@@ -1,3 +1,4 @@
+//! Steps of a hub.
 ghost use Rattle.std.specs.Prelude.{◌≡◌};
 ghost use Rattle.inst_command.specs.Step.{step_fits};
 
@@ -5,23 +6,24 @@ use crate::Ask;
 use inst_base::Moment;
 use inst_settings::Settings;
 
-/// One step of a hub. An index is that of a place: it counts an originator's live submissions, from
-/// 0.
+/// A step of a hub. An `index` is that of a place: the number of a transfer among its originator's
+/// live transfers, from 0.
 #[derive(Clone, Copy, Debug, PartialEq, Eq)]
 pub enum Step {
-    /// A participant asks.
+    /// A participant's command.
     Ask(Ask),
-    /// The transfer at this index of the originator `from` comes to `to`.
+    /// Forwards the transfer at this index of the originator `from` to `to`.
     Deliver { from: u8, index: u16, to: u8 },
     /// `who` books the decided outcome of that transfer.
     Learn { who: u8, from: u8, index: u16 },
-    /// The originator `who` books the decided outcome of its transfer, or times it out when due.
+    /// The originator `who` books the decided outcome of its transfer, or times it out if it is
+    /// due.
     Expire { who: u8, index: u16, at: Moment },
 }
 
 impl Step {
-    /// Whether the step is one of a hub with these settings: its ask fits, and its participants'
-    /// numbers are below their count. Any place will do.
+    /// Returns `true` if the step fits a hub with these settings: its ask fits, and its
+    /// participants exist. Any index and any clock reading fit.
     pub fn fits(&self, settings: &Settings) -> bool
         ensures { result ≡ step_fits settings.now self.now }
     {

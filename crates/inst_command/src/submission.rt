@@ -1,6 +1,8 @@
+//! The contents of a submission.
+
 use inst_base::{Cents, Ident, Moment};
 
-/// What an originator asks to have transferred.
+/// A transfer that its originator submits.
 #[derive(Clone, Copy, Debug, PartialEq, Eq)]
 pub struct Submission {
     pub id: Ident,

@@ -1,5 +1,5 @@
--- What a crew is given and how much it does. That a job whose ask doesn't fit is not put to the hub
--- is this hub's own choice.
+-- What a crew is given and what it does. Skipping jobs whose ask doesn't fit is a choice of this
+-- hub.
 use Rattle.std.specs.Prelude.{◌≡◌, ℕ, ◌+◌, ◌-◌, ◌^◌, ◌<◌, min, true, List, [], ◌∷◌, ◌++◌, length}
 use Rattle.std.specs.Prelude.{filter, slice_get, sum_by, Option, Some, None, IfSome, Ok}
 use Rattle.inst_settings.specs.Settings.{HubSettings, is_participant}
@@ -20,38 +20,38 @@ use Rattle.inst_crew.specs.Later.{Pairs, IsLaterHand, IsLaterTeller}
 use Rattle.inst_crew.specs.Seen.{AreSeenByOne}
 use Rattle.inst_crew.specs.Served.{AreServed}
 
--- the sweeper has a teller of the hub, and sweeps one of its participants
+-- The sweeper has a teller of the hub, and sweeps one of its participants.
 pub record MaySweep (hub : Hub) (sweep : Sweep) : Type 0 where
   pub of : IsTellerOf hub sweep.teller
   pub participant : is_participant hub.settings sweep.who ≡ true
 
--- the sweeper's teller, if there is one
+-- The sweeper's teller, if there is one.
 abbrev pub sweeper_of : Option Sweep → List Teller
 sweeper_of None = []
 sweeper_of (Some sweep) = sweep.teller ∷ []
 
--- how many of the jobs have an ask that fits the hub
+-- How many of the jobs have an ask that fits the hub.
 abbrev pub fitting : HubSettings → List Job → ℕ
 fitting s jobs = length (filter (λ job. ask_fits s job.ask) jobs)
 
--- by how many jobs that fit the hands' lists of taken jobs grew, as far as a count can say
+-- How many more fitting jobs the hands have taken, at most 2^64 - 1.
 abbrev pub answered_between : HubSettings → List Hand → List Hand → ℕ
 answered_between s before after =
     min (fitting s (taken_together after) - fitting s (taken_together before)) (2 ^ 64 - 1)
 
--- the sweeper swept its participant once, at its reading, as its teller shows
+-- The sweeper swept its participant once, at its clock reading, as its teller shows.
 pub record HasSwept (hub : Hub) (sweep : Sweep) (u : Teller) : Type 0 where
   pub later : IsLaterTeller hub sweep.teller u
   pub count : ℕ
   pub swept : IsSweep hub sweep.teller sweep.who sweep.at (Ok count) u
 
--- this is the sweeper's teller, which has swept, if there is a sweeper
+-- The sweeper's teller after its sweep, if there is a sweeper.
 abbrev pub IsSwept : Hub → Option Sweep → Option Teller → Type 0
 IsSwept hub None teller = teller ≡ None
 IsSwept hub (Some sweep) None = ⊥
 IsSwept hub (Some sweep) (Some teller) = HasSwept hub sweep teller
 
--- hands of the desk, with a teller of the hub each, and the sweeper, if there is one
+-- Hands of the desk, with a teller of the hub each, and the sweeper, if there is one.
 pub record IsTeamOf (hub : Hub) (d : Desk) (team : Team) : Type 0 where
   pub some : 0 < length team.hands.items
   pub each : length team.tellers.items ≡ length team.hands.items
@@ -59,17 +59,17 @@ pub record IsTeamOf (hub : Hub) (d : Desk) (team : Team) : Type 0 where
   pub tellers : AreOf hub team.tellers.items
   pub sweep : IfSome team.sweep (MaySweep hub)
 
--- all tellers of the team, the sweeper's last
+-- All tellers of the team, the sweeper's last.
 abbrev pub team_tellers : Team → List Teller
 team_tellers team = team.tellers.items ++ sweeper_of team.sweep
 
--- What a crew did with a team
--- hands, tellers: each came back at its place
--- answered: by how many jobs that fit the hands' lists of taken jobs grew
--- served: each job that a hand took more and that fits was put to the hub, by the teller at the
--- hand's place
--- states: each state that was kept is known to a teller
--- swept: the sweeper swept
+-- What a crew did with a team.
+-- - hands, tellers: each was returned, in the same order.
+-- - answered: how many more fitting jobs the hands have taken.
+-- - served: each fitting job that a hand took was put to the hub, through the teller at the same
+-- position.
+-- - states: each state that was kept is known to a teller.
+-- - swept: the sweeper swept.
 pub record HasWorked (hub : Hub) (d : Desk) (team : Team) (crew : Crew) : Type 0 where
   pub hands : Pairs (IsLaterHand d) team.hands.items crew.hands.items
   pub tellers : Pairs (IsLaterTeller hub) (team_tellers team) crew.tellers.items
@@ -79,8 +79,8 @@ pub record HasWorked (hub : Hub) (d : Desk) (team : Team) (crew : Crew) : Type 0
   pub states : AreSeenByOne crew.tellers.items crew.states.items
   pub swept : IsSwept hub team.sweep (slice_get crew.tellers.items (length team.tellers.items))
 
--- as many hands of the desk and tellers of the hub came back, with the parts that the team had. It
--- follows from what a crew did.
+-- All hands of the desk and tellers of the hub were returned, with the parts that the team had.
+-- Follows from `HasWorked`.
 pub record AreBack (hub : Hub) (d : Desk) (team : Team) (crew : Crew) : Type 0 where
   pub hands : AreHandsOf d crew.hands.items
   pub tellers : AreOf hub crew.tellers.items

@@ -1,4 +1,4 @@
--- What a crew saw of transfers, which its tellers then know. This hub's own choice.
+-- What a crew saw of transfers, which its tellers then know. A choice of this hub.
 use Rattle.std.specs.Prelude.{◌≡◌, ◌≢◌, ℕ, List, slice_get, Some}
 use Rattle.inst_board.specs.declared.about.About.TheVariants.{Opened, Decided}
 use Rattle.inst_command.specs.declared.place.Place.{Place}
@@ -9,13 +9,13 @@ use Rattle.inst_command.specs.declared.outcome.State.TheVariants.{Unused, Decide
 use Rattle.inst_hub.specs.declared.teller.Teller.{Teller}
 use Rattle.inst_hub.specs.Calls.{knows_of}
 
--- the teller knows the place opened, with this outcome if the state has one
+-- The teller knows that the place is opened, and the outcome if the state has one.
 pub record IsOutcomeSeen (t : Teller) (pair : Place × State) : Type 0 where
   pub opened : knows_of t (about pair.0 Opened)
   pub used : pair.1 ≢ Unused
   pub outcome : (o : Outcome) → pair.1 ≡ IsDecided o → knows_of t (about pair.0 (Decided o))
 
--- each is seen by one of these tellers
+-- One of these tellers knows each state.
 abbrev pub AreSeenByOne : List Teller → List (Place × State) → Type 0
 AreSeenByOne tellers states = (i : ℕ) (pair : Place × State) → slice_get states i ≡ Some pair →
     (j : ℕ) × (t : Teller) × (slice_get tellers j ≡ Some t) × IsOutcomeSeen t pair

@@ -1,5 +1,5 @@
--- What a crew's teller did for the jobs that its hand took: each that fits was put to the hub, by
--- its own ask, once and in order. This hub's own choice.
+-- What a crew's teller did for the jobs that its hand took: each that fits was put to the hub, once
+-- and in order. A choice of this hub.
 use Rattle.std.specs.Prelude.{◌≡◌, List, [], ◌∷◌, ◌++◌, map, MatchBool, option_to_list}
 use Rattle.inst_command.specs.declared.place.Place.{Place}
 use Rattle.inst_command.specs.declared.ask.Ask.{Ask}
@@ -14,10 +14,10 @@ use Rattle.inst_hub.specs.declared.teller.Teller.{Teller}
 use Rattle.inst_hub.specs.Calls.{Calls, TellerKnowsMore}
 use Rattle.std.specs.Prelude.{Option}
 
--- From the teller t to u the hub was called with this ask
--- call: it was answered, on a history that the teller has seen
--- knows: afterwards the teller has lost nothing
--- noted: a state is kept where there is a ticket, for its place
+-- From teller t to u the hub was called with this ask.
+-- - call: it was answered, on a history that the teller has seen.
+-- - knows: afterwards the teller has lost no knowledge.
+-- - noted: a state of the place is kept if there is a ticket.
 pub record IsServed (hub : Hub) (ask : Ask) (t u : Teller) (states : List (Place
     × State)) : Type 0 where
   pub answer : Reply × Option Place
@@ -26,8 +26,8 @@ pub record IsServed (hub : Hub) (ask : Ask) (t u : Teller) (states : List (Place
   pub knows : TellerKnowsMore after u
   pub noted : map (λ pair. pair.0) states ≡ option_to_list answer.1
 
--- from the teller t to u each of these jobs was served that fits, in order, and nothing was done
--- for the others
+-- From teller t to u each of these jobs that fits was served, in order. Nothing was done for the
+-- others.
 abbrev pub ServesJob : Hub → List Job → Teller → Teller → List (Place × State) → Type 0
 ServesJob hub [] t u states = (u ≡ t) × (states ≡ [])
 ServesJob hub (job ∷ jobs) t u states =
@@ -36,9 +36,9 @@ ServesJob hub (job ∷ jobs) t u states =
     × MatchBool (ask_fits hub.settings job.ask) (IsServed hub job.ask t v first) ((v ≡ t)
     × (first ≡ [])) × ServesJob hub jobs v u rest
 
--- From the hand g to h and the teller t to u
--- taken, serves: the jobs that the hand took more were served
--- emptied: then the desk was empty at a moment, by what the hand did until then
+-- From hand g to h and teller t to u.
+-- - taken, serves: the jobs that the hand took were served.
+-- - emptied: then the desk was empty at a moment, given what the hand did until then.
 pub record HasServed (hub : Hub) (g h : Hand) (t u : Teller) (states : List (Place
     × State)) : Type 0 where
   pub jobs : List Job
@@ -46,8 +46,8 @@ pub record HasServed (hub : Hub) (g h : Hand) (t u : Teller) (states : List (Pla
   pub serves : ServesJob hub jobs t u states
   pub emptied : WasEmpty h
 
--- each hand has served with the teller at its place, and these are the states that they kept, one
--- after the other
+-- Each hand served with the teller at the same position. The states that they kept are in that
+-- order.
 abbrev pub AreServed : Hub → List Hand → List Hand → List Teller → List Teller →
     List (Place × State) → Type 0
 AreServed hub [] hands ts us states = states ≡ []

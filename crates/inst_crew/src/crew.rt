@@ -1,15 +1,18 @@
+//! What a crew returns.
 use inst_command::State;
 use inst_desk::Hand;
 use inst_hub::{Teller, Ticket};
 
-/// What a crew did, with all that it was given.
+/// What a crew did, with the hands and tellers that it was given.
 #[derive(Drop)]
 pub struct Crew {
-    /// How many jobs were put to the hub and answered, at most the largest number.
+    /// How many jobs were answered by the hub, at most 2^64 - 1.
     pub answered: u64,
-    /// What was seen of the transfer of each ticket, right after the call that gave it.
+    /// The state of the transfer of each ticket, read right after the call that returned the
+    /// ticket.
     pub states: Vec<(Ticket, State)>,
+    /// The hands, in the order of the team.
     pub hands: Vec<Hand>,
-    /// The sweeper's is the last, if there was one.
+    /// The tellers, in the order of the team. The sweeper's is last, if there was one.
     pub tellers: Vec<Teller>,
 }

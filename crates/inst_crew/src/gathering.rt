@@ -1,4 +1,4 @@
-//! What all workers of a crew did.
+//! Collecting what all workers did.
 ghost use Rattle.std.specs.Prelude.{◌≡◌, IfOk, List, map, Ok};
 ghost use Rattle.inst_crew.specs.declared.shift.Shift.{Shift};
 ghost use Rattle.inst_crew.specs.inner.Workers.{IsGathered};
@@ -7,7 +7,7 @@ use crate::crew::Crew;
 use crate::shift::Shift;
 use std::alloc::{AllocError, Global};
 
-/// All that the workers hand back, or the first want of memory.
+/// Collects all that the workers return, or the first allocation failure.
 pub(crate) fn gather(
     alloc: Global,
     results: Vec<Result<Shift, AllocError>>,

@@ -1,5 +1,5 @@
-//! Workers over a hub: each thread takes jobs from a desk and puts their asks to the hub until the
-//! desk is empty, while another may sweep a participant.
+//! Worker threads over a hub: each takes jobs from a desk and puts their asks to the hub until the
+//! desk is empty. Another thread can sweep a participant meanwhile.
 #![tactic(auto)]
 
 mod crew;

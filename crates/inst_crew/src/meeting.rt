@@ -1,24 +1,24 @@
-//! Where the threads of a crew begin together.
+//! The point at which the sweep and the workers' next jobs begin together.
 use crate::sweep::Sweep;
 use std::sync::atomic::{AtomicBool, AtomicU64, Ordering};
 use std::thread::yield_now;
 
-/// How often a thread looks for the others before it goes on without them.
+/// How often a thread looks for the others before it continues without them.
 const TURNS: u32 = 1_000_000;
 
-/// Has the sweeper begin once enough jobs are answered, and the workers go on once it begins. Each
-/// of them waits for a bounded time, since one thread may have to do the work of all.
+/// Makes the sweeper begin once enough jobs are answered, and the workers continue once it begins.
+/// Each wait is bounded, since one thread may have to do the work of all.
 #[derive(Drop)]
 pub(crate) struct Meeting {
     /// How many jobs are answered before the sweep.
     before: u64,
     answered: AtomicU64,
-    /// Whether no worker has to wait for the sweeper.
+    /// `true` if no worker has to wait for the sweeper.
     begun: AtomicBool,
 }
 
 impl Meeting {
-    /// No worker has to wait where there is no sweep.
+    /// Makes a meeting. No worker has to wait if there is no sweep.
     pub(crate) fn new(sweep: &Option<Sweep>) -> Meeting {
         let (before, begun) = match sweep {
             Some(sweep) => (sweep.after, false),
@@ -31,7 +31,7 @@ impl Meeting {
         }
     }
 
-    /// Whether as many jobs are answered as the sweeper waits for.
+    /// Returns `true` if as many jobs are answered as the sweeper waits for.
     fn is_time(&self) -> bool {
         self.answered.load(Ordering::SeqCst) >= self.before
     }
@@ -55,7 +55,7 @@ impl Meeting {
         self.answered.fetch_add(1, Ordering::SeqCst);
     }
 
-    /// Waits until it is time for the sweep, and lets the workers go on.
+    /// Waits until it is time for the sweep, and lets the workers continue.
     pub(crate) fn begin(&self) {
         for _ in 0..TURNS {
             if self.is_time() {

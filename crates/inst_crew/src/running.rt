@@ -1,4 +1,4 @@
-//! A crew, with its threads.
+//! Running a crew in threads.
 ghost use Rattle.std.specs.Prelude.{◌≡◌, ◌++◌, IfOk, IfSome, option_to_list};
 ghost use Rattle.inst_crew.specs.Crew.{MaySweep, IsSwept, IsTeamOf, HasWorked, AreBack};
 ghost use Rattle.inst_crew.specs.inner.Workers.{HasHandAndTeller, AreReady, HasEndedShift, AllWork};
@@ -16,7 +16,7 @@ use std::alloc::{AllocError, Global};
 use std::sync::Wait;
 use std::thread::{self, Threads};
 
-/// The workers at work, each in a thread of its own.
+/// Runs the workers, each in a thread.
 fn work_all<R: Threads + Wait + Sync, G: Gate + Sync>(
     rt: &R,
     alloc: Global,
@@ -39,7 +39,7 @@ fn work_all<R: Threads + Wait + Sync, G: Gate + Sync>(
     )
 }
 
-/// The workers at work, and the sweeper beside them.
+/// Runs the workers, and the sweeper in addition.
 fn start<R: Threads + Wait + Sync, G: Gate + Sync>(
     rt: &R,
     alloc: Global,
@@ -77,7 +77,7 @@ fn start<R: Threads + Wait + Sync, G: Gate + Sync>(
     )
 }
 
-/// The crew with the sweeper's teller behind the others, if there is one.
+/// Appends the sweeper's teller to the crew's, if there is one.
 fn with_sweeper(crew: Crew, teller: Option<Teller>) -> Result<Crew, AllocError>
     ensures tellers { IfOk result (λ all.
         all.tellers.items ≡ crew.tellers.items ++ option_to_list teller) }
@@ -92,12 +92,19 @@ fn with_sweeper(crew: Crew, teller: Option<Teller>) -> Result<Crew, AllocError>
     Ok(crew)
 }
 
-/// Starts a thread for each hand, with the teller at its place, and one for the sweep, if there is
-/// one, and waits until all have ended. Each hand takes jobs and puts them to the hub until the
-/// desk is empty; a job whose ask doesn't fit the hub is taken and not put to it. After each answer
-/// with a ticket the thread peeks, and keeps what it saw. All hands and tellers come back, each at
-/// its place and the sweeper's last. Where memory is refused they are gone. Where no thread can be
-/// started, its work is done by one that runs.
+/// Runs a crew: a thread for each hand, with the teller at the same position, and one for the
+/// sweep, if there is one. Returns when all have ended.
+///
+/// Each thread takes jobs and puts their asks to the hub until the desk is empty. A job whose ask
+/// doesn't fit the hub is taken and skipped. After each answer with a ticket the thread peeks and
+/// keeps the state. If a thread can't be started, a running one does its work.
+///
+/// Blocks until all threads have ended; they wait for locks.
+///
+/// # Errors
+///
+/// [`AllocError`] if a call or a list fails to allocate. The hands and tellers are dropped, so the
+/// hub can't be closed; what was done before is kept in it.
 pub fn run_crew<R: Threads + Wait + Sync, G: Gate + Sync>(
     rt: &R,
     alloc: Global,

@@ -1,4 +1,4 @@
-//! What a worker of a crew does.
+//! The work of one thread.
 ghost use Rattle.std.specs.Prelude.{◌≡◌, ◌+◌, ◌^◌, ◌-◌, ◌∷◌, ◌++◌, min, true, false, [], Ok, IfOk};
 ghost use Rattle.std.specs.Prelude.{OnOk};
 ghost use Rattle.inst_command.specs.Ask.{ask_fits};
@@ -32,7 +32,7 @@ pub(crate) struct Shift {
 }
 
 impl Shift {
-    /// Nothing was done yet.
+    /// Begins: nothing was done yet.
     fn begin(alloc: Global, worker: Worker) -> Shift
         ensures hand { result.hand ≡ worker.hand }
         ensures teller { result.teller ≡ worker.teller }
@@ -48,7 +48,7 @@ impl Shift {
         }
     }
 
-    /// Peeks at the ticket's transfer and keeps what it sees.
+    /// Peeks at the ticket's transfer and keeps the state.
     fn note(&mut self, ticket: Ticket) -> Result<(), AllocError>
         requires opened { knows_of self.old.teller (about ticket Opened) }
         requires seen { AreSeen self.old.teller self.old.states.items }
@@ -65,7 +65,7 @@ impl Shift {
         Ok(self.states.push((ticket, state))?)
     }
 
-    /// Puts an ask to the hub, and peeks where there is a ticket.
+    /// Puts an ask to the hub, and peeks if there is a ticket.
     fn serve<R: Wait, G: Gate>(
         &mut self,
         rt: &R,
@@ -91,8 +91,8 @@ impl Shift {
         }
     }
 
-    /// Takes a job, if there is one, and puts it to the hub, if its ask fits: whether there was
-    /// one.
+    /// Takes a job, if there is one, and puts it to the hub if its ask fits. Returns `true` if
+    /// there was a job.
     fn turn<R: Wait, G: Gate>(
         &mut self,
         rt: &R,
@@ -119,8 +119,8 @@ impl Shift {
     }
 }
 
-/// Takes jobs and puts them to the hub until the desk is empty. A job whose ask doesn't fit the hub
-/// is not put to it.
+/// Takes jobs and puts them to the hub until the desk is empty. Skips a job whose ask doesn't fit
+/// the hub.
 pub(crate) fn work<R: Wait, G: Gate>(
     rt: &R,
     alloc: Global,

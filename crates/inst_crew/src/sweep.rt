@@ -1,4 +1,4 @@
-//! The thread that sweeps beside a crew.
+//! The thread that sweeps while a crew works.
 ghost use Rattle.std.specs.Prelude.{IfOk, IfSome};
 ghost use Rattle.inst_crew.specs.Crew.{MaySweep, IsSwept};
 
@@ -8,18 +8,23 @@ use inst_hub::{Hub, Teller};
 use std::alloc::AllocError;
 use std::sync::Wait;
 
-/// One thread more, which sweeps the participant `who` once at this reading. It begins when `after`
-/// jobs are answered, and the workers begin their next jobs together with it. If so many are never
-/// answered, it sweeps after a while.
+/// One more thread, which sweeps a participant once.
+///
+/// It begins when `after` jobs are answered, and the workers begin their next jobs together with
+/// it. If so many are never answered, it sweeps after a bounded wait.
 #[derive(Drop)]
 pub struct Sweep {
+    /// The thread's teller.
     pub teller: Teller,
+    /// The participant.
     pub who: u8,
+    /// The clock reading.
     pub at: Moment,
+    /// How many jobs are answered before the sweep.
     pub after: u64,
 }
 
-/// Sweeps where that is wanted.
+/// Sweeps, if there is a sweep.
 pub(crate) fn sweep_if<R: Wait>(
     rt: &R,
     hub: &Hub,

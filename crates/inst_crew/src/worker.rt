@@ -7,14 +7,14 @@ use inst_desk::Hand;
 use inst_hub::Teller;
 use std::alloc::{AllocError, Global};
 
-/// A thread's hand and teller.
+/// One thread's hand and teller.
 #[derive(Drop)]
 pub(crate) struct Worker {
     pub(crate) hand: Hand,
     pub(crate) teller: Teller,
 }
 
-/// Who works in which thread of a crew.
+/// The workers and the sweep of a crew.
 #[derive(Drop)]
 pub(crate) struct Roster {
     /// One for each hand.
@@ -22,7 +22,7 @@ pub(crate) struct Roster {
     pub(crate) sweep: Option<Sweep>,
 }
 
-/// A worker for each hand, with the teller at its place.
+/// Makes a worker of each hand, with the teller at the same position.
 pub(crate) fn workers(
     alloc: Global,
     hands: Vec<Hand>,

@@ -1,3 +1,4 @@
+//! Workplaces.
 use inst_desk::Desk;
 use inst_hub::Hub;
 
@@ -8,6 +9,6 @@ pub struct Workplace<'a, G> {
     pub hub: &'a Hub,
     /// The desk that they take jobs from.
     pub desk: &'a Desk,
-    /// It is passed once in each call.
+    /// The gate, passed once in each call.
     pub gate: &'a G,
 }

@@ -1,13 +1,13 @@
+//! What a hand did, for contracts.
 use crate::job::Job;
 use std::collections::LinkedList;
 
-// No value of it is made: contracts alone speak of it.
-/// What a hand did at its desk.
+/// What a hand did at its desk. Only contracts use it; it has no value at run time.
 pub struct Account {
-    /// Its parts of the desk: all hands together have 16.
+    /// Its parts of the desk. All hands together have 16.
     pub parts: u64,
-    /// The jobs that it put, the oldest first.
+    /// The jobs that it put, oldest first.
     pub put: LinkedList<Job>,
-    /// The jobs that it took, the oldest first.
+    /// The jobs that it took, oldest first.
     pub taken: LinkedList<Job>,
 }

@@ -1,3 +1,4 @@
+//! The desk.
 ghost use Rattle.std.specs.Prelude.{◌≡◌, [], vec_capacity};
 ghost use Rattle.crossbeam_queue.specs.Passes.{ruled_capacity};
 
@@ -8,8 +9,8 @@ mod using;
 use crate::job::Job;
 use crate::rule::Queue;
 
-/// A desk with room for a fixed number of jobs, which threads share by reference, each with a hand
-/// of its own.
+/// A bounded queue of jobs. Threads share it by reference, each with its own [`Hand`]. Only
+/// [`open`](Desk::open) allocates.
 ///
 /// ```text
 /// let (desk, mut hands) = Desk::open(alloc, 2, 1)?;

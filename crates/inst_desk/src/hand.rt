@@ -1,11 +1,11 @@
+//! Hands.
 ghost use Rattle.std.specs.Prelude.{◌≡◌};
 ghost use Rattle.crossbeam_queue.specs.Passes.{view};
 ghost use Rattle.inst_desk.specs.Account.{counted};
 
 use crate::rule::DeskPass;
 
-/// Who puts jobs on a desk and takes them, one in each thread. Contracts see of it the jobs that it
-/// put and those that it took.
+/// One thread's access to a desk. Contracts see the jobs that it put and those that it took.
 #[derive(Drop)]
 pub struct Hand {
     pub(crate) seat: DeskPass,

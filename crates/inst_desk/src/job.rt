@@ -1,9 +1,11 @@
+//! Jobs.
 use inst_command::Ask;
 
-/// An ask that is to be put to a hub.
+/// An ask for a hub, with a number.
 #[derive(Clone, Copy, Debug)]
 pub struct Job {
-    /// What who put it calls it by. The desk doesn't read it.
+    /// Chosen by the thread that puts the job. The desk doesn't read it.
     pub number: u32,
+    /// The ask.
     pub ask: Ask,
 }

@@ -1,5 +1,4 @@
-//! A desk where jobs for a hub wait until a hand takes them: many threads use it at once, each with
-//! a hand of its own, and no job is lost or taken twice.
+//! A bounded queue of jobs for a hub, which many threads share, each with its own hand.
 #![tactic(auto)]
 
 mod account;

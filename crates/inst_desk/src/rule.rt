@@ -1,11 +1,11 @@
-//! The rule of a desk, and what each step tells the hand that takes it.
+//! The rule of a desk. Each step's contract says what the hand that takes it learns.
 use crate::account::Account;
 use crate::job::Job;
 use crossbeam_queue::protocol::{Join, Lesson, Outcome, Protocol, Split};
 use crossbeam_queue::{Pass, RuledArrayQueue};
 use std::alloc::Global;
 
-/// No job is lost, and none is taken twice.
+/// The rule that no job is lost and none is taken twice.
 pub struct Tallied;
 
 impl Protocol<Job, Account> for Tallied {
@@ -17,13 +17,13 @@ impl Protocol<Job, Account> for Tallied {
     ghost first = { first_account };
 }
 
-/// The queue that the jobs lie in.
+/// The queue of jobs.
 pub(crate) type Queue = RuledArrayQueue<Job, Account, Tallied, Global>;
 
-/// What a hand has of it.
+/// A hand's access to the queue.
 pub(crate) type DeskPass = Pass<Job, Account>;
 
-/// A job is put.
+/// The step that puts a job.
 pub(crate) struct Putting;
 
 impl Outcome<Job, Account> for Putting {
@@ -39,7 +39,7 @@ impl Lesson<Job, Account> for Putting {
     ghost fact = { MayLie };
 }
 
-/// A job is taken.
+/// The step that takes a job.
 pub(crate) struct Taking;
 
 impl Outcome<Job, Account> for Taking {
@@ -56,7 +56,7 @@ impl Lesson<Job, Account> for Taking {
     ghost fact = { MayLie };
 }
 
-/// A new hand gets one part.
+/// The split that gives a new hand one part.
 pub(crate) struct Dealing;
 
 impl Split<Account> for Dealing {
@@ -67,7 +67,7 @@ impl Split<Account> for Dealing {
     ghost right = { one_part };
 }
 
-/// One hand did what two hands did, with the parts of both.
+/// The join of two hands into one with the parts of both.
 pub(crate) struct Gathering;
 
 impl Join<Account> for Gathering {

@@ -1,6 +1,6 @@
--- What a drill has done: openings of one hub, each from the books of the one before. Each opening's
--- books are those of a run of the hub in one thread, so all that is proved of runs holds of what
--- the threads did. Drills are this hub's own choice.
+-- What a drill has done: openings of one hub, each from the books of the one before. The books of
+-- each opening are those of a run in one thread, so all that is proved of runs holds of these
+-- books. Drills are a choice of this hub.
 use Rattle.std.specs.Prelude.{◌≡◌, ◌⊎◌, ℕ, ◌<◌, List, [], ◌∷◌, Option, Some, None, length, map}
 use Rattle.std.specs.Prelude.{slice_get}
 use Rattle.std.specs.Io.KnownBytes.{Appends}
@@ -18,43 +18,45 @@ use Rattle.inst_drill.specs.declared.error.DrillError.{DrillError}
 use Rattle.inst_drill.specs.declared.error.DrillError.TheVariants as error
 use Rattle.inst_drill.specs.Report.{IsReportOf, reports_text}
 
--- one opening: what it began from, the books that it left, steps that explain them, and its report
+-- One opening: what it began from, the books that it left, steps that explain them, and its report.
 pub record DrillOpening : Type 0 where
   pub from : Opening
   pub closed : ClosedHub
   pub steps : List Step
   pub report : Report
 
+-- An opening with these parts.
 abbrev pub drill_opening : Opening → ClosedHub → List Step → Report → DrillOpening
 drill_opening from closed steps report =
     record { from = from; closed = closed; steps = steps; report = report }
 
--- explained: a hub in one thread that runs the steps leaves the same books, and that run keeps the
--- headline
+-- One opening was drilled.
+-- - explained: a hub in one thread that runs the steps leaves the same books, and that run keeps
+-- all that is proved of runs.
 pub record IsDrilled (s : HubSettings) (x : DrillOpening) : Type 0 where
   pub settings : x.closed.settings ≡ s
   pub opened : HaveOpened x.from x.closed
   pub explained : ExplainsBooks s x.from x.steps (histories x.closed.books)
   pub report : IsReportOf x.closed x.report
 
--- what the opening after these begins from, where they began from `O`
+-- What the opening after these begins from, if they began from `O`.
 abbrev pub opening_after_drill : Opening → List DrillOpening → Opening
 opening_after_drill O [] = O
 opening_after_drill O (x ∷ xs) = opening_after_drill (FromBooks (histories x.closed.books)) xs
 
--- each opening is from the books of the one before, and the first is from `O`
+-- Each opening is from the books of the one before, and the first is from `O`.
 abbrev pub AreDrilled : HubSettings → Opening → List DrillOpening → Type 0
 AreDrilled s O [] = Unit {0}
 AreDrilled s O (x ∷ xs) =
     (x.from ≡ O) × IsDrilled s x × AreDrilled s (FromBooks (histories x.closed.books)) xs
 
--- the last of the openings
+-- The last of the openings.
 abbrev pub last_of : List DrillOpening → Option DrillOpening
 last_of [] = None
 last_of (x ∷ []) = Some x
 last_of (x ∷ y ∷ xs) = last_of (y ∷ xs)
 
--- the last opening left these books, and these steps explain those of the first
+-- The last opening left these books, and these steps explain those of the first.
 pub record IsLastBooks (done : List DrillOpening) (books : ClosedHub) (steps : List Step) : Type 0
   where
     pub last : DrillOpening
@@ -64,12 +66,12 @@ pub record IsLastBooks (done : List DrillOpening) (books : ClosedHub) (steps : L
     pub is_first : slice_get done 0 ≡ Some first
     pub steps_are : first.steps ≡ steps
 
--- what is written of openings
+-- What is written of openings.
 abbrev pub openings_text : List DrillOpening → List ℕ
 openings_text done = reports_text (map (λ x. x.report) done)
 
--- so many openings were drilled, the first one with nothing, this is what they left, and the
--- reports were written
+-- So many openings were drilled, the first one empty; this is what they left, and the reports were
+-- written.
 pub record HasDrilledAll (s : HubSettings) (openings : ℕ) (held held' : Option (List ℕ))
     (left : DrillResult) : Type 0 where
   pub done : List DrillOpening
@@ -79,7 +81,7 @@ pub record HasDrilledAll (s : HubSettings) (openings : ℕ) (held held' : Option
   pub left_is : IsLastBooks done left.books left.steps.items
   pub written : Appends held held' (openings_text done)
 
--- fewer openings were drilled, and their reports were written
+-- Fewer openings were drilled, and their reports were written.
 pub record HasDrilledFewer (s : HubSettings) (openings : ℕ) (held held' : Option (List ℕ)) : Type 0
   where
     pub done : List DrillOpening
@@ -87,7 +89,7 @@ pub record HasDrilledFewer (s : HubSettings) (openings : ℕ) (held held' : Opti
     pub drilled : AreDrilled s First done
     pub written : Appends held held' (openings_text done)
 
--- the errors that end a drill
+-- The errors that end a drill.
 abbrev pub EndsADrill : DrillError → Type 0
 EndsADrill (error.Fault fault) = (fault ≡ BadSettings) ⊎ ((fault ≡ Memory) ⊎ (fault ≡ WriteFault))
 EndsADrill error.NoInterleaving = Unit {0}

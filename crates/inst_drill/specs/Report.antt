@@ -1,5 +1,5 @@
--- What a drill reports of an opening, by the books that the opening left. That it reports this is
--- this hub's own choice.
+-- What a drill reports of an opening, by the books that it left. These reports are a choice of this
+-- hub.
 use Rattle.std.specs.Prelude.{◌≡◌, ◌+◌, ℕ, pos, Bool, true, false, List, [], ◌∷◌, ◌++◌, codes}
 use Rattle.std.specs.Fmt.{decimal}
 use Rattle.std.specs.List.{count_by}
@@ -15,24 +15,24 @@ use Rattle.inst_participant.specs.Together.{histories}
 use Rattle.inst_close.specs.ClosedHub.{ClosedHub}
 use Rattle.inst_drill.specs.declared.report.Report.{Report}
 
--- whether both outcomes are acceptances, or both are time-outs
+-- True if both outcomes are acceptances, or both are time-outs.
 abbrev pub is_same_end : Outcome → Outcome → Bool
 is_same_end Accepted Accepted = true
 is_same_end TimedOut TimedOut = true
 is_same_end _ _ = false
 
--- whether the event books such an outcome
+-- True if the event books such an outcome.
 abbrev pub books_end : Outcome → Event → Bool
 books_end outcome (Booked from id other) = is_same_end outcome other
 books_end outcome _ = false
 
--- how many transfers a history has booked with this outcome since its last opening
+-- How many transfers a history has booked with this outcome since its last opening.
 abbrev pub ended : Outcome → List Event → ℕ
 ended outcome J = count_by (books_end outcome) (current J)
 
--- The report is that of these books: they have each outcome that a thread saw, their positions sum
--- to the net funding, and participant 0, whose transfers these are, has booked so many of them
--- accepted and so many timed out
+-- The report is that of these books. Their positions sum to the net funding, no disagreement is
+-- reported, and participant 0, the originator, has booked so many transfers as accepted and so many
+-- as timed out since the opening. No clause ties the counts of jobs and answers to anything.
 pub record IsReportOf (closed : ClosedHub) (report : Report) : Type 0 where
   pub disagree : report.disagree ≡ 0
   pub sum : report.sum
@@ -43,27 +43,30 @@ pub record IsReportOf (closed : ClosedHub) (report : Report) : Type 0 where
   pub timed_out : report.timed_out ≡ ended TimedOut (histories closed.books 0)
   pub decided : report.accepted + report.timed_out ≡ report.decided
 
--- the four lines of an opening
+-- The line of jobs and answers.
 abbrev pub calls_text : Report → List ℕ
 calls_text r =
     codes "jobs " ++ decimal r.jobs ++ codes " answered " ++ decimal r.answered ++ 10 ∷ []
 
+-- The lines of decided transfers and of disagreements.
 abbrev pub outcomes_text : Report → List ℕ
 outcomes_text r =
     codes "decided " ++ decimal r.decided ++ 10 ∷ codes "disagree " ++ decimal r.disagree ++ 10 ∷ []
 
+-- The line of net funding and positions.
 abbrev pub money_text : Report → List ℕ
 money_text r = codes "net " ++ decimal r.net ++ codes " sum " ++ decimal r.sum ++ 10 ∷ []
 
+-- The four lines of an opening.
 abbrev pub report_text : Report → List ℕ
 report_text r = calls_text r ++ outcomes_text r ++ money_text r
 
--- the line of how the transfers of an opening ended
+-- The line with the counts of an opening.
 abbrev pub ends_text : Report → List ℕ
 ends_text r =
     codes "accepted " ++ decimal r.accepted ++ codes " timed_out " ++ decimal r.timed_out ++ 10 ∷ []
 
--- the four lines of all openings
+-- The four lines of all openings.
 abbrev pub reports_text : List Report → List ℕ
 reports_text [] = []
 reports_text (r ∷ rs) = report_text r ++ reports_text rs

@@ -1,4 +1,4 @@
-//! How the transfers of an opening ended, and whether the books have what was seen of them.
+//! Counting how the transfers of an opening ended, and outcomes that the books don't have.
 ghost use Rattle.std.specs.Prelude.{◌≡◌, ◌+◌, ◌<◌, ◌≤◌, true, false, length};
 ghost use Rattle.inst_command.specs.declared.outcome.Outcome.TheVariants.{Accepted, TimedOut};
 ghost use Rattle.inst_participant.specs.Together.{histories};
@@ -11,6 +11,7 @@ use inst_command::{Outcome, State};
 use inst_hub::Ticket;
 use inst_journal::Event;
 
+/// Returns `true` if the event is an opening.
 fn is_opening(event: &Event) -> bool
     ensures { result ≡ is_opening event.now }
 {
@@ -69,7 +70,7 @@ pub(crate) fn ends(events: &[Event]) -> (u64, u64)
     counts
 }
 
-/// Whether an outcome was seen that the books don't tell.
+/// Returns `true` if this state is an outcome that the books don't have.
 fn contradicts(books: &Books, ticket: &Ticket, seen: State) -> bool
     ensures yes { result ≡ true → Contradicts (histories books.now.books) (ticket.now, seen) }
     ensures no { result ≡ false → ¬ Contradicts (histories books.now.books) (ticket.now, seen) }
@@ -80,7 +81,7 @@ fn contradicts(books: &Books, ticket: &Ticket, seen: State) -> bool
     }
 }
 
-/// How many outcomes were seen that the books don't tell.
+/// Counts the outcomes in these states that the books don't have.
 pub(crate) fn contradicted(books: &Books, states: &[(Ticket, State)]) -> u64
     ensures { NoneContradicts (histories books.now.books) states.now → result ≡ 0 }
 {

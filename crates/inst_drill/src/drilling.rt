@@ -20,7 +20,7 @@ use std::io::Write;
 use std::sync::Wait;
 use std::thread::Threads;
 
-/// Writes what was done in an opening.
+/// Writes the four lines of an opening.
 fn tell<W: Write>(alloc: Global, report: &Report, writer: &mut W) -> Result<(), Fault>
     ensures ok { OnOk result
         (Appends (W.contents writer.old) (W.contents writer.new) (report_text report.now)) }
@@ -34,7 +34,7 @@ fn tell<W: Write>(alloc: Global, report: &Report, writer: &mut W) -> Result<(), 
     writer.flush().map_err(|_| Fault::WriteFault)
 }
 
-/// Writes how the transfers of an opening ended.
+/// Writes the line with the counts of an opening.
 fn tell_ends<P: Write>(alloc: Global, report: &Report, progress: &mut P) -> Result<(), Fault>
     ensures { OnOk result
         (Appends (P.contents progress.old) (P.contents progress.new) (ends_text report.now)) }
@@ -45,7 +45,7 @@ fn tell_ends<P: Write>(alloc: Global, report: &Report, progress: &mut P) -> Resu
         .map_err(|_| Fault::WriteFault)
 }
 
-/// Returns the steps of this opening if it is the first, or else those before.
+/// Returns the steps of this opening if it is the first, else those before.
 fn if_first(opening: u8, steps: Vec<Step>, before: Vec<Step>) -> Vec<Step>
     ensures first { opening ≡ 1 → result.items ≡ steps.items }
     ensures later { opening ≢ 1 → result.items ≡ before.items }
@@ -53,22 +53,27 @@ fn if_first(opening: u8, steps: Vec<Step>, before: Vec<Step>) -> Vec<Step>
     if opening == 1 { steps } else { before }
 }
 
-/// Opens a hub so often, 1 to 10 times, the first time with nothing and then from the books of the
-/// opening before. In each opening participant 0 is funded and submits so many transfers of 100
-/// cents to participant 1 by two threads. Two threads confirm them at the last moment in time; when
-/// half of them are confirmed, a third one begins to sweep at their deadline beside them, so that
-/// the others are accepted or time out as the threads race. Then the hub is closed, and steps of a
-/// hub in one thread are rebuilt that leave the same books. `writer` gets the four lines of a
-/// `Report`, and `progress` the line `accepted A timed_out T`. If the request is watched,
-/// `progress` gets a line also as an opening begins; what it doesn't take is lost. Returns the
-/// books of the last opening, and the steps of the first one.
+/// Runs a drill: opens a hub 1 to 10 times, first empty and then from the books of the opening
+/// before, and lets threads race in each opening.
+///
+/// In each opening participant 0 is funded and submits its transfers of 100 cents to participant 1,
+/// through two threads. Two threads confirm them at the last moment in time. Once half of them are
+/// confirmed, a third thread begins to sweep participant 0 at their deadline, so that the others
+/// are accepted or time out. Then it closes the hub and looks for steps of a hub in one thread that
+/// leave the same books.
+///
+/// `writer` gets the four lines of each [`Report`], and `progress` one line of counts,
+/// `accepted A timed_out T`. If the request is watched, `progress` also gets a line as an opening
+/// begins. What `progress` doesn't take is lost. Returns the books of the last opening and the
+/// steps of the first. Blocks while threads wait for locks.
 ///
 /// # Errors
 ///
-/// `BadSettings` if there are fewer than two participants, no transfer or more of them than places,
-/// more cents than the ceiling, or openings that are not 1 to 10. `Memory` if an allocation fails,
-/// and `NoInterleaving` if no such steps are found: `writer` then has the lines of the openings
-/// before. `WriteFault` if `writer` fails.
+/// - `BadSettings` exactly if there are fewer than two participants, no transfer or more of them
+/// than places, more cents than the ceiling, or not 1 to 10 openings. Nothing was written.
+/// - `Memory` if an allocation fails, and `NoInterleaving` if no such steps are found. `writer` has
+/// the lines of the openings before.
+/// - `WriteFault` if `writer` fails.
 pub fn drill<R: Threads + Wait + Sync, G: Gate + Sync, W: Write, P: Write>(
     rt: &R,
     alloc: Global,

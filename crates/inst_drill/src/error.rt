@@ -1,3 +1,4 @@
+//! Errors of a drill.
 ghost use Rattle.std.specs.Prelude.{◌≡◌};
 
 use inst_base::Fault;
@@ -10,8 +11,8 @@ pub enum DrillError {
     /// `BadSettings`, `Memory` or `WriteFault`.
     #[error("{}", .0.name())]
     Fault(Fault),
-    /// No run of the hub in one thread was found that leaves the books of an opening.
-    #[error("no run of the hub in one thread was found that leaves the books")]
+    /// No run of a hub in one thread was found that leaves the books of an opening.
+    #[error("no single-threaded run was found that leaves the books of an opening")]
     NoInterleaving,
 }
 

@@ -1,4 +1,4 @@
-//! Steps of the hub in one thread that explain what the threads did.
+//! Steps of a hub in one thread that explain what the threads did.
 ghost use Rattle.std.specs.Prelude.{IfOk, IfSome};
 ghost use Rattle.inst_order.specs.Order.{ExplainsBooks};
 ghost use Rattle.inst_participant.specs.Together.{histories};
@@ -13,13 +13,12 @@ use std::alloc::{AllocError, Global};
 pub struct DrillResult {
     /// The books of its last opening.
     pub books: Books,
-    /// Steps of a hub in one thread that opens for the first time, which leave the books of the
-    /// first opening.
+    /// Steps of a hub in one thread that leave the books of the first opening.
     pub steps: Vec<Step>,
 }
 
-/// Returns steps of a hub in one thread, opened from the books `before` or for the first time, that
-/// leave these books, if some are found.
+/// Returns steps of a hub in one thread that leave these books, if it finds some. That hub opens
+/// from the books `before`, or for the first time.
 pub(crate) fn explain(
     alloc: Global,
     books: &Books,

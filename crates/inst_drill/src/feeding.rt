@@ -1,4 +1,4 @@
-//! How jobs come onto the desk.
+//! Putting jobs on the desk.
 ghost use Rattle.std.specs.Prelude.{◌≡◌, OnOk};
 ghost use Rattle.inst_desk.specs.Desk.{IsHandOf, hand_parts};
 
@@ -11,11 +11,13 @@ use std::sync::Wait;
 /// What the two participants do in an opening, one after the other.
 #[derive(Clone, Copy)]
 pub(crate) enum Phase {
+    /// Participant 0 submits.
     Submitting,
+    /// Participant 1 confirms.
     Confirming,
 }
 
-/// The asks of a phase of an opening, the first of which is 1.
+/// The asks of a phase of an opening. Openings count from 1.
 #[derive(Clone, Copy)]
 pub(crate) struct Asks<'a> {
     pub(crate) plan: &'a Plan,
@@ -24,7 +26,7 @@ pub(crate) struct Asks<'a> {
 }
 
 impl<'a> Asks<'a> {
-    /// The ask about the transfer of this number.
+    /// Returns the ask about the transfer with this number.
     fn ask(&self, alloc: Global, number: u32) -> Result<Ask, AllocError> {
         match self.phase {
             Phase::Submitting => self.plan.submission(alloc, number),
@@ -33,7 +35,7 @@ impl<'a> Asks<'a> {
     }
 }
 
-/// Puts a job for each of these asks. The desk has room for them.
+/// Puts a job on the desk for each of these asks. The desk has capacity for them.
 pub(crate) fn feed<R: Wait>(
     rt: &R,
     alloc: Global,

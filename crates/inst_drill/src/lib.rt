@@ -1,4 +1,4 @@
-//! A drill: a hub under threads, from its opening to its books, as often as is wanted.
+//! Drills: a hub on many threads, from its opening to its books, several times in a row.
 #![tactic(auto)]
 
 mod counting;

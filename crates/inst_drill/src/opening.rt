@@ -34,14 +34,14 @@ struct Worked {
     jobs: u64,
     /// How many of them were answered.
     answered: u64,
-    /// What was seen of the transfers as they were submitted.
+    /// The states of the transfers as they were submitted.
     submitted: Vec<(Ticket, State)>,
-    /// And as they were confirmed.
+    /// The states as they were confirmed.
     confirmed: Vec<(Ticket, State)>,
 }
 
-/// The hub of the next opening from these books, or of the first one where there are none. `Memory`
-/// is the only fault.
+/// Opens the next hub from these books, or the first one if there are none. `Memory` is the only
+/// fault.
 fn open(
     alloc: Global,
     settings: &Settings,
@@ -56,7 +56,7 @@ fn open(
 {
     match books {
         Some(books) => {
-            // No effect: that books can be opened from rests on what they are.
+            // Has no effect: its contract tells the verifier that the books can be opened from.
             let _settings = books.settings();
             books.open_next(alloc, STAFF)
         }
@@ -64,8 +64,8 @@ fn open(
     }
 }
 
-/// Participant 0 is funded and submits, participant 1 confirms beside the sweeper, and both are
-/// swept.
+/// Funds participant 0 and lets it submit, lets participant 1 confirm during a sweep, and sweeps
+/// both.
 fn work<R: Threads + Wait + Sync, G: Gate + Sync>(
     rt: &R,
     alloc: Global,
@@ -106,13 +106,13 @@ fn work<R: Threads + Wait + Sync, G: Gate + Sync>(
     })
 }
 
-/// Opens a hub from the books `before`, or for the first time where there are none, does what the
+/// Opens a hub from the books `before`, or for the first time if there are none, does what the
 /// round says, and closes it. Returns its report and what it leaves.
 ///
 /// # Errors
 ///
-/// `Memory`, and `NoInterleaving` if no run of the hub in one thread is found that leaves these
-/// books.
+/// `Memory` if an allocation fails, and `NoInterleaving` if no run of a hub in one thread is found
+/// that leaves these books. The hub is dropped.
 pub(crate) fn run_opening<R: Threads + Wait + Sync, G: Gate + Sync>(
     rt: &R,
     alloc: Global,

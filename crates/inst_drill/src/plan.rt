@@ -1,5 +1,5 @@
-//! What a drill asks of a hub: participant 0 is funded and submits transfers to participant 1,
-//! which confirms them.
+//! The commands of a drill: participant 0 is funded and submits transfers to participant 1, which
+//! confirms them.
 ghost use Rattle.std.specs.Prelude.{◌≡◌, ◌≤◌, ◌++◌, true, length, IfOk, IsOkUnless, Err};
 ghost use Rattle.std.specs.List.{list_all};
 ghost use Rattle.std.specs.Fmt.{decimal};
@@ -18,10 +18,10 @@ use inst_hub::Teller;
 use inst_settings::Settings;
 use std::alloc::{AllocError, Global};
 
-/// What each transfer is over, in cents.
+/// The amount of each transfer, in cents.
 const CENTS: u64 = 100;
 
-/// How often a drill opens its hub at most.
+/// The most openings of a drill.
 pub const MOST_DRILL_OPENINGS: u8 = 10;
 
 /// What a drill does in each opening.
@@ -29,14 +29,15 @@ pub const MOST_DRILL_OPENINGS: u8 = 10;
 pub(crate) struct Plan {
     /// How many transfers there are.
     pub(crate) transfers: u16,
-    /// What all of them are over.
+    /// The amount of all of them, in cents.
     pub(crate) funding: Cents,
-    /// When they are confirmed: the last moment that is in time.
+    /// When they are confirmed: the last moment in time.
     pub(crate) last: Moment,
-    /// When they are due.
+    /// Their deadline.
     pub(crate) deadline: Moment,
 }
 
+/// Returns an amount that is known to be valid.
 fn cents(amount: u64) -> Cents
     requires { (1 ≤ amount) × (amount ≤ MOST_CENTS) }
     ensures { result ≡ amount }
@@ -47,6 +48,7 @@ fn cents(amount: u64) -> Cents
     cents
 }
 
+/// Returns a moment that is known to be valid.
 fn moment(past_base: u64) -> Moment
     requires { past_base ≤ LAST }
     ensures { result ≡ past_base }
@@ -57,7 +59,7 @@ fn moment(past_base: u64) -> Moment
     moment
 }
 
-/// The letter and the number.
+/// Returns the identifier of the letter and the number.
 fn name(alloc: Global, letter: &str, number: u32) -> Result<Ident, AllocError>
     requires { (length letter.now ≡ 1) × (list_all is_latin letter.now ≡ true) }
     ensures { IfOk result (λ id. id ≡ letter.now ++ decimal number) }
@@ -71,8 +73,11 @@ fn name(alloc: Global, letter: &str, number: u32) -> Result<Ident, AllocError>
 }
 
 impl Plan {
-    /// The plan of so many transfers in each of so many openings. `BadSettings` where a hub of
-    /// these settings can't do it.
+    /// Makes the plan of so many transfers in each of so many openings.
+    ///
+    /// # Errors
+    ///
+    /// `BadSettings` if a hub with these settings can't do it.
     pub(crate) fn of(settings: &Settings, transfers: u16, openings: u8) -> Result<Plan, Fault>
         ensures ok { IfOk result (λ plan. IsPlan settings.now plan × (plan.transfers ≡ transfers)) }
         ensures may { IfOk result (λ plan. MayDrill settings.now transfers openings) }
@@ -99,7 +104,7 @@ impl Plan {
         })
     }
 
-    /// Participant 0 funds its position for all transfers of this opening.
+    /// Returns the ask by which participant 0 funds its position for all transfers of this opening.
     pub(crate) fn funding(&self, alloc: Global, opening: u8) -> Result<Ask, AllocError>
         ensures { IfOk result (λ ask. (s : HubSettings) → IsPlan s self.now →
             ask_fits s ask ≡ true) }
@@ -115,7 +120,7 @@ impl Plan {
         })
     }
 
-    /// Participant 0 submits the transfer of this number.
+    /// Returns the ask by which participant 0 submits the transfer with this number.
     pub(crate) fn submission(&self, alloc: Global, number: u32) -> Result<Ask, AllocError>
         ensures { IfOk result (λ ask. ask ≡ submission_of number) }
     {
@@ -132,7 +137,7 @@ impl Plan {
         })
     }
 
-    /// Participant 1 confirms it.
+    /// Returns the ask by which participant 1 confirms it.
     pub(crate) fn confirmation(&self, alloc: Global, number: u32) -> Result<Ask, AllocError>
         ensures { IfOk result (λ ask. ask ≡ confirmation_of self.now number) }
     {
@@ -147,7 +152,8 @@ impl Plan {
         })
     }
 
-    /// The sweep of participant 0 at the deadline, once half of the transfers are confirmed.
+    /// Returns the sweep of participant 0 at the deadline, once half of the transfers are
+    /// confirmed.
     pub(crate) fn sweep(&self, teller: Teller) -> Sweep
         ensures { IsSweepOf self.now teller result }
     {

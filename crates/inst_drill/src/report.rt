@@ -1,32 +1,33 @@
+//! Reports.
 ghost use Rattle.std.specs.Prelude.{◌≡◌, IfOk, string_bytes};
 ghost use Rattle.inst_drill.specs.Report.{calls_text, outcomes_text, money_text, report_text};
 ghost use Rattle.inst_drill.specs.Report.{ends_text};
 
 use std::alloc::{AllocError, Global};
 
-/// What was done in an opening.
+/// What was done in one opening.
 #[derive(Clone, Copy)]
 pub struct Report {
     /// How many jobs were put on the desk.
     pub jobs: u64,
     /// How many calls of the workers were answered.
     pub answered: u64,
-    /// Of how many submitted transfers the books tell that they were accepted or timed out.
+    /// How many submitted transfers were accepted or timed out, by the books.
     pub decided: u64,
     /// How many of these were accepted.
     pub accepted: u64,
-    /// And how many timed out.
+    /// How many of these timed out.
     pub timed_out: u64,
-    /// How many outcomes were seen that the books don't tell.
+    /// How many outcomes were seen that the books don't have.
     pub disagree: u64,
     /// The net funding of all participants, in cents.
     pub net: u128,
-    /// All positions, in cents.
+    /// The sum of all positions, in cents.
     pub sum: u128,
 }
 
 impl Report {
-    /// Four lines: `jobs J answered R`, `decided D`, `disagree X` and `net N sum S`.
+    /// Formats the four lines `jobs J answered R`, `decided D`, `disagree X` and `net N sum S`.
     pub(crate) fn text(&self, alloc: Global) -> Result<String, AllocError>
         ensures { IfOk result (λ text. string_bytes text ≡ report_text self.now) }
     {
@@ -36,7 +37,7 @@ impl Report {
         Ok(format!(in alloc; "{calls}{outcomes}{money}")?)
     }
 
-    /// A line: `accepted A timed_out T`.
+    /// Formats the line `accepted A timed_out T`.
     pub(crate) fn ends(&self, alloc: Global) -> Result<String, AllocError>
         ensures { IfOk result (λ text. string_bytes text ≡ ends_text self.now) }
     {
@@ -48,6 +49,7 @@ impl Report {
         Ok(format!(in alloc; "accepted {accepted} timed_out {timed_out}\n")?)
     }
 
+    /// Formats the line `jobs J answered R`.
     fn calls(&self, alloc: Global) -> Result<String, AllocError>
         ensures { IfOk result (λ text. string_bytes text ≡ calls_text self.now) }
     {
@@ -55,6 +57,7 @@ impl Report {
         Ok(format!(in alloc; "jobs {jobs} answered {answered}\n")?)
     }
 
+    /// Formats the lines `decided D` and `disagree X`.
     fn outcomes(&self, alloc: Global) -> Result<String, AllocError>
         ensures { IfOk result (λ text. string_bytes text ≡ outcomes_text self.now) }
     {
@@ -66,6 +69,7 @@ impl Report {
         Ok(format!(in alloc; "decided {decided}\ndisagree {disagree}\n")?)
     }
 
+    /// Formats the line `net N sum S`.
     fn money(&self, alloc: Global) -> Result<String, AllocError>
         ensures { IfOk result (λ text. string_bytes text ≡ money_text self.now) }
     {

@@ -1,4 +1,4 @@
-//! Who works in an opening: two hands with a teller each, one hand that puts the jobs, and one
+//! The staff of an opening: two hands with a teller each, one hand that puts the jobs, and one
 //! teller that sweeps.
 ghost use Rattle.std.specs.Prelude.{◌≡◌, length, IfOk, OnOk};
 ghost use Rattle.inst_desk.specs.Desk.{AreAllHandsOf};
@@ -20,34 +20,35 @@ use std::alloc::{AllocError, Global};
 use std::sync::Wait;
 use std::thread::Threads;
 
-/// How many hands a desk and tellers a hub of a drill has.
+/// How many hands the desk has, and how many tellers the hub.
 pub(crate) const STAFF: u8 = 3;
 
-/// Who works in an opening.
+/// The hands and tellers of an opening.
 #[derive(Drop)]
 pub(crate) struct Staff {
     /// Puts the jobs.
     feeder: Hand,
-    /// Take them, one in each thread.
+    /// Take the jobs, one hand in each thread.
     hands: Vec<Hand>,
     /// Sweeps participant 0.
     sweeper: Teller,
-    /// One for each of the hands.
+    /// One for each of the taking hands.
     tellers: Vec<Teller>,
 }
 
 /// What was done in a phase of an opening.
 #[derive(Drop)]
 pub(crate) struct Work {
+    /// The staff afterwards.
     pub(crate) staff: Staff,
     /// How many jobs were answered.
     pub(crate) answered: u64,
-    /// What was seen of the transfer of each ticket.
+    /// The state of the transfer of each ticket.
     pub(crate) states: Vec<(Ticket, State)>,
 }
 
 impl Staff {
-    /// The last hand feeds, the last teller sweeps, and the others work.
+    /// Makes the staff: the last hand feeds, the last teller sweeps, and the others work.
     pub(crate) fn of(hub: &Hub, desk: &Desk, hands: Vec<Hand>, tellers: Vec<Teller>) -> Staff
         requires hands { AreAllHandsOf desk.now hands.items × (length hands.items ≡ 3) }
         requires tellers { AreOf hub.now tellers.items × (length tellers.items ≡ 3) }
@@ -88,7 +89,7 @@ impl Staff {
         Ok(())
     }
 
-    /// All transfers of the opening are submitted by two threads.
+    /// Submits all transfers of the opening, through two threads.
     pub(crate) fn submit<R: Threads + Wait + Sync, G: Gate + Sync>(
         self,
         rt: &R,
@@ -128,8 +129,8 @@ impl Staff {
         })
     }
 
-    /// All of them are confirmed by two threads. When half of them are, a third one sweeps
-    /// participant 0 at their deadline, and the others go on together with it.
+    /// Confirms all of them, through two threads. Once half of them are confirmed, a third thread
+    /// sweeps participant 0 at their deadline, and the others continue together with it.
     pub(crate) fn confirm<R: Threads + Wait + Sync, G: Gate + Sync>(
         self,
         rt: &R,
@@ -176,7 +177,7 @@ impl Staff {
         })
     }
 
-    /// Both participants are swept once at the deadline of the transfers.
+    /// Sweeps both participants once, at the deadline of the transfers.
     pub(crate) fn sweep<R: Wait>(
         &mut self,
         rt: &R,
@@ -195,7 +196,7 @@ impl Staff {
         Ok(())
     }
 
-    /// All hands of the desk, and all tellers of the hub.
+    /// Returns all hands of the desk and all tellers of the hub.
     pub(crate) fn dismiss(self) -> Result<(Vec<Hand>, Vec<Teller>), AllocError>
         ensures hands { IfOk result (λ r. (hub : Hub) (desk : Desk) → IsStaffOf hub desk self →
             AreAllHandsOf desk r.0.items) }

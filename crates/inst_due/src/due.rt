@@ -1,3 +1,4 @@
+//! The set of deadlines.
 ghost use Rattle.std.specs.Prelude.{◌≡◌, ◌≤◌, [], true, false, OnOk, OnErr};
 ghost use Rattle.std.specs.Bool.{OnFalse};
 ghost use Rattle.std.specs.List.{insert};
@@ -12,10 +13,11 @@ use std::cmp::Ordering;
 use std::collections::VecDeque;
 use std::marker::Model;
 
-/// The unbooked transfers of an originator in the order in which they are due: a set of pairs of a
-/// deadline and the index of a place, by deadline and, where that is the same, by index. They stand
-/// in a row, for deadlines come nearly in order: most pairs join at its end and leave from one of
-/// its ends.
+/// An originator's unbooked transfers in the order in which they are due: a set of pairs of a
+/// deadline and the index of a place, ordered by deadline, then by index.
+///
+/// The pairs are in one sorted sequence. Deadlines come nearly in order, so most pairs are added at
+/// its end and taken out at either end, which is where it is fast.
 ///
 /// ```text
 /// let mut due = Due::new(alloc);
@@ -41,7 +43,7 @@ impl Model for Due {
 }
 
 impl Due {
-    /// The empty set. It takes no memory.
+    /// Makes an empty set; doesn't allocate.
     pub fn new(alloc: Global) -> Self
         ensures { result ≡ [] }
     {
@@ -50,10 +52,15 @@ impl Due {
         }
     }
 
-    /// Adds the pair. Where memory is refused the set stays as it was. A pair that is there takes
-    /// no memory. The search costs the logarithm of the number of pairs, and those on the shorter
-    /// side of the pair move: none at either end. Where there is no room for one more, all may
-    /// move.
+    /// Adds a pair; does nothing if it is there.
+    ///
+    /// Cost: a search logarithmic in the number of pairs, then a move of the pairs on the shorter
+    /// side of the new one, none at either end. If the capacity is used up, all pairs may move.
+    ///
+    /// # Errors
+    ///
+    /// [`AllocError`] if an allocation fails, which can't happen for a pair that is there. The set
+    /// is unchanged.
     pub fn add(&mut self, deadline: Moment, index: u16) -> Result<(), AllocError>
         ensures ok { OnOk result (Adds self.old self.new deadline index) }
         ensures present { has self.old deadline index ≡ true → self.new ≡ self.old }
@@ -67,23 +74,24 @@ impl Due {
         Ok(())
     }
 
-    /// Takes the pair out, and says whether it was there. The search costs the logarithm of the
-    /// number of pairs, and those on the shorter side of the pair move: none at either end.
+    /// Removes a pair, and returns `true` if it was there.
+    ///
+    /// Cost: a search logarithmic in the number of pairs, then a move of the pairs on the shorter
+    /// side, none at either end.
     pub fn take_out(&mut self, deadline: Moment, index: u16) -> bool
         ensures there { result ≡ has self.old deadline index }
         ensures taken_out { TakesOut self.old self.new deadline index }
         ensures unchanged { OnFalse result (self.new ≡ self.old) }
     {
         match self.place_of(&(deadline, index)) {
-            // Most are the first when they go, and a pop takes fewer steps.
+            // Most pairs are the first when they are removed, and a pop takes fewer steps.
             Ok(0) => self.pairs.pop_front().is_some(),
             Ok(place) => self.pairs.remove(place).is_some(),
             Err(_) => false,
         }
     }
 
-    /// The first pair, where it is due at `at`: its deadline isn't after it. The cost is the same
-    /// for any number of pairs.
+    /// Returns the first pair if its deadline isn't after `at`, else `None`. Cost: constant.
     pub fn first_due(&self, at: Moment) -> Option<(Moment, u16)>
         ensures { IsLeast self.now (λ pair. is_due pair.0 at) result }
     {
@@ -91,8 +99,8 @@ impl Due {
         at.is_due(first.0).then_some(first)
     }
 
-    /// The first pair after this one, which need not be in the set; of `None`, the first of all.
-    /// The cost grows with the logarithm of the number of pairs.
+    /// Returns the first pair after this one, which needn't be in the set; the first of all for
+    /// `None`. Cost: logarithmic in the number of pairs.
     pub fn next_after(&self, pair: Option<(Moment, u16)>) -> Option<(Moment, u16)>
         ensures { IsLeast self.now (comes_after pair) result }
     {
@@ -102,7 +110,7 @@ impl Due {
         }
     }
 
-    /// The first pair after this one.
+    /// Returns the first pair after this one.
     fn above(&self, pair: (Moment, u16)) -> Option<(Moment, u16)>
         ensures { IsLeast self.now (comes_before pair) result }
     {
@@ -110,8 +118,8 @@ impl Due {
         self.pairs.get(place).copied()
     }
 
-    /// Where the pair stands, or else where it would. Most stand at an end, so those are looked at
-    /// first.
+    /// Returns the pair's index, or else the index where it would be inserted. Most pairs are at an
+    /// end, so the ends are compared first.
     fn place_of(&self, pair: &(Moment, u16)) -> Result<usize, usize>
         ensures { IsRankOf self.now pair.now result }
     {
@@ -127,7 +135,7 @@ impl Due {
     }
 }
 
-/// Inserts the pair at this place. Most come to the end, where a push takes fewer steps.
+/// Inserts the pair at this index. Most pairs come last, where a push takes fewer steps.
 fn put(
     row: &mut VecDeque<(Moment, u16)>,
     place: usize,

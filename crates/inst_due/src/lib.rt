@@ -1,5 +1,4 @@
-//! Which transfer of an originator is due first: deadlines in order, each with the index of its
-//! place.
+//! Deadlines of an originator's transfers in order, each with the index of its place.
 #![tactic(auto)]
 
 mod due;

@@ -1,4 +1,4 @@
-//! What a participant does at its slot.
+//! Acts of a participant at its slot.
 ghost use Rattle.std.specs.Prelude.{◌≡◌, true};
 ghost use Rattle.inst_command.specs.Ask.{ask_fits};
 ghost use Rattle.inst_board.specs.Plain.{Contents, plain_knows};
@@ -20,7 +20,7 @@ pub enum Act {
     Expire(u16),
 }
 
-/// What a slot answers. Before all that was carried to it was adopted no row asks it anything.
+/// Returns the slot's reply. Fails with `BadField` until all carried transfers are adopted.
 fn ask_of(slot: &mut Slot, board: &mut PlainBoard, ask: &Ask) -> Result<Reply, Fault>
     requires own { ask.now.who ≡ slot.old.who }
     requires fits { ask_fits slot.old.settings ask.now ≡ true }
@@ -38,7 +38,7 @@ fn ask_of(slot: &mut Slot, board: &mut PlainBoard, ask: &Ask) -> Result<Reply, F
     slot.apply(board, ask)
 }
 
-/// What the slot makes of the place, likewise.
+/// Delivers from the place. Fails with `BadField` until all carried transfers are adopted.
 fn deliver_to(slot: &mut Slot, board: &mut PlainBoard, place: Place) -> Result<bool, Fault>
     requires lawful { IsLawfulBoard (λ (b : Contents). b.settings) plain_knows (λ _ _.
         Unit {0}) board.old slot.old }
@@ -54,7 +54,7 @@ fn deliver_to(slot: &mut Slot, board: &mut PlainBoard, place: Place) -> Result<b
     Ok(slot.deliver(board, place)?)
 }
 
-/// What the slot of the participant `who` answers to the act.
+/// Returns the answer of the slot of the participant `who` to the act.
 pub(crate) fn act_of(
     slot: &mut Slot,
     board: &mut PlainBoard,

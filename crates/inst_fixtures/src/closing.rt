@@ -1,4 +1,4 @@
-//! How a hub in one thread is closed, so that another opens from its journals.
+//! Closes a hub in one thread, so that another can open from its journals.
 ghost use Rattle.std.specs.Prelude.{IfOk};
 ghost use Rattle.inst_model.specs.Interleaving.{IsInterleaving};
 ghost use Rattle.inst_world.specs.NextOpening.{CanOpenFrom};
@@ -10,8 +10,12 @@ use inst_settings::Settings;
 use inst_world::World;
 use std::alloc::Global;
 
-/// The journals of a hub that ran these steps and was closed. `Memory` comes, and `BadSettings`
-/// where they can't be opened from.
+/// Runs these steps, closes the hub and returns its journals.
+///
+/// # Errors
+///
+/// [`Fault::Memory`] if an allocation fails, [`Fault::BadSettings`] if no hub can open from the
+/// journals.
 pub fn books(alloc: Global, settings: &Settings, steps: &[Step]) -> Result<Vec<Journal>, Fault>
     requires { IsInterleaving settings.now steps.now }
     ensures { IfOk result (λ journals. CanOpenFrom settings.now journals.items) }

@@ -16,9 +16,12 @@ pub const B: u8 = 1;
 /// The number of `CCCCITMM`.
 pub const C: u8 = 2;
 
-/// The settings of the worked rows: three participants with 2 places and 4 fundings each, 10,000
-/// milliseconds until a deadline, no margin, and time stamps at most 1,000 milliseconds ahead. Only
-/// `Memory` comes.
+/// Returns the settings of the worked rows: three participants with 2 places and 4 fundings each, a
+/// limit of 10,000 ms, no margin, and time stamps at most 1,000 ms ahead.
+///
+/// # Errors
+///
+/// [`Fault::Memory`] if an allocation fails.
 pub fn settings(alloc: Global) -> Result<Settings, Fault>
     ensures rows { IfOk result (λ settings. settings ≡ rows.settings) }
     ensures lawful { IfOk result (λ settings. IsSettings settings) }
@@ -26,8 +29,13 @@ pub fn settings(alloc: Global) -> Result<Settings, Fault>
     settings_with(alloc, 2, 0)
 }
 
-/// The same participants with so many places each, and a margin in milliseconds; `BadSettings`
-/// where one is out of its range.
+/// Returns the settings of the same participants with `places` places each and a margin in
+/// milliseconds.
+///
+/// # Errors
+///
+/// [`Fault::Memory`] if an allocation fails, [`Fault::BadSettings`] if a number is out of its
+/// range.
 pub fn settings_with(alloc: Global, places: u16, margin: u32) -> Result<Settings, Fault>
     ensures rows { IfOk result (λ settings.
         settings ≡ their_settings rows.settings.codes places 4 10000 margin 1000 99999999999 0) }

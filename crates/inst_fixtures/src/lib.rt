@@ -1,6 +1,5 @@
-//! The hub of the worked rows for tests of the crates below: its settings, its steps, its slots
-//! over one board, and books to open from. And what of an answer is compared, and a reader that
-//! gives its bytes by pieces.
+//! The hub of the worked rows, for tests of other crates: its settings, steps, slots over one
+//! board, and books to open from; expected answers; and a reader that returns its bytes in pieces.
 #![tactic(auto)]
 
 mod acts;

@@ -1,15 +1,16 @@
-//! A reader that gives its bytes piece by piece, and may fail behind the last one.
+//! A reader that returns its bytes in pieces and may fail after the last one.
 use std::io::{self, ErrorKind, Read};
 
-/// Gives at most `most` bytes a read. If it `fails`, it does so once, behind the last byte: whoever
-/// tries again finds the end. Its error is the one after which std's own loops try again.
+/// A reader that returns at most `most` bytes in a read. If `fails`, it fails once after the last
+/// byte; a caller that tries again finds the end. Its error is the one after which the loops of
+/// `std` try again.
 #[derive(Drop)]
 pub struct Pieces<'a> {
-    /// What is still to be given.
+    /// The bytes that are left.
     pub bytes: &'a [u8],
-    /// How many bytes a read gives at most.
+    /// The most bytes of a read.
     pub most: usize,
-    /// Whether it fails behind the last one.
+    /// `true` if it fails after the last byte.
     pub fails: bool,
 }
 

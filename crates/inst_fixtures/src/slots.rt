@@ -38,8 +38,12 @@ impl Model for Slots {
 }
 
 impl Slots {
-    /// The slots of three participants with two places each, opened for the first time. `Memory` is
-    /// the only fault of a margin below the limit.
+    /// Opens the slots of three participants with two places each, for a first opening.
+    ///
+    /// # Errors
+    ///
+    /// [`Fault::Memory`] if an allocation fails, [`Fault::BadSettings`] if the margin isn't below
+    /// the limit.
     pub fn open(alloc: Global, margin: u32) -> Result<Slots, Fault> {
         let settings = settings_with(alloc, 2, margin)?;
         let board = PlainBoard::new(alloc, &settings)?;
@@ -54,7 +58,7 @@ impl Slots {
         })
     }
 
-    /// A hub that opens from these books.
+    /// Opens the slots from these books.
     fn open_from(
         alloc: Global,
         settings: Settings,
@@ -84,8 +88,12 @@ impl Slots {
         })
     }
 
-    /// A hub that opens from the books of this one, but the first participant has none where it is
-    /// new.
+    /// Opens slots from the books of these. If `is_first_new`, the first participant has none.
+    ///
+    /// # Errors
+    ///
+    /// [`Fault::Memory`] if an allocation fails, [`Fault::BadSettings`] if the books have no
+    /// openings left.
     pub fn open_again(&self, alloc: Global, is_first_new: bool) -> Result<Slots, Fault> {
         let [first, second, third] = self.slots.as_slice() else {
             return Err(Fault::BadSettings);
@@ -96,12 +104,12 @@ impl Slots {
         Slots::open_from(alloc, settings, first, second.journal(), third.journal())
     }
 
-    /// The participant's slot.
+    /// Returns the participant's slot, or `None` if there is no such participant.
     pub fn slot(&self, who: u8) -> Option<&Slot> {
         self.slots.get(usize::from(who))
     }
 
-    /// The participant's history; of no participant, nothing.
+    /// Returns the participant's history, which is empty if there is no such participant.
     pub fn history(&self, who: u8) -> &[Event] {
         match self.slot(who) {
             Some(slot) => slot.journal().events(),
@@ -109,7 +117,13 @@ impl Slots {
         }
     }
 
-    /// What is answered to the participant's act at this reading.
+    /// Returns the answer to the participant's act at this clock reading.
+    ///
+    /// # Errors
+    ///
+    /// [`Fault::Memory`] if an allocation fails, and the slot's refusal. [`Fault::BadField`] also
+    /// if there is no such participant, the command doesn't fit the settings, or a carried transfer
+    /// isn't adopted yet.
     pub fn act(&mut self, who: u8, act: &Act, at: Moment) -> Result<Answer, Fault> {
         match self.slots.get_mut(usize::from(who)) {
             Some(slot) => act_of(slot, &mut self.board, &self.settings, who, act, at),

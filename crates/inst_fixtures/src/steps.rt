@@ -6,8 +6,12 @@ ghost use Rattle.inst_model.specs.Rows as rows;
 use inst_base::{Cents, Fault, Ident, Moment};
 use inst_command::{Ask, Command, Funding, Step, Submission};
 
-/// The step in which the participant `who` asks this at so many milliseconds past the base; refused
-/// as the reading is.
+/// Returns the step in which the participant `who` gives this command, `at` milliseconds since
+/// base.
+///
+/// # Errors
+///
+/// The fault of the clock reading.
 pub fn ask(who: u8, command: Command, at: u64) -> Result<Step, Fault>
     ensures { IfOk result (λ step. step ≡ asks who command at) }
 {
@@ -15,7 +19,11 @@ pub fn ask(who: u8, command: Command, at: u64) -> Result<Step, Fault>
     Ok(Step::Ask(Ask { who, command, at }))
 }
 
-/// The step in which it funds so many cents under this reference; refused as its parts are.
+/// Returns the step in which it funds `cents` under this reference.
+///
+/// # Errors
+///
+/// The fault of the first part that isn't valid.
 pub fn fund(who: u8, reference: &str, cents: u64, at: u64) -> Result<Step, Fault>
     ensures { IfOk result (λ step. step ≡ rows.fund_step who reference.now cents at) }
 {
@@ -24,7 +32,11 @@ pub fn fund(who: u8, reference: &str, cents: u64, at: u64) -> Result<Step, Fault
     ask(who, Command::Fund(Funding { reference, cents }), at)
 }
 
-/// The step in which it submits a transfer to the participant `to`; refused as its parts are.
+/// Returns the step in which it submits a transfer to the participant `to`.
+///
+/// # Errors
+///
+/// The fault of the first part that isn't valid.
 pub fn submit(who: u8, id: &str, to: u8, cents: u64, stamp: u64, at: u64) -> Result<Step, Fault>
     ensures { IfOk result (λ step. step ≡ rows.submit_step who id.now to cents stamp at) }
 {
@@ -40,7 +52,11 @@ pub fn submit(who: u8, id: &str, to: u8, cents: u64, stamp: u64, at: u64) -> Res
     ask(who, Command::Submit(submission), at)
 }
 
-/// The step in which it confirms a transfer of the participant `from`; refused as its parts are.
+/// Returns the step in which it confirms a transfer of the participant `from`.
+///
+/// # Errors
+///
+/// The fault of the first part that isn't valid.
 pub fn confirm(who: u8, from: u8, id: &str, at: u64) -> Result<Step, Fault>
     ensures { IfOk result (λ step. step ≡ rows.confirm_step who from id.now at) }
 {

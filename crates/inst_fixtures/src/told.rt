@@ -1,7 +1,7 @@
-//! What is told, by short texts and plain numbers.
+//! Expected outcomes, inbox entries and statement lines, as short texts and plain numbers.
 use inst_command::{Entry, Line, LineKind, Outcome};
 
-/// What became of a transfer.
+/// An expected outcome.
 #[derive(Clone, Copy)]
 pub enum End {
     Accepted,
@@ -9,14 +9,15 @@ pub enum End {
     TimedOut,
 }
 
-/// An entry of an inbox: the originator, the identifier, the cents and the deadline.
+/// An expected inbox entry: the originator, the identifier, the amount in cents, and the deadline
+/// in milliseconds since base.
 pub type Came = (u8, &'static str, u64, u64);
 
-/// A line of a statement: the number, what it shows, the other side, the identifier, the cents and
-/// the position.
+/// An expected statement line: the number, the kind, the other side, the identifier, the amount,
+/// and the position, both in cents.
 pub type Shown = (u32, LineKind, Option<u8>, &'static str, u64, u64);
 
-/// Whether the outcome is this end.
+/// Returns `true` if the outcome is the expected one.
 pub fn is_end(outcome: &Outcome, end: &End) -> bool {
     match (outcome, end) {
         (Outcome::Accepted, End::Accepted) => true,
@@ -34,7 +35,7 @@ fn is_entry(entry: &Entry, came: &Came) -> bool {
         && entry.deadline.past_base() == deadline
 }
 
-/// Whether these entries are what came, in this order.
+/// Returns `true` if these are the expected entries, in this order.
 pub fn are_entries(entries: &[Entry], wanted: &[Came]) -> bool {
     for (entry, came) in entries.iter().zip(wanted) {
         if !is_entry(entry, came) {
@@ -54,7 +55,7 @@ fn is_line(line: &Line, shown: &Shown) -> bool {
         && line.position == position
 }
 
-/// Whether these lines are what is shown, in this order.
+/// Returns `true` if these are the expected lines, in this order.
 pub fn are_lines(lines: &[Line], wanted: &[Shown]) -> bool {
     for (line, shown) in lines.iter().zip(wanted) {
         if !is_line(line, shown) {

@@ -1,6 +1,6 @@
--- What a teller of a hub may rely on when it calls: a reply is the model's on a history that goes
--- on from all that the teller has seen of it, and nothing that the teller knew is lost. This hub's
--- own choice.
+-- What a teller of a hub can rely on when it calls: the reply is the model's on a history that
+-- extends all that the teller has seen of it, and the teller loses no knowledge. A choice of this
+-- hub.
 use Rattle.std.specs.Prelude.{◌≡◌, ◌⊎◌, ◌↔◌, ℕ, Bool, List, [], ◌∷◌, ◌++◌, slice_get, Option, Some}
 use Rattle.std.specs.Prelude.{None, Result, Ok, Err, IfOk, OnErr, alloc_error}
 use Rattle.std.specs.declared.alloc.AllocError.{AllocError}
@@ -25,43 +25,44 @@ use Rattle.inst_participant.specs.Answers.{Answered, IsTicket}
 use Rattle.inst_participant.specs.Following.{follow_up_of, Does}
 use Rattle.inst_participant.specs.Serving.{Serves}
 
--- The teller is one of this hub's: it sits on its row and has no lock, and it sees its words
+-- The teller belongs to this hub: it has a seat on the hub's row, has no lock, and sees the hub's
+-- words.
 pub record IsTellerOf (h : Hub) (t : Teller) : Type 0 where
   pub on : IsOn (row_id h.row) (key_of h.row) t.seat
   pub free : IsFree t.seat
   pub one : AtOneTable (key_of h.row).words.value (board_of_sight t.sight)
 
+-- These tellers belong to this hub.
 abbrev pub AreOf : Hub → List Teller → Type 0
 AreOf h tellers = (i : ℕ) (t : Teller) → slice_get tellers i ≡ Some t → IsTellerOf h t
 
--- what the teller knows of places
+-- The teller knows this fact of a place.
 abbrev pub knows_of : Teller → Fact → Type 0
 knows_of t f = sight_knows t.sight f
 
--- nothing that the teller knew is lost, of places and of histories, nor the parts of the row that
--- it has
+-- The teller loses no knowledge, of places or of histories, and keeps its parts of the row.
 pub record TellerKnowsMore (t u : Teller) : Type 0 where
   pub facts : (f : Fact) → knows_of t f → knows_of u f
   pub fronts : (p : ℕ) (J : List Event) → HasSeen p J t.seat → HasSeen p J u.seat
   pub parts : (view_of u.seat).parts ≡ (view_of t.seat).parts
 
--- the teller knows exactly what either of these knew, and has the parts that it had
+-- The teller knows exactly what either of these knew, and keeps its parts.
 pub record KnowBoth (t other u : Teller) : Type 0 where
   pub facts : (f : Fact) → knows_of u f ↔ (knows_of t f ⊎ knows_of other f)
   pub fronts : (p : ℕ) (J : List Event) → HasSeen p J u.seat ↔
       (HasSeen p J t.seat ⊎ HasSeen p J other.seat)
   pub parts : (view_of u.seat).parts ≡ (view_of t.seat).parts
 
--- what the teller has seen behind the locks, in order
+-- What the teller has seen behind the locks, in order.
 abbrev pub fronts_seen : Teller → List (Front Event)
 fronts_seen t = (view_of t.seat).fronts
 
--- The follow-up was done, under one lock, and nothing else
--- found, left: what was found behind that lock, and what was left there
--- behind: it is its participant's, and there was no opening since the hub's
--- goes_on: the history that was found goes on from all that the teller had seen of it
--- does: what was left is what was found, with the place gone to as the follow-up says
--- seen: the teller has seen these two histories
+-- The follow-up was tried, under one lock, and nothing else was done.
+-- - found, left: the participant as it was found behind that lock, and as it was left.
+-- - behind: it is the right participant, and nothing was opened since the hub's opening.
+-- - goes_on: the history that was found extends all that the teller had seen of it.
+-- - does: the participant did the follow-up, or failed to allocate.
+-- - seen: the teller has seen these two histories.
 pub record IsDone (h : Hub) (f : FollowUp) (t : Teller) (fronts : List (Front Event)) : Type 0 where
   pub found : Participant
   pub left : Participant
@@ -70,17 +71,18 @@ pub record IsDone (h : Hub) (f : FollowUp) (t : Teller) (fronts : List (Front Ev
   pub does : (result : Result Bool AllocError) × Does f.kind found f.place result left
   pub seen : fronts ≡ front f.who found.slot.events ∷ front f.who left.slot.events ∷ []
 
--- what is seen of what follows: nothing where nothing follows
+-- What the teller sees of a follow-up: nothing if there is none.
 abbrev pub IsFollowed : Hub → Option FollowUp → Teller → List (Front Event) → Type 0
 IsFollowed h None t fronts = fronts ≡ []
 IsFollowed h (Some f) t fronts = IsDone h f t fronts
 
--- A call of the ask is answered found, left: what was found behind the asker's lock, and what was
--- left there behind: it is the asker's, and there was no opening since the hub's goes_on: the
--- history that was found goes on from all that the teller had seen of it seen: the teller has seen
--- these two histories, then what followed, and nothing else serves: what was left is what was
--- found, after its slot was asked, and nothing else was done to it answered, ticket: the reply is
--- the model's, with its ticket
+-- A call of the ask gets this answer.
+-- - found, left: the asker as it was found behind its lock, and as it was left.
+-- - behind: it is the asker, and nothing was opened since the hub's opening.
+-- - goes_on: the history that was found extends all that the teller had seen of it.
+-- - seen: the teller has seen these two histories, then the follow-up's, and nothing else.
+-- - serves: the asker's slot answered the ask, and nothing else changed.
+-- - answered, ticket: the reply is the model's, with its ticket.
 pub record IsCall (h : Hub) (t : Teller) (ask : Ask) (answer : Reply
     × Option Place) (fronts : List (Front Event)) (u : Teller) : Type 0 where
   pub found : Participant
@@ -95,13 +97,13 @@ pub record IsCall (h : Hub) (t : Teller) (ask : Ask) (answer : Reply
   pub ticket : IsTicket (knows_of u) h.settings ask.who ask.command left.slot.events answer.0
       answer.1
 
--- a call with what followed from it
+-- A call with its follow-up.
 abbrev pub Calls : Hub → Teller → Ask → Reply × Option Place → Teller → Type 0
 Calls h t ask answer u = (fronts : List (Front Event)) × (call : IsCall h t ask answer fronts u)
     × IsFollowed h (follow_up_of call.left.slot.events ask.command answer.0 answer.1) t fronts
 
--- A call that memory was refused for: the asker's slot was found, with no opening since the hub's,
--- and left as it was; at most the place that the ask decides was looked at
+-- A call that failed to allocate. The asker's slot was found, with nothing opened since the hub's
+-- opening, and left unchanged; at most the place that the ask decides was looked at.
 pub record IsLeftUnanswered (h : Hub) (t : Teller) (ask : Ask) (u : Teller) : Type 0 where
   pub found : Participant
   pub left : Participant
@@ -112,10 +114,10 @@ pub record IsLeftUnanswered (h : Hub) (t : Teller) (ask : Ask) (u : Teller) : Ty
   pub serves : Serves found ask (Err alloc_error) left
   pub same : left.slot ≡ found.slot
 
--- What a call comes to, with a gate or without one
--- of, knows: the teller is still one of the hub's, and nothing that it knew is lost
--- call: a reply is the model's, and what follows from it was done
--- left: where memory was refused, nothing was changed
+-- The contract of a call, with a gate or without.
+-- - of, knows: the teller still belongs to the hub, and loses no knowledge.
+-- - call: the reply is the model's, and its follow-up was tried.
+-- - left: if allocation failed, the asker's slot is unchanged.
 pub record HasCalled (h : Hub) (t : Teller) (ask : Ask) (result : Result (Reply
     × Option Place) AllocError) (u : Teller) : Type 0 where
   pub of : IsTellerOf h u

@@ -1,5 +1,5 @@
--- How a hub began: what each history carried when it opened, which it carries ever after. This
--- hub's own choice.
+-- How a hub began: what each history carried when it opened, and carries ever after. A choice of
+-- this hub.
 use Rattle.std.specs.Prelude.{◌≡◌, ℕ, ◌<◌, List, [], slice_get, Option, Some, None}
 use Rattle.std.specs.Global.{Box}
 use Rattle.inst_settings.specs.Settings.{participants}
@@ -12,23 +12,23 @@ use Rattle.inst_hub.specs.declared.initial_state.InitialState.{InitialState}
 use Rattle.inst_participant.specs.declared.participant.Participant.{Participant}
 use Rattle.inst_participant.specs.LockLaw.{IsBehind}
 
--- the history of what lies there, if anything does
+-- The history of the participant in this box, if there is one.
 abbrev pub history_in : Option (Option (Box Participant)) → List Event
 history_in (Some (Some x)) = x.value.slot.events
 history_in (Some None) = []
 history_in None = []
 
--- what the history of the participant p carried when the hub opened
+-- What the history of participant p carried when the hub opened.
 abbrev pub outset_of : InitialState → ℕ → List Event
 outset_of key p = carried (history_in (slice_get key.all.value.items p))
 
--- it lies behind the lock p of a hub that began so
--- carries: there was no opening since
+-- x is what lock p protects in a hub that began so.
+-- - carries: its history had no opening since.
 pub record IsSince (key : InitialState) (p : ℕ) (x : Participant) : Type 0 where
   pub behind : IsBehind key.words.value p x
   pub carries : carried x.slot.events ≡ outset_of key p
 
--- the hub opened so: each history began as this opening says
+-- The hub has this opening: each history began as it says.
 abbrev pub HasOpenedHub : Opening → Hub → Type 0
 HasOpenedHub O h = (p : ℕ) → p < participants h.settings →
     outset_of (key_of h.row) p ≡ beginning O p

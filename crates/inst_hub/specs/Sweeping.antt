@@ -1,5 +1,5 @@
--- A sweep of a hub of many threads: what a participant does by itself about all its transfers,
--- under its lock. This hub's own choice.
+-- A sweep in a hub on many threads: everything that waits for one participant, done under its lock.
+-- A choice of this hub.
 use Rattle.std.specs.Prelude.{◌≡◌, ℕ, [], ◌∷◌, ◌++◌, Result, is_ok, IfOk}
 use Rattle.std.specs.declared.alloc.AllocError.{AllocError}
 use Rattle.inst_row.specs.View.{front}
@@ -13,15 +13,13 @@ use Rattle.inst_hub.specs.declared.teller.Teller.{Teller}
 use Rattle.inst_hub.specs.Founding.{IsSince}
 use Rattle.inst_hub.specs.Calls.{fronts_seen}
 
--- A sweep of the participant `who` at the reading
--- found, left: what was found behind its lock, and what was left there
--- behind: it is that participant's, and there was no opening since the hub's
--- goes_on: the history that was found goes on from all that the teller had seen of it
--- seen: the teller has seen these two histories, and nothing else
--- told, sweeps: what was left is what was found, swept whole, or until memory was refused and no
--- further
--- whole: how much was new, and that after a whole sweep no own transfer that is due at the reading
--- waits any more
+-- A sweep of participant `who` at clock reading `at`.
+-- - found, left: the participant as it was found behind its lock, and as it was left.
+-- - behind: it is that participant, and nothing was opened since the hub's opening.
+-- - goes_on: the history that was found extends all that the teller had seen of it.
+-- - seen: the teller has seen these two histories, and nothing else.
+-- - told, sweeps: the participant was swept, whole or until allocation failed.
+-- - whole: how many events were stored; after a whole sweep no own due transfer is pending.
 pub record IsSweep (h : Hub) (t : Teller) (who at : ℕ) (result : Result ℕ AllocError) (u : Teller) :
     Type 0 where
   pub found : Participant

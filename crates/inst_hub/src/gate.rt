@@ -1,7 +1,8 @@
-/// What a caller wants to have done while it has the lock of a participant. Tests wait there for
-/// other threads.
+//! Gates: a hook in a call, for tests.
+
+/// A hook that runs while a call holds the asker's lock. Tests use it to wait for other threads.
 pub trait Gate {
-    /// It is called once in each call, after the event of the participant `who` and before its lock
+    /// Runs once in each call, after the slot of the participant `who` answered and before its lock
     /// is given back.
     fn pass(&self, who: u8);
 }

@@ -1,3 +1,4 @@
+//! The hub.
 ghost use Rattle.std.specs.Prelude.{◌≡◌};
 ghost use Rattle.inst_settings.specs.Settings.{participants};
 ghost use Rattle.inst_cell.specs.Held.{settings_of};
@@ -18,14 +19,20 @@ use inst_participant::Participant;
 use inst_row::LockRow;
 use inst_settings::Settings;
 
-/// A hub that threads share by reference, each with a teller of its own. No call holds two locks,
-/// and a call of one participant waits for none of another's, but for the follow-up under the other
-/// side's lock.
+/// A hub on many threads. Threads share it by reference, each with its own [`Teller`].
+///
+/// No call holds two locks. [`call`](Hub::call) waits for the asker's lock, and then for the other
+/// side's if there is a follow-up; [`sweep`](Hub::sweep) waits for its participant's lock. While
+/// the hub is open, a position or statement is read by a `Query` through `call`, and a history
+/// can't be read.
 ///
 /// ```text
 /// let (hub, mut tellers) = Hub::open(alloc, settings, 2)?;
+/// let mut teller = tellers.pop().unwrap();           // keep all tellers: closing requires each
 /// let (reply, ticket) = hub.call(rt, &mut teller, &ask)?;
-/// teller.peek(&ticket)      // in the teller's thread, whenever it likes
+/// if let Some(ticket) = &ticket {
+///     teller.peek(ticket);      // the transfer's state; takes no lock
+/// }
 /// ```
 #[derive(Drop)]
 pub struct Hub {
@@ -36,7 +43,7 @@ pub struct Hub {
 }
 
 impl Hub {
-    /// The settings that it was opened with.
+    /// Returns the settings that the hub was opened with.
     pub fn settings(&self) -> &Settings
         ensures { result.now ≡ self.now.settings }
     {

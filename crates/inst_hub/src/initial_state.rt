@@ -1,12 +1,14 @@
+//! The initial state of a hub, for contracts.
 use inst_cell::SharedBoard;
 use inst_participant::Participant;
 use std::snapshot::Snapshot;
 
-/// What the row of a hub is told when it is made. It has no bytes: contracts speak of it.
+/// The words and the contents of the locks that a hub opened with: the key of its row. For
+/// contracts only, zero-sized.
 #[derive(Drop)]
 pub struct InitialState {
-    /// The board over whose words the hub is.
+    /// A board over the hub's words.
     pub words: Snapshot<SharedBoard>,
-    /// What lay behind its locks at first.
+    /// What the locks protected at first.
     pub all: Snapshot<Vec<Option<Box<Participant>>>>,
 }

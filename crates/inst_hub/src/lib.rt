@@ -1,5 +1,5 @@
-//! A hub that many threads use at once: each participant's slot lies behind a lock of its own, and
-//! all of them decide on outcome words that they share.
+//! A hub on many threads: each participant's slot is behind its own lock, and all of them decide on
+//! shared outcome words.
 #![tactic(auto)]
 
 mod gate;

@@ -1,10 +1,12 @@
+//! The invariant of a hub's locks.
 use crate::initial_state::InitialState;
 use inst_journal::Event;
 use inst_participant::Participant;
 use inst_row::Lawful;
 
-/// The law of what lies behind a lock: the slot of its participant, with the board that has that
-/// one's role, over the words of the hub; its history carries what it carried when the hub opened.
+/// The invariant of a hub's locks. Each lock protects one participant's slot, and the board that
+/// has its role over the hub's words. The events up to the last `Opened` are those that the hub
+/// opened with.
 pub struct LockLaw;
 
 impl Lawful<Box<Participant>, Event, InitialState> for LockLaw {

@@ -1,4 +1,4 @@
-//! What a teller asks a hub, what it is told, and scripts of both.
+//! Scripts of commands and the expected answers.
 ghost use Rattle.std.specs.Prelude.{◌≡◌, [], ◌∷◌};
 ghost use Rattle.inst_hub.specs.Calls.{IsTellerOf, AreOf};
 ghost use Rattle.inst_hub.specs.Opening.{HaveAllParts, row_parts};
@@ -15,39 +15,38 @@ pub(crate) const ACCEPTED: State = State::Decided(Outcome::Accepted);
 /// What a participant does.
 #[derive(Clone, Copy)]
 pub(crate) enum Deed<'a> {
-    /// It is funded under this reference with so many cents.
+    /// Funds its position with so many cents, under this reference.
     Fund(&'a str, u64),
-    /// It submits a transfer of so many cents to participant 1, with this time stamp.
+    /// Submits a transfer of so many cents to participant 1, with this time stamp.
     Submit(&'a str, u64, u64),
-    /// It confirms a transfer of participant 0.
+    /// Confirms a transfer of participant 0.
     Confirm(&'a str),
     Investigate(&'a str),
     Fetch,
     Position,
-    /// What it does by itself, with no command.
+    /// Is swept, without a command.
     Sweep,
 }
 
-/// What it is told.
+/// The expected answer.
 #[derive(Clone, Copy, Debug, PartialEq)]
 pub(crate) enum ExpectedCall {
-    /// What it asked for is done.
+    /// The command is done.
     Done,
-    /// Its submission is taken, and whether with a ticket.
+    /// The submission is taken; `true` if with a ticket.
     Taken(bool),
-    /// How a transfer stands, and whether with a ticket.
+    /// The state of a transfer; `true` if with a ticket.
     State(State, bool),
-    /// Its position, what of it is reserved and what is available, in cents.
+    /// Position, reserved and available, in cents.
     Money(u64, u64, u64),
-    /// The originators of the two transfers that came.
+    /// The originators of the two forwarded transfers.
     Came(u8, u8),
-    /// How many were new in a sweep.
+    /// How many events a sweep stores.
     New(u32),
     Other,
 }
 
-/// A line of a script: the participant, what it does and at which reading, and what it is to be
-/// told.
+/// A line of a script: participant, deed, clock reading and expected answer.
 #[derive(Clone, Copy)]
 pub(crate) struct ScriptLine<'a>(
     pub(crate) u8,
@@ -67,7 +66,7 @@ pub(crate) const SUBMITTED: [ScriptLine<'static>; 2] = [
     ),
 ];
 
-/// The ask of a deed; `BadField` for a sweep, which is none.
+/// Makes the ask of a deed; `BadField` for a sweep.
 pub(crate) fn asked(who: u8, deed: Deed<'_>, at: u64) -> Result<Ask, Fault> {
     let command = match deed {
         Deed::Fund(reference, cents) => Command::Fund(Funding {
@@ -95,7 +94,7 @@ pub(crate) fn asked(who: u8, deed: Deed<'_>, at: u64) -> Result<Ask, Fault> {
     Ok(Ask { who, command, at })
 }
 
-/// What the reply tells, with a ticket or without one.
+/// Converts a reply, with a ticket or without.
 fn told_of(reply: &Reply, ticket: bool) -> ExpectedCall {
     match reply {
         Reply::Done { .. } => ExpectedCall::Done,
@@ -114,8 +113,8 @@ fn told_of(reply: &Reply, ticket: bool) -> ExpectedCall {
     }
 }
 
-/// What the participant is told, with a ticket if there is one, where the gate is passed inside its
-/// lock; `BadField` where the deed doesn't fit the hub. No sweep passes a gate.
+/// Calls the hub, with a gate, and returns the answer and the ticket, if any. A sweep passes no
+/// gate. `BadField` if the deed doesn't fit the hub.
 pub(crate) fn answer<R: Wait, G: Gate>(
     rt: &R,
     hub: &Hub,
@@ -142,7 +141,7 @@ pub(crate) fn answer<R: Wait, G: Gate>(
     }
 }
 
-/// How many were new in a sweep.
+/// Sweeps a participant, and returns how many events this stored.
 fn swept<R: Wait>(rt: &R, hub: &Hub, teller: &mut Teller, who: u8, at: u64) -> Result<u32, Fault>
     requires { IsTellerOf hub.now teller.old }
     ensures of { IsTellerOf hub.now teller.new }
@@ -158,7 +157,7 @@ fn swept<R: Wait>(rt: &R, hub: &Hub, teller: &mut Teller, who: u8, at: u64) -> R
     }
 }
 
-/// Plays the lines in turn, and compares what is told: the ticket of the last, if any.
+/// Plays the lines in order and compares each answer. Returns the ticket of the last, if any.
 pub(crate) fn play<R: Wait + Abort>(
     rt: &R,
     hub: &Hub,
@@ -182,7 +181,7 @@ pub(crate) fn play<R: Wait + Abort>(
     Ok(last)
 }
 
-/// The same where the teller with this index plays them; `BadField` where there is none.
+/// Plays the lines through the teller with this index; `BadField` if there is none.
 pub(crate) fn play_by<R: Wait + Abort>(
     rt: &R,
     hub: &Hub,

@@ -1,4 +1,4 @@
-//! Tests of hubs that close: what no contract says is that there is memory for it, and that the
-//! books are those of the calls that came before.
+//! Tests of hubs that close. No contract says that memory is enough, or that the books are those of
+//! the calls before.
 mod chain;
 mod closing;

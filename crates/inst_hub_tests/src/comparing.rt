@@ -1,13 +1,13 @@
-//! What tests compare.
+//! Comparisons for tests.
 use std::fmt::Debug;
 use std::process::Abort;
 
-/// Both are the same, or the test ends and tells them.
+/// Fails the test, and prints both values, unless they are equal.
 pub(crate) fn same<T: PartialEq + Debug + Drop>(rt: &impl Abort, found: T, wanted: T) {
     assert_eq!(rt; found, wanted);
 }
 
-/// Both are the same in this case, or the test ends and tells all three.
+/// Fails the test, and prints the case and both values, unless they are equal.
 pub(crate) fn same_at<T: PartialEq + Debug + Drop, C: PartialEq + Debug + Drop>(
     rt: &impl Abort,
     case: C,

@@ -1,4 +1,4 @@
-//! Tests of drills: what no contract says is that there is memory for one, how many jobs it has,
-//! and that the books of a chain of openings have lost nothing of what threads did in each of them.
+//! Tests of drills. No contract says that memory is enough, how many jobs a drill has, or that the
+//! books of a chain of openings have all that the threads did.
 mod chain;
 mod kept;

@@ -1,6 +1,6 @@
-//! Tests of hubs that threads share: what no contract says is that a peek loads, that what follows
-//! from a command comes to the other side, that a call doesn't wait for another participant's lock,
-//! and that two threads that decide the same transfer agree.
+//! Tests of hubs that threads share. No contract says that a peek loads, that a follow-up reaches
+//! the other side, that a call doesn't wait for another participant's lock, or that two threads
+//! that decide one transfer agree.
 mod gate;
 mod race;
 mod reopening;

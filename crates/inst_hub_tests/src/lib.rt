@@ -1,5 +1,4 @@
-//! Tests of what threads share: boards and locks, hubs, how they close, and the crews and drills
-//! that run them.
+//! Tests of what threads share: boards, locks, hubs, closings, crews and drills.
 #![tactic(auto)]
 
 #[cfg(test)]

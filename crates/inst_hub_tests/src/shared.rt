@@ -1,3 +1,3 @@
-//! Tests of what threads share: boards over one table of atomic words, and values behind locks.
+//! Tests of boards over one table of atomic words, and of values behind locks.
 mod boards;
 mod locks;

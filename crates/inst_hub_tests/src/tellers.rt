@@ -1,4 +1,4 @@
-//! The last of the tellers with which a hub opens, and what it plays.
+//! The last of a hub's tellers, and scripts that it plays.
 ghost use Rattle.std.specs.Prelude.{◌≡◌, ◌+◌, IfOk, length};
 ghost use Rattle.inst_hub.specs.Calls.{IsTellerOf, AreOf};
 
@@ -8,7 +8,7 @@ use inst_hub::{Hub, Teller};
 use std::process::Abort;
 use std::sync::Wait;
 
-/// The last teller of these.
+/// Returns the last of these tellers.
 pub(crate) fn last(hub: &Hub, tellers: &mut Vec<Teller>) -> Result<Teller, Fault>
     requires { AreOf hub.now tellers.old.items }
     ensures last { IfOk result (λ teller. IsTellerOf hub.now teller) }
@@ -22,7 +22,7 @@ pub(crate) fn last(hub: &Hub, tellers: &mut Vec<Teller>) -> Result<Teller, Fault
     }
 }
 
-/// The last two tellers of these.
+/// Returns the last two of these tellers.
 pub(crate) fn last_two(hub: &Hub, tellers: &mut Vec<Teller>) -> Result<(Teller, Teller), Fault>
     requires { AreOf hub.now tellers.old.items }
     ensures last { IfOk result (λ two. IsTellerOf hub.now two.0 × IsTellerOf hub.now two.1) }
@@ -33,7 +33,7 @@ pub(crate) fn last_two(hub: &Hub, tellers: &mut Vec<Teller>) -> Result<(Teller, 
     Ok((first, second))
 }
 
-/// The hub with the last of its tellers.
+/// Returns the hub with the last of its tellers.
 pub(crate) fn with_teller(opened: (Hub, Vec<Teller>)) -> Result<(Hub, Teller), Fault>
     requires { AreOf opened.0 opened.1.items }
     ensures { IfOk result (λ r. IsTellerOf r.0 r.1) }
@@ -43,7 +43,7 @@ pub(crate) fn with_teller(opened: (Hub, Vec<Teller>)) -> Result<(Hub, Teller), F
     Ok((hub, teller))
 }
 
-/// Plays the lines at a hub, by the last of its tellers.
+/// Plays the lines at a hub, through the last of its tellers.
 pub(crate) fn played<R: Wait + Abort>(
     rt: &R,
     opened: (Hub, Vec<Teller>),

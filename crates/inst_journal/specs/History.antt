@@ -1,5 +1,5 @@
--- What a contract sees of a journal: its events, the oldest first, and for how many more it has
--- room. Keeping a history is this hub's own choice.
+-- A contract's view of a journal: its events, oldest first, and its free capacity in events.
+-- Keeping a history is a choice of this hub.
 use Rattle.std.specs.Prelude.{ℕ, List}
 use Rattle.inst_journal.specs.declared.event.Event.{Event}
 

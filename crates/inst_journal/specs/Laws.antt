@@ -1,6 +1,5 @@
--- The laws of one participant's books: nothing is overdrawn, each taken amount is in one place,
--- each transfer is booked once, and what a command keeps leaves the books sound. They are this
--- hub's own promises.
+-- The laws of a participant's books: nothing is overdrawn, each taken amount is in one place, each
+-- transfer is booked once, and the events of commands keep the books sound. Promises of this hub.
 use Rattle.std.specs.Prelude.{◌≡◌, ◌≢◌, ℕ, ◌+◌, ◌≤◌, true, List, Option, Some, None, sum_by}
 use Rattle.std.specs.Prelude.{count_by, is_some}
 use Rattle.inst_settings.specs.Settings.{HubSettings}
@@ -18,48 +17,49 @@ use Rattle.inst_journal.specs.Money.{reserved}
 use Rattle.inst_journal.specs.Reply.{history_after}
 use Rattle.inst_journal.specs.Sound.{IsSound}
 
+-- A sound history is never overdrawn.
 abbrev pub NothingIsOverdrawn : Type 0
 NothingIsOverdrawn =
     (s : HubSettings) (who : ℕ) (J : List Event) → IsSound s who J → IsNeverOverdrawn J
 
--- the amount of a taken transfer
+-- The amount of a taken transfer.
 abbrev pub taking : Event → ℕ
 taking (Taken id to cents stamp) = cents
 taking _ = 0
 
--- what a taken transfer releases: it is booked and not accepted
+-- The amount that a taken transfer releases: it is booked and not accepted.
 abbrev pub release : List Event → Event → ℕ
 release J (Taken id to cents stamp) = if_released (own_booked id J) cents
 release J _ = 0
 
--- all that was released
+-- The sum of all that was released.
 abbrev pub released : List Event → ℕ
 released J = sum_by (release J) J
 
--- each taken amount is reserved, debited or released, and only one of them, and so are all of them
--- together
+-- Each taken amount is reserved, debited or released, and only one of them; so is their sum.
 pub record IsInOnePlace (J : List Event) : Type 0 where
   pub each : (id : List ℕ) (to cents stamp : ℕ) →
       IsOneOf cents (reservation J (Taken id to cents stamp)) (debit J (Taken id to cents stamp))
       (release J (Taken id to cents stamp))
   pub all : reserved J + debits J + released J ≡ sum_by taking J
 
+-- The law: `IsInOnePlace` for all lists of events.
 abbrev pub EachTakenAmountIsInOnePlace : Type 0
 EachTakenAmountIsInOnePlace = (J : List Event) → IsInOnePlace J
 
--- what a participant has booked for its own transfer is what is booked under its own number
+-- A participant's booking of its own transfer is the booking under its own number.
 abbrev pub AnOwnBookingHasTheOwnNumber : Type 0
 AnOwnBookingHasTheOwnNumber =
     (s : HubSettings) (who : ℕ) (J : List Event) → IsSound s who J → (id : List ℕ) →
     own_booked id J ≡ booked who id J
 
--- what of an amount is reserved and what is debited
+-- The parts of an event's amount that are reserved and debited.
 pub record IsPlaced (J : List Event) (event : Event) (reserved debited : ℕ) : Type 0 where
   pub reservation_is : reservation J event ≡ reserved
   pub debit_is : debit J event ≡ debited
 
--- a taken amount is reserved while nothing is booked, debited once it is booked accepted, and
--- neither after another outcome
+-- A taken amount is reserved while no outcome is booked, debited once it is booked accepted, and
+-- neither after another outcome.
 pub record IsWhereItIsBooked (who : ℕ) (J : List Event) (id : List ℕ) (to cents stamp : ℕ) : Type 0
   where
     pub unbooked : booked who id J ≡ None → IsPlaced J (Taken id to cents stamp) cents 0
@@ -67,17 +67,18 @@ pub record IsWhereItIsBooked (who : ℕ) (J : List Event) (id : List ℕ) (to ce
     pub others : (outcome : Outcome) → booked who id J ≡ Some outcome → outcome ≢ Accepted →
         IsPlaced J (Taken id to cents stamp) 0 0
 
+-- The law: `IsWhereItIsBooked` for all sound histories and transfers.
 abbrev pub ATakenAmountIsWhereItIsBooked : Type 0
 ATakenAmountIsWhereItIsBooked = (s : HubSettings) (who : ℕ) (J : List Event) → IsSound s who J →
     (id : List ℕ) (to cents stamp : ℕ) → IsWhereItIsBooked who J id to cents stamp
 
--- a transfer is booked at most once
+-- A transfer is booked at most once.
 abbrev pub ATransferIsBookedOnce : Type 0
 ATransferIsBookedOnce =
     (s : HubSettings) (who : ℕ) (J : List Event) → IsSound s who J → (from : ℕ) (id : List ℕ) →
     count_by (λ event. is_some (books from id event)) J ≤ 1
 
--- what a command keeps leaves a sound history sound
+-- The event that a command adds leaves a sound history sound.
 abbrev pub WhatIsKeptFits : Type 0
 WhatIsKeptFits =
     (s : HubSettings) (who : ℕ) (J : List Event) (command : Command) (at : ℕ)

@@ -1,5 +1,5 @@
--- What is live, and what an opening from the books leaves as it was: the money and the keys. It
--- ends the life of what is booked, and gives back the fundings. This hub's own promises.
+-- Live transfers, and the effect of an opening from the books: money and keys stay as they were,
+-- booked transfers are no longer live, and the fundings are free again. Promises of this hub.
 use Rattle.std.specs.Prelude.{◌≡◌, ℕ, ◌≤◌, true, is_none, List, [], ◌∷◌, ◌++◌, None}
 use Rattle.inst_settings.specs.Settings.{HubSettings}
 use Rattle.inst_command.specs.declared.funding.Funding.{Funding}
@@ -14,8 +14,8 @@ use Rattle.inst_journal.specs.Keys.{has_reference, fundings}
 use Rattle.inst_journal.specs.Money.{reserved, position, available}
 use Rattle.inst_journal.specs.Sound.{IsSound}
 
--- what isn't booked is live; a transfer counts as one of the live exactly where it is live, and
--- they are no more than there are places
+-- A transfer without a booked outcome is live. The counts of live transfers count exactly the live
+-- ones, and are at most the number of places.
 pub record IsLivingWithin (s : HubSettings) (who : ℕ) (J : List Event) : Type 0 where
   pub unbooked : (from : ℕ) (id : List ℕ) → booked from id J ≡ None → is_live from id J ≡ true
   pub counts_taken : (id : List ℕ) (to cents stamp : ℕ) →
@@ -25,17 +25,18 @@ pub record IsLivingWithin (s : HubSettings) (who : ℕ) (J : List Event) : Type 
   pub submissions : live_submissions who J ≤ s.places
   pub forwarded : (from : ℕ) → live_forwarded from J ≤ s.places
 
+-- The law: `IsLivingWithin` for all sound histories.
 abbrev pub TheLiveHavePlaces : Type 0
 TheLiveHavePlaces =
     (s : HubSettings) (who : ℕ) (J : List Event) → IsSound s who J → IsLivingWithin s who J
 
--- the money after an opening is the money before it
+-- K has the same money as J.
 pub record SameMoney (J K : List Event) : Type 0 where
   pub position : position K ≡ position J
   pub reserved : reserved K ≡ reserved J
   pub available : available K ≡ available J
 
--- what was kept is kept
+-- K has the same transfers, bookings and references as J.
 pub record SameKeys (J K : List Event) : Type 0 where
   pub taken : (id : List ℕ) → is_taken id K ≡ is_taken id J
   pub forwarded : (from : ℕ) (id : List ℕ) → is_forwarded from id K ≡ is_forwarded from id J
@@ -47,14 +48,16 @@ pub record SameKeys (J K : List Event) : Type 0 where
   pub defund : (funding : Funding) →
       is_defund_repeat funding K ≡ is_defund_repeat funding J
 
+-- The law: an opening changes neither money nor keys.
 abbrev pub AnOpeningKeepsTheBooks : Type 0
 AnOpeningKeepsTheBooks =
     (J : List Event) → SameMoney J (J ++ Opened ∷ []) × SameKeys J (J ++ Opened ∷ [])
 
--- exactly what isn't booked lives on, and all fundings are to be had again
+-- In K exactly the transfers that J hasn't booked are live, and all fundings are free.
 pub record BeginsAnew (J K : List Event) : Type 0 where
   pub live : (from : ℕ) (id : List ℕ) → is_live from id K ≡ is_none (booked from id J)
   pub fundings : fundings K ≡ 0
 
+-- The law: `BeginsAnew` after an opening.
 abbrev pub AnOpeningGivesBack : Type 0
 AnOpeningGivesBack = (J : List Event) → BeginsAnew J (J ++ Opened ∷ [])

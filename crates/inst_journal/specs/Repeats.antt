@@ -1,6 +1,5 @@
--- When a command is a repeat and what a repeat is answered; that a command is answered done or
--- taken exactly where its event is in the history; and that a key is kept once. This hub's own
--- promises.
+-- Repeats and their replies; the replies `Done` and `Taken` are given exactly if the command's
+-- event is in the history; a key is kept once. Promises of this hub.
 use Rattle.std.specs.Prelude.{◌≡◌, ◌≢◌, ◌↔◌, ℕ, ◌≤◌, true, List, Option, Ok, Contains, count_by}
 use Rattle.inst_base.specs.TimeLimit.{deadline_of}
 use Rattle.inst_settings.specs.Settings.{HubSettings}
@@ -18,11 +17,11 @@ use Rattle.inst_journal.specs.Keys.{is_fund_repeat, is_defund_repeat, is_submiss
 use Rattle.inst_journal.specs.Reply.{reply, history_after}
 use Rattle.inst_journal.specs.Sound.{IsSound}
 
--- the event of a submission
+-- The event of a submission.
 abbrev pub taken_of : Submission → Event
 taken_of x = Taken x.id x.to x.cents x.stamp
 
--- a repeat has the contents of a kept event, each of them
+-- A repeat has all contents of an event of the history.
 pub record IsTheVerySame (J : List Event) : Type 0 where
   pub submission : (x : Submission) → (is_submission_repeat x J ≡ true) ↔ Contains J (taken_of x)
   pub fund : (funding : Funding) →
@@ -30,10 +29,11 @@ pub record IsTheVerySame (J : List Event) : Type 0 where
   pub defund : (funding : Funding) →
       (is_defund_repeat funding J ≡ true) ↔ Contains J (Defunded funding)
 
+-- The law: `IsTheVerySame` for all lists of events.
 abbrev pub ARepeatIsTheVerySame : Type 0
 ARepeatIsTheVerySame = (J : List Event) → IsTheVerySame J
 
--- the command gets this reply and keeps nothing
+-- The command gets this reply and adds no event.
 pub record IsAnsweredOnly
     (s : HubSettings) (who : ℕ) (J : List Event) (command : Command) (at : ℕ)
     (found : Option Outcome) (told : Reply)
@@ -41,12 +41,11 @@ pub record IsAnsweredOnly
   pub answer : reply s who J command at found ≡ Ok told
   pub kept_nothing : history_after s who J command at found ≡ J
 
--- a submission's kept reply
+-- The reply to a taken submission.
 abbrev pub taken_reply : HubSettings → Submission → Reply
 taken_reply s x = TakenReply x.id (deadline_of s.limit x.stamp)
 
--- a repeat gets its kept reply at every reading, also when it is due, and nothing is full or short
--- for it
+-- A repeat gets its reply again at any clock reading, even when due, and whatever is full or short.
 pub record IsAnsweredAgain (s : HubSettings) (who : ℕ) (J : List Event) (at : ℕ)
     (found : Option Outcome) : Type 0 where
   pub submission : (x : Submission) → is_submission_repeat x J ≡ true → x.to ≢ who →
@@ -56,18 +55,20 @@ pub record IsAnsweredAgain (s : HubSettings) (who : ℕ) (J : List Event) (at : 
   pub defund : (funding : Funding) → is_defund_repeat funding J ≡ true →
       IsAnsweredOnly s who J (Defund funding) at found (Done funding.reference)
 
+-- The law: `IsAnsweredAgain` for all histories and clock readings.
 abbrev pub ARepeatIsAnsweredAgain : Type 0
 ARepeatIsAnsweredAgain =
     (s : HubSettings) (who : ℕ) (J : List Event) (at : ℕ) (found : Option Outcome) →
     IsAnsweredAgain s who J at found
 
--- the command gets this reply exactly where its history has the event afterwards
+-- The command gets this reply exactly if its history has the event afterwards.
 abbrev pub IsToldWhereKept : HubSettings → ℕ → List Event → Command → ℕ → Option Outcome → Reply →
     Event → Type 0
 IsToldWhereKept s who J command at found told event =
     (reply s who J command at found ≡ Ok told) ↔
     Contains (history_after s who J command at found) event
 
+-- `IsToldWhereKept` for each command with an event of this kind.
 pub record AreToldWhereKept
     (s : HubSettings) (who : ℕ) (J : List Event) (at : ℕ) (found : Option Outcome) : Type 0 where
   pub submission : (x : Submission) →
@@ -77,16 +78,18 @@ pub record AreToldWhereKept
   pub defund : (funding : Funding) →
       IsToldWhereKept s who J (Defund funding) at found (Done funding.reference) (Defunded funding)
 
+-- The law: `AreToldWhereKept` for all sound histories.
 abbrev pub WhatIsToldIsKept : Type 0
 WhatIsToldIsKept =
     (s : HubSettings) (who : ℕ) (J : List Event) → IsSound s who J →
     (at : ℕ) (found : Option Outcome) →
     AreToldWhereKept s who J at found
 
--- one event at most keeps a funding reference, and one at most takes an identifier
+-- At most one event has a funding reference, and at most one takes an identifier.
 pub record KeepsAKeyOnce (J : List Event) : Type 0 where
   pub references : (reference : List ℕ) → count_by (refers reference) J ≤ 1
   pub identifiers : (id : List ℕ) → count_by (takes id) J ≤ 1
 
+-- The law: `KeepsAKeyOnce` for all sound histories.
 abbrev pub AKeyIsKeptOnce : Type 0
 AKeyIsKeptOnce = (s : HubSettings) (who : ℕ) (J : List Event) → IsSound s who J → KeepsAKeyOnce J

@@ -1,6 +1,6 @@
--- The commands of the worked rows of one participant's history and their short forms, at a hub of
--- three participants with two places and four fundings each, a time limit of ten seconds, and time
--- stamps at most one second ahead. This hub's own choice.
+-- The commands of the worked rows and short forms of them, at a hub of three participants with two
+-- places and four fundings each, a time limit of ten seconds, and time stamps at most one second
+-- ahead. A choice of this hub.
 use Rattle.std.specs.Prelude.{ℕ, List, [], ◌∷◌, ◌++◌, codes, Option, Some, None, Result, Ok, Err}
 use Rattle.inst_base.specs.declared.fault.Fault.{Fault}
 use Rattle.inst_settings.specs.Settings.{HubSettings}
@@ -32,7 +32,7 @@ settings = record {
   base = 0;
 }
 
--- the participants
+-- The participants.
 abbrev pub A : ℕ
 A = 0
 
@@ -42,26 +42,26 @@ B = 1
 abbrev pub C : ℕ
 C = 2
 
--- a command, when it is read, and what is found of its transfer
+-- A command, its clock reading, and the outcome that is found of its transfer.
 pub record Asked : Type 0 where
   pub command : Command
   pub at : ℕ
   pub found : Option Outcome
 
--- what a participant is answered, command by command
+-- The replies to the commands, one after another.
 abbrev pub answers : ℕ → List Event → List Asked → List (Result Reply Fault)
 answers who J [] = []
 answers who J (asked ∷ rest) =
     reply settings who J asked.command asked.at asked.found
     ∷ answers who (history_after settings who J asked.command asked.at asked.found) rest
 
--- the history after the commands
+-- The history after the commands.
 abbrev pub after : ℕ → List Event → List Asked → List Event
 after who J [] = J
 after who J (asked ∷ rest) =
     after who (history_after settings who J asked.command asked.at asked.found) rest
 
--- the hub is opened again
+-- The history after another opening.
 abbrev pub opened_events : List Event → List Event
 opened_events J = J ++ Opened ∷ []
 
@@ -74,12 +74,12 @@ asked_fund reference cents = ask (Fund (record { reference = reference; cents = 
 abbrev pub defund : List ℕ → ℕ → Asked
 defund reference cents = ask (Defund (record { reference = reference; cents = cents })) 0 None
 
--- a transfer to B, stamped 1000
+-- A transfer to B, stamped 1000.
 abbrev pub asked_submit : List ℕ → ℕ → ℕ → Asked
 asked_submit id cents at = ask
     (Submit (record { id = id; to = B; cents = cents; stamp = 1000 })) at None
 
--- a submission of more than A has
+-- A submission of more than A has.
 abbrev pub too_much : ℕ → List ℕ → ℕ → ℕ → Asked
 too_much to id stamp at =
     ask (Submit (record { id = id; to = to; cents = 99999; stamp = stamp })) at None
@@ -111,16 +111,16 @@ money asked_position reserved available = Ok (Position asked_position reserved a
 abbrev pub refused : Fault → Result Reply Fault
 refused fault = Err fault
 
--- A is funded and has submitted a transfer to B
+-- A is funded and has submitted a transfer to B.
 abbrev pub submitted_events : List Event
 submitted_events = after A []
     (asked_fund (codes "F1") 50000 ∷ asked_submit (codes "T1") 20000 1000 ∷ [])
 
--- and the transfer was accepted, and A has learnt of it
+-- Then the transfer was accepted, and A has learnt of it.
 abbrev pub accepted_events : List Event
 accepted_events = after A submitted_events (asked_investigate (codes "T1") (Some Accepted) ∷ [])
 
--- the submission and the funding again, and both keys with another amount
+-- The submission and the funding again, and both keys with another amount.
 abbrev pub again : List Asked
 again =
     asked_submit (codes "T1") 20000 99000
@@ -129,29 +129,29 @@ again =
     ∷ asked_fund (codes "F1") 49999
     ∷ []
 
--- both places are taken, and one of the transfers is accepted
+-- Both places are taken, and one of the transfers is accepted.
 abbrev pub two_places : List Event
 two_places = after A accepted_events (asked_submit (codes "T2") 100 1000 ∷ [])
 
--- all four fundings are kept
+-- All four fundings are used.
 abbrev pub all_fundings : List Event
 all_fundings =
     after A [] (asked_fund (codes "F1") 10 ∷ asked_fund (codes "F2") 20 ∷ asked_fund (codes "F3") 30
     ∷ asked_fund (codes "F4") 40 ∷ [])
 
--- three fundings and a defunding are kept
+-- Three fundings and a defunding are kept.
 abbrev pub all_with_a_defunding : List Event
 all_with_a_defunding =
     after A [] (asked_fund (codes "F1") 10 ∷ asked_fund (codes "F2") 20 ∷ asked_fund (codes "F3") 30
     ∷ defund (codes "D1") 5 ∷ [])
 
--- what came to B: two transfers of A's, and one of C's between them
+-- The arrivals at B: two transfers of A's, and one of C's between them.
 abbrev pub arrivals : List Event
 arrivals =
     Forwarded A (codes "T1") 100 11000 ∷ Forwarded C (codes "T1") 200 11500
     ∷ Forwarded A (codes "T2") 300 11200 ∷ []
 
--- a confirmation and a rejection of A's transfer by B, where nothing is found
+-- A confirmation and a rejection of A's transfer by B, with no outcome found.
 abbrev pub confirmation : Asked
 confirmation = ask (Confirm A (codes "T1")) 10500 None
 

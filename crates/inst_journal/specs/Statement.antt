@@ -1,6 +1,6 @@
--- A participant's statement: an entry for each funding, defunding and accepted transfer, with the
--- position after it. What a statement shows is this hub's own choice, after an account statement's
--- entries and balances.
+-- A participant's statement: a line for each funding, defunding and accepted transfer, with the
+-- position after it. Its contents are a choice of this hub, modelled on the entries and balances of
+-- an account statement.
 use Rattle.std.specs.Prelude.{ℕ, ◌+◌, if◌then◌else◌, List, [], ◌∷◌, ◌++◌, take, drop, Option, Some}
 use Rattle.std.specs.Prelude.{None}
 use Rattle.inst_command.specs.declared.outcome.Outcome.TheVariants.{Accepted, Rejected, TimedOut}
@@ -15,7 +15,7 @@ use Rattle.inst_journal.specs.Booked.{first_some, takes, forwards, is_forwarded}
 use Rattle.inst_journal.specs.Opened.{carried, current}
 use Rattle.inst_journal.specs.Money.{position}
 
--- the line of a forwarded transfer that was accepted
+-- The line of a forwarded transfer that was accepted.
 abbrev pub received : ℕ → ℕ → ℕ → List ℕ → Event → Option Line
 received number after from id (Forwarded other_from other cents deadline) =
     if forwards from id (Forwarded other_from other cents deadline)
@@ -31,7 +31,7 @@ received number after from id (Forwarded other_from other cents deadline) =
     else None
 received number after from id _ = None
 
--- the line of a taken transfer that was accepted
+-- The line of a taken transfer that was accepted.
 abbrev pub paid : ℕ → ℕ → List ℕ → Event → Option Line
 paid number after id (Taken other to cents stamp) =
     if takes id (Taken other to cents stamp)
@@ -47,14 +47,13 @@ paid number after id (Taken other to cents stamp) =
     else None
 paid number after id _ = None
 
--- the line of an accepted transfer of the history J, which is forwarded or else the participant's
--- own
+-- The line of an accepted transfer of the history J: a forwarded one, else the participant's own.
 abbrev pub line_of_accepted : List Event → ℕ → ℕ → ℕ → List ℕ → Option Line
 line_of_accepted J number after from id =
     if is_forwarded from id J then first_some (received number after from id) J
     else first_some (paid number after id) J
 
--- the line of an event in the history J, with this number and this position after it
+-- The line of an event in the history J, with this number and this position after it.
 abbrev pub line_of : List Event → ℕ → ℕ → Event → Option Line
 line_of J number after (Funded funding) =
     Some (record {
@@ -84,13 +83,14 @@ line_of J number after (Forwarded from id cents deadline) = None
 line_of J number after (Fetched count) = None
 line_of J number after Opened = None
 
--- a line, where there is one, before the others
+-- If there is a line, it and then `next`, whose numbers begin one later; else `numbered_on`, whose
+-- first line has the number that this one would have had.
 abbrev pub with_line : Option Line → List Line → List Line → List Line
 with_line None numbered_on next = numbered_on
 with_line (Some line) numbered_on next = line ∷ next
 
--- the lines of the events after a front of the history J, numbered from `number`, each with the
--- position of the history up to and with its event
+-- The lines of the events after the prefix `front` of the history J, numbered from `number`, each
+-- with the position after its event.
 abbrev pub lines_after : List Event → List Event → ℕ → List Event → List Line
 lines_after J front number [] = []
 lines_after J front number (event ∷ events) =
@@ -98,10 +98,10 @@ lines_after J front number (event ∷ events) =
     (lines_after J (front ++ event ∷ []) number events)
     (lines_after J (front ++ event ∷ []) (number + 1) events)
 
--- the lines of the events after the last Opened, numbered from 1
+-- The lines of the events after the last Opened, numbered from 1.
 abbrev pub statement : List Event → List Line
 statement J = lines_after J (carried J) 1 (current J)
 
--- at most `count` lines after the first `skip`
+-- At most `count` lines after the first `skip`.
 abbrev pub statement_part : List Event → ℕ → ℕ → List Line
 statement_part J skip count = take count (drop skip (statement J))

@@ -1,4 +1,4 @@
-//! Which transfers a history has taken, forwarded and booked.
+//! The transfers that a history has taken, forwarded and booked.
 ghost use Rattle.std.specs.Prelude.{◌≡◌, ◌&&◌, not};
 ghost use Rattle.inst_settings.specs.Settings.{same_text};
 ghost use Rattle.inst_journal.specs.Booked.{is_taken, is_forwarded, books, booked, books_own};
@@ -10,14 +10,14 @@ use crate::opened::carried;
 use inst_base::Ident;
 use inst_command::Outcome;
 
-/// Whether the participant has a taken submission with this identifier.
+/// Returns `true` if the participant has submitted a transfer with this identifier.
 pub(crate) fn is_taken(events: &[Event], id: &Ident) -> bool
     ensures { result ≡ is_taken id.now events.now }
 {
     events.iter().any(|event| matches!(event, Event::Taken { id: other, .. } if other == id))
 }
 
-/// Whether this transfer was forwarded to the participant.
+/// Returns `true` if this transfer was forwarded to the participant.
 pub(crate) fn is_forwarded(events: &[Event], from: u8, id: &Ident) -> bool
     ensures { result ≡ is_forwarded from id.now events.now }
 {
@@ -26,7 +26,7 @@ pub(crate) fn is_forwarded(events: &[Event], from: u8, id: &Ident) -> bool
     )
 }
 
-/// The outcome that the event books for this transfer.
+/// Returns the outcome that the event books for this transfer.
 fn books(event: &Event, from: u8, id: &Ident) -> Option<Outcome>
     ensures { result ≡ books from id.now event.now }
 {
@@ -40,7 +40,7 @@ fn books(event: &Event, from: u8, id: &Ident) -> Option<Outcome>
     }
 }
 
-/// The outcome that the participant has booked for this transfer.
+/// Returns the outcome that the participant has booked for this transfer.
 pub(crate) fn booked(events: &[Event], from: u8, id: &Ident) -> Option<Outcome>
     ensures { result ≡ booked from id.now events.now }
 {
@@ -53,7 +53,7 @@ pub(crate) fn booked(events: &[Event], from: u8, id: &Ident) -> Option<Outcome>
     None
 }
 
-/// Whether a booked transfer is the participant's own with this identifier.
+/// Returns `true` if a booked transfer is the participant's own with this identifier.
 fn is_own(events: &[Event], from: u8, other: &Ident, id: &Ident) -> bool
     ensures { result ≡ (same_text other.now id.now
         && not (is_forwarded from other.now events.now)) }
@@ -61,7 +61,7 @@ fn is_own(events: &[Event], from: u8, other: &Ident, id: &Ident) -> bool
     other == id && !is_forwarded(events, from, other)
 }
 
-/// The outcome that the event books for a transfer of the participant's own.
+/// Returns the outcome that the event books for a transfer of the participant's own.
 fn books_own(events: &[Event], event: &Event, id: &Ident) -> Option<Outcome>
     ensures { result ≡ books_own events.now id.now event.now }
 {
@@ -75,7 +75,7 @@ fn books_own(events: &[Event], event: &Event, id: &Ident) -> Option<Outcome>
     }
 }
 
-/// The outcome that the participant has booked for its own transfer with this identifier.
+/// Returns the outcome that the participant has booked for its own transfer with this identifier.
 pub(crate) fn own_booked(events: &[Event], id: &Ident) -> Option<Outcome>
     ensures { result ≡ own_booked id.now events.now }
 {
@@ -88,7 +88,7 @@ pub(crate) fn own_booked(events: &[Event], id: &Ident) -> Option<Outcome>
     None
 }
 
-/// Whether the event takes a transfer that these events haven't booked.
+/// Returns `true` if the event takes a transfer that the events `booking` haven't booked.
 fn takes_live(event: &Event, who: u8, booking: &[Event]) -> bool
     ensures { result ≡ takes_live who booking.now event.now }
 {
@@ -98,7 +98,7 @@ fn takes_live(event: &Event, who: u8, booking: &[Event]) -> bool
     }
 }
 
-/// How many of the participant's own transfers are live.
+/// Returns the number of the participant's own live transfers.
 pub(crate) fn live_submissions(events: &[Event], who: u8) -> usize
     ensures { result ≡ live_submissions who events.now }
 {

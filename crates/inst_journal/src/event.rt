@@ -1,14 +1,16 @@
+//! The events of a history.
+
 use inst_base::{Cents, Ident, Moment};
 use inst_command::{Funding, Outcome};
 
-/// What one participant's history keeps. Repeats, queries and refused commands leave no event.
+/// An event of a participant's history. Repeats, queries and refused commands add no event.
 #[derive(Clone, Copy, Debug, PartialEq, Eq)]
 pub enum Event {
     /// The participant's net funding was raised.
     Funded(Funding),
     /// The participant's net funding was lowered.
     Defunded(Funding),
-    /// A submission of the participant's was taken, and its amount reserved.
+    /// The participant's submission was taken, and its amount reserved.
     Taken {
         id: Ident,
         to: u8,
@@ -22,14 +24,14 @@ pub enum Event {
         cents: Cents,
         deadline: Moment,
     },
-    /// The participant booked the outcome of the transfer of the originator `from`, which is the
-    /// participant itself for a transfer of its own.
+    /// The participant booked the outcome of the transfer of the originator `from`. For a transfer
+    /// of its own, that is the participant itself.
     Booked {
         from: u8,
         id: Ident,
         outcome: Outcome,
     },
-    /// The participant was handed out so many of its forwarded transfers.
+    /// The participant fetched this number of forwarded transfers.
     Fetched {
         count: u32,
     },

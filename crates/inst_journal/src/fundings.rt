@@ -10,8 +10,8 @@ use inst_base::{Fault, Ident};
 use inst_command::{Funding, Reply};
 use inst_settings::Settings;
 
-/// Raises the net funding: `Duplicate` where the reference is kept with other contents, `Full`
-/// where all fundings are used.
+/// Raises the net funding. Refuses `Duplicate` if the reference is kept with other contents, then
+/// `Full` if all fundings of the opening are used.
 pub(crate) fn fund(
     settings: &Settings,
     events: &[Event],
@@ -30,7 +30,7 @@ pub(crate) fn fund(
     })
 }
 
-/// Lowers the net funding: refused as `fund` is, and by `Shortage` above what is available.
+/// Lowers the net funding. Refuses as [`fund`] does, then `Shortage` above what is available.
 pub(crate) fn defund(
     settings: &Settings,
     events: &[Event],
@@ -52,7 +52,8 @@ pub(crate) fn defund(
     })
 }
 
-/// Whether a fund or defund command is new, and no repeat; `Duplicate` and `Full` come first.
+/// Returns `true` for a new fund or defund command, `false` for a repeat; refuses `Duplicate`, then
+/// `Full`.
 fn is_new_funding(
     settings: &Settings,
     events: &[Event],

@@ -1,4 +1,4 @@
-//! What a command of a participant is answered on its events, and what they keep of it.
+//! The reply to a command, and the event that it adds to the history.
 ghost use Rattle.std.specs.Prelude.{◌≡◌, true, false};
 ghost use Rattle.inst_base.specs.Fault.{IsUnlessMemory};
 ghost use Rattle.inst_settings.specs.Lawful.{IsSettings};
@@ -16,17 +16,23 @@ use inst_command::{Command, Outcome, Query, Reply};
 use inst_settings::Settings;
 use std::alloc::Global;
 
-/// A reply, and the event that the history keeps of its command, if any.
+/// A reply, and the event that its command adds to the history, if any.
 #[derive(Drop)]
 pub struct Handled {
     pub reply: Reply,
     pub kept: Option<Event>,
 }
 
-/// What a command of the participant `who`, read at `at`, is answered on its events, and the event
-/// that they keep of it, where its transfer is found to have the outcome `found`. Refused by the
-/// first of `SelfTransfer` to `Shortage` that holds; only a statement, and a fetch where something
-/// is unread, may answer `Memory`. Each call walks the events, some of them more than once.
+/// Handles a command of the participant `who`, read at `at`, on its events. `found` is the outcome
+/// that the command's transfer is found to have.
+///
+/// Cost: visits all events, some of them more than once; a statement, once for each event since the
+/// last opening.
+///
+/// # Errors
+///
+/// The first refusal of `SelfTransfer` to `Shortage` that applies, or [`Fault::Memory`] if an
+/// allocation fails. Only a statement, and a fetch with something unread, allocate.
 #[tactic(auto, using(crate::proofs::KeptEventsFit::history_after_sound))]
 pub fn handle_command(
     alloc: Global,
@@ -45,7 +51,7 @@ pub fn handle_command(
     ensures no_memory { copies events.now command.now ≡ false →
         result ≡ handle settings.now who events.now command.now at found }
 
-    // With the kept event the history is sound again.
+    // With the new event the history is sound again.
     ensures sound { IsSound settings.now who
         (history_after settings.now who events.now command.now at found) }
 {

@@ -1,3 +1,4 @@
+//! The store of a participant's history.
 ghost use Rattle.std.specs.Prelude.{◌≡◌, ◌<◌, ◌≤◌, [], ◌∷◌, ◌++◌, OnOk, OnErr, IfOk, IsOk};
 
 use crate::Event;
@@ -6,12 +7,12 @@ use inst_command::Outcome;
 use std::alloc::{AllocError, Global};
 use std::marker::Model;
 
-/// One participant's history: its kept events, the oldest first.
+/// A participant's history: its events, oldest first.
 ///
 /// ```text
 /// let mut journal = Journal::new(alloc);
-/// journal.push(Event::Funded { reference, cents })?; // 500 cents
-/// journal.position()                                 // 500
+/// journal.push(Event::Funded(Funding { reference, cents }))?; // 500 cents
+/// journal.position()                                          // 500
 /// ```
 #[derive(Drop)]
 pub struct Journal {
@@ -31,7 +32,7 @@ impl Model for Journal {
 }
 
 impl Journal {
-    /// An empty journal. It takes no memory.
+    /// Makes an empty journal; doesn't allocate.
     pub fn new(alloc: Global) -> Self
         ensures { result.events ≡ [] }
     {
@@ -40,7 +41,11 @@ impl Journal {
         }
     }
 
-    /// An empty journal with room for so many events.
+    /// Makes an empty journal with capacity for `count` events.
+    ///
+    /// # Errors
+    ///
+    /// [`AllocError`] if the capacity can't be allocated.
     pub fn with_room(alloc: Global, count: usize) -> Result<Self, AllocError>
         ensures events { IfOk result (λ journal. journal.events ≡ []) }
         ensures room { IfOk result (λ journal. count ≤ journal.room) }
@@ -50,7 +55,11 @@ impl Journal {
         })
     }
 
-    /// A journal with the same events. It copies each event.
+    /// Copies the journal, event by event.
+    ///
+    /// # Errors
+    ///
+    /// [`AllocError`] if the copy can't be allocated.
     pub fn copy(&self) -> Result<Journal, AllocError>
         ensures ok { IfOk result (λ journal. journal.events ≡ self.now.events) }
     {
@@ -59,14 +68,18 @@ impl Journal {
         })
     }
 
-    /// The events, the oldest first.
+    /// Returns the events, oldest first.
     pub fn events(&self) -> &[Event]
         ensures { result.now ≡ self.now.events }
     {
         self.events.as_slice()
     }
 
-    /// Makes room for one more event. The events stay as they are.
+    /// Reserves capacity for one more event.
+    ///
+    /// # Errors
+    ///
+    /// [`AllocError`] if it can't be allocated. The events are unchanged.
     pub fn reserve(&mut self) -> Result<(), AllocError>
         ensures events { self.new.events ≡ self.old.events }
         ensures room { OnOk result (0 < self.new.room) }
@@ -75,8 +88,11 @@ impl Journal {
         Ok(())
     }
 
-    /// Adds an event at the end. Where there is room it succeeds; else memory may be refused, and
-    /// the events stay as they are.
+    /// Appends an event. It can't fail if there is capacity for it.
+    ///
+    /// # Errors
+    ///
+    /// [`AllocError`] if an allocation fails. The events are unchanged.
     pub fn push(&mut self, event: Event) -> Result<(), AllocError>
         ensures ok { OnOk result (self.new.events ≡ self.old.events ++ event ∷ []) }
         ensures err { OnErr result (self.new.events ≡ self.old.events) }

@@ -1,4 +1,4 @@
-//! When a command is a repeat of a kept one, and which keys are kept.
+//! Repeats of kept commands, and the keys that a history has.
 ghost use Rattle.std.specs.Prelude.{◌≡◌};
 ghost use Rattle.inst_journal.specs.Keys.{is_fund_repeat, is_defund_repeat, is_this_submission};
 ghost use Rattle.inst_journal.specs.Keys.{is_submission_repeat};
@@ -9,21 +9,21 @@ use crate::opened::current;
 use inst_base::Ident;
 use inst_command::{Funding, Submission};
 
-/// Whether the history has this very funding.
+/// Returns `true` if the history has exactly this funding.
 pub(crate) fn is_fund_repeat(events: &[Event], funding: &Funding) -> bool
     ensures { result ≡ is_fund_repeat funding.now events.now }
 {
     events.iter().any(|event| matches!(event, Event::Funded(other) if other == funding))
 }
 
-/// Whether the history has this very defunding.
+/// Returns `true` if the history has exactly this defunding.
 pub(crate) fn is_defund_repeat(events: &[Event], funding: &Funding) -> bool
     ensures { result ≡ is_defund_repeat funding.now events.now }
 {
     events.iter().any(|event| matches!(event, Event::Defunded(other) if other == funding))
 }
 
-/// Whether the history has this very submission.
+/// Returns `true` if the history has exactly this submission.
 pub(crate) fn is_submission_repeat(events: &[Event], submission: &Submission) -> bool
     ensures { result ≡ is_submission_repeat submission.now events.now }
 {
@@ -32,7 +32,7 @@ pub(crate) fn is_submission_repeat(events: &[Event], submission: &Submission) ->
         .any(|event| is_this_submission(event, submission))
 }
 
-/// Whether the event is this very submission.
+/// Returns `true` if the event is exactly this submission.
 fn is_this_submission(event: &Event, submission: &Submission) -> bool
     ensures { result ≡ is_this_submission submission.now event.now }
 {
@@ -52,14 +52,14 @@ fn is_this_submission(event: &Event, submission: &Submission) -> bool
     }
 }
 
-/// Whether the history keeps this funding reference, of either kind.
+/// Returns `true` if a fund or defund command of the history has this reference.
 pub(crate) fn has_reference(events: &[Event], reference: &Ident) -> bool
     ensures { result ≡ has_reference reference.now events.now }
 {
     events.iter().any(|event| refers(event, reference))
 }
 
-/// Whether the event keeps this funding reference.
+/// Returns `true` if the event is a fund or defund command with this reference.
 fn refers(event: &Event, reference: &Ident) -> bool
     ensures { result ≡ refers reference.now event.now }
 {
@@ -69,7 +69,7 @@ fn refers(event: &Event, reference: &Ident) -> bool
     }
 }
 
-/// How many fund and defund commands are kept since the last opening.
+/// Returns the number of fund and defund commands since the last opening.
 pub(crate) fn fundings(events: &[Event]) -> usize
     ensures { result ≡ fundings events.now }
 {

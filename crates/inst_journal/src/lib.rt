@@ -1,4 +1,4 @@
-//! One participant's kept events, and plain slow functions over them.
+//! A participant's history, with plain functions that compute from its events.
 #![tactic(auto)]
 
 mod booked;

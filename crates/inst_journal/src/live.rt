@@ -1,5 +1,4 @@
-//! What a journal has of transfers: whether one was forwarded, what is booked of it, and how many
-//! of the participant's own are live.
+//! The transfers of a journal: forwarded, booked and live ones.
 ghost use Rattle.std.specs.Prelude.{◌≡◌};
 ghost use Rattle.inst_journal.specs.Booked.{is_forwarded, booked};
 ghost use Rattle.inst_journal.specs.Opened.{live_submissions};
@@ -10,22 +9,24 @@ use inst_base::Ident;
 use inst_command::Outcome;
 
 impl Journal {
-    /// Whether the transfer of the originator `from` was forwarded to the participant.
+    /// Returns `true` if the transfer of the originator `from` was forwarded to the participant.
+    /// Cost: linear in the events.
     pub fn is_forwarded(&self, from: u8, id: &Ident) -> bool
         ensures { result ≡ is_forwarded from id.now self.now.events }
     {
         is_forwarded(self.events(), from, id)
     }
 
-    /// The outcome that the participant has booked for the transfer of the originator `from`.
+    /// Returns the outcome that the participant has booked for the transfer of the originator
+    /// `from`. Cost: linear in the events.
     pub fn booked(&self, from: u8, id: &Ident) -> Option<Outcome>
         ensures { result ≡ booked from id.now self.now.events }
     {
         booked(self.events(), from, id)
     }
 
-    /// How many transfers of its own the participant `who` has live: the index of the next one's
-    /// place.
+    /// Returns the number of live transfers of the participant `who` itself, which is the index of
+    /// its next place. Cost: quadratic in the events.
     pub fn live_submissions(&self, who: u8) -> usize
         ensures { result ≡ live_submissions who self.now.events }
     {

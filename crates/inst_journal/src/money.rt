@@ -1,4 +1,5 @@
-//! A journal's money, each time by the plain sums over its events.
+//! The money of a journal, summed over its events. Except for [`Journal::net`], each call scans the
+//! events once for each transfer.
 ghost use Rattle.std.specs.Prelude.{◌≡◌};
 
 use crate::{Journal, sums};
@@ -7,42 +8,42 @@ impl Journal {
     ghost use Rattle.inst_journal.specs.Sums.{net, credits, debits};
     ghost use Rattle.inst_journal.specs.Money.{reserved, position, available};
 
-    /// Net funding in cents. It is below 0 where credits were defunded.
+    /// Returns the net funding in cents. It is below 0 after credits were defunded.
     pub fn net(&self) -> i128
         ensures { result ≡ net self.now.events }
     {
         sums::funded(self.events()) as i128 - sums::defunded(self.events()) as i128
     }
 
-    /// The forwarded transfers that are booked accepted, in cents.
+    /// Returns the sum of the forwarded transfers that are booked accepted, in cents.
     pub fn credits(&self) -> u128
         ensures { result ≡ credits self.now.events }
     {
         sums::credits(self.events())
     }
 
-    /// The taken transfers that are booked accepted, in cents.
+    /// Returns the sum of the taken transfers that are booked accepted, in cents.
     pub fn debits(&self) -> u128
         ensures { result ≡ debits self.now.events }
     {
         sums::debits(self.events())
     }
 
-    /// The taken transfers with nothing booked, in cents.
+    /// Returns the sum of the taken transfers without a booked outcome, in cents.
     pub fn reserved(&self) -> u128
         ensures { result ≡ reserved self.now.events }
     {
         sums::reserved(self.events())
     }
 
-    /// Net funding and credits less debits, in cents.
+    /// Returns the position in cents: net funding and credits, less debits.
     pub fn position(&self) -> u128
         ensures { result ≡ position self.now.events }
     {
         sums::position(self.events())
     }
 
-    /// The position less what is reserved, in cents.
+    /// Returns what is available in cents: the position less what is reserved.
     pub fn available(&self) -> u128
         ensures { result ≡ available self.now.events }
     {

@@ -1,21 +1,21 @@
-//! What a history carries over an opening from the books.
+//! The part of a history that is carried over an opening from the books.
 ghost use Rattle.std.specs.Prelude.{◌≡◌, ◌≤◌, true, false, length, take, drop};
 ghost use Rattle.inst_journal.specs.Opened.{is_opening, carried, current, openings};
 ghost use Rattle.inst_journal.specs.Opened.{HasOpeningsLeft};
 
 use crate::{Event, Journal};
 
-/// How often books can be opened from.
+/// The most openings from books that a history can have.
 pub const MOST_OPENINGS: usize = 500;
 
-/// Whether the event is an opening.
+/// Returns `true` if the event is an opening.
 fn is_opening(event: &Event) -> bool
     ensures { result ≡ is_opening event.now }
 {
     matches!(event, Event::Opened)
 }
 
-/// How many events come up to and with the last opening.
+/// Returns the number of events up to and including the last opening.
 pub(crate) fn carried_length(events: &[Event]) -> usize
     ensures within { result ≤ length events.now }
     ensures carried { take result events.now ≡ carried events.now }
@@ -30,14 +30,14 @@ pub(crate) fn carried_length(events: &[Event]) -> usize
     carried
 }
 
-/// The events up to and with the last opening.
+/// Returns the events up to and including the last opening.
 pub(crate) fn carried(events: &[Event]) -> &[Event]
     ensures { result.now ≡ carried events.now }
 {
     &events[..carried_length(events)]
 }
 
-/// The events after the last opening.
+/// Returns the events after the last opening.
 pub(crate) fn current(events: &[Event]) -> &[Event]
     ensures { result.now ≡ current events.now }
 {
@@ -45,7 +45,7 @@ pub(crate) fn current(events: &[Event]) -> &[Event]
 }
 
 impl Journal {
-    /// How often it was opened from. It walks over the events.
+    /// Returns how often the hub was opened from these books. Cost: linear in the events.
     pub fn openings(&self) -> usize
         ensures { result ≡ openings self.now.events }
     {
@@ -55,7 +55,8 @@ impl Journal {
             .count()
     }
 
-    /// Whether it can be opened from once more. It walks over the events.
+    /// Returns `true` if the hub can be opened from these books once more. Cost: linear in the
+    /// events.
     pub fn has_openings_left(&self) -> bool
         ensures left { result ≡ true → HasOpeningsLeft self.now.events }
         ensures none { result ≡ false → ¬ HasOpeningsLeft self.now.events }

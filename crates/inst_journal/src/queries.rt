@@ -1,4 +1,4 @@
-//! Questions for the position, the inbox and the statement.
+//! Replies about the position and the inbox.
 ghost use Rattle.std.specs.Prelude.{◌≡◌, ◌≤◌, true, take, length, sum_by, IfOk, IsOk};
 ghost use Rattle.inst_base.specs.Fault.{IsUnlessMemory};
 ghost use Rattle.inst_settings.specs.Lawful.{IsSettings};
@@ -14,7 +14,7 @@ use inst_command::{Entries, Entry, Reply};
 use inst_settings::Settings;
 use std::alloc::{AllocError, Global};
 
-/// The position, what of it is reserved, and what is available.
+/// Replies the position, what is reserved and what is available.
 pub(crate) fn position(settings: &Settings, who: u8, events: &[Event]) -> Reply
     requires lawful { IsSettings settings.now }
     requires sound { IsSound settings.now who events.now }
@@ -31,7 +31,7 @@ pub(crate) fn position(settings: &Settings, who: u8, events: &[Event]) -> Reply
     }
 }
 
-/// How many forwarded transfers were handed out.
+/// Returns the number of forwarded transfers that were fetched.
 fn handed_out(events: &[Event]) -> usize
     requires { sum_by handed_out events.now ≤ length events.now }
     ensures { result ≡ sum_by handed_out events.now }
@@ -45,7 +45,7 @@ fn handed_out(events: &[Event]) -> usize
     total
 }
 
-/// The entry of a forwarded transfer.
+/// Returns the entry of a forwarded transfer.
 fn entry_of(event: &Event) -> Option<Entry>
     ensures { result ≡ entry_of event.now }
 {
@@ -65,22 +65,21 @@ fn entry_of(event: &Event) -> Option<Entry>
     }
 }
 
-/// All forwarded transfers, in order of arrival.
+/// Returns all forwarded transfers, in order of arrival.
 fn inbox(alloc: Global, events: &[Event]) -> Result<Vec<Entry>, AllocError>
     ensures { IfOk result (λ entries. entries.items ≡ inbox events.now) }
 {
     events.iter().filter_map(entry_of).collect(alloc)
 }
 
-/// How many transfers were forwarded.
+/// Returns the number of forwarded transfers.
 fn arrivals(events: &[Event]) -> usize
     ensures { result ≡ length (inbox events.now) }
 {
     events.iter().filter_map(entry_of).count()
 }
 
-/// The next unread forwarded transfers, at most `max` of them. It takes no memory where all are
-/// read.
+/// Returns at most `max` of the next unread forwarded transfers. Allocates only if there are any.
 fn unread(alloc: Global, events: &[Event], max: u32) -> Result<Vec<Entry>, AllocError>
     requires { sum_by handed_out events.now ≤ length (inbox events.now) }
     ensures ok { IfOk result (λ entries. entries.items ≡ take max (unread events.now)) }
@@ -95,8 +94,7 @@ fn unread(alloc: Global, events: &[Event], max: u32) -> Result<Vec<Entry>, Alloc
     rest[..rest.len().min(max as usize)].to_vec(alloc)
 }
 
-/// Hands out the next unread forwarded transfers, at most `max` of them. `Memory` only where there
-/// are some.
+/// Fetches at most `max` of the next unread forwarded transfers. `Memory` only if there are any.
 pub(crate) fn fetch(
     alloc: Global,
     settings: &Settings,

@@ -1,4 +1,4 @@
-//! The reply to a command of a participant, on its journal.
+//! The reply to a participant's command, on its journal.
 ghost use Rattle.std.specs.Prelude.{◌≡◌, true, false};
 ghost use Rattle.inst_base.specs.Fault.{IsUnlessMemory};
 ghost use Rattle.inst_settings.specs.Lawful.{IsSettings};
@@ -13,8 +13,12 @@ use inst_command::{Command, Outcome, Reply};
 use inst_settings::Settings;
 use std::alloc::Global;
 
-/// The reply to a command, as `handle_command` gives it. It keeps nothing. Only a statement,
-/// and a fetch where something is unread, may answer `Memory`.
+/// Returns the reply to a command as [`handle_command`](crate::handle_command) gives it, and adds
+/// no event.
+///
+/// # Errors
+///
+/// As for `handle_command`: the first refusal that applies, or [`Fault::Memory`].
 pub fn reply_of(
     alloc: Global,
     settings: &Settings,

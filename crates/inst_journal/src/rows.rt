@@ -1,4 +1,4 @@
-//! Worked rows of one participant's history, computed from the definitions.
+//! Worked rows of a participant's history, computed from the definitions.
 ghost use Rattle.std.specs.Prelude.{◌≡◌, [], ◌∷◌, ◌++◌, Some, None, Ok, codes};
 ghost use Rattle.inst_base.specs.declared.fault.Fault.{Fault};
 ghost use Rattle.inst_command.specs.declared.line.LineKind.{LineKind};
@@ -17,8 +17,8 @@ ghost use Rattle.inst_journal.specs.Rows.{two_places};
 ghost use Rattle.inst_journal.specs.Rows.{all_fundings};
 ghost use Rattle.inst_journal.specs.Rows.{all_with_a_defunding, arrivals, confirmation, rejection};
 
-/// What is pending at an opening stays reserved after it, and is settled when its outcome is
-/// learnt.
+/// A transfer that is pending at an opening stays reserved after it, and is settled when its
+/// outcome is booked.
 pub fn carried_over_an_opening()
     ensures { answers A (opened_events submitted_events)
         (asked_position ∷ asked_investigate (codes "T1") (Some Outcome.Accepted) ∷ asked_position ∷ []) ≡
@@ -26,8 +26,8 @@ pub fn carried_over_an_opening()
         ∷ money 30000 0 30000 ∷ [] }
 {}
 
-/// Repeats and duplicates are known over an opening, of what is pending and of what is settled, and
-/// keep nothing.
+/// Repeats and duplicates are recognised after an opening, for pending and for settled transfers,
+/// and add no event.
 pub fn repeat_and_duplicate_over_an_opening()
     ensures pending { answers A (opened_events submitted_events) again ≡
         taken (codes "T1") ∷ refused Fault.Duplicate ∷ done (codes "F1") ∷ refused Fault.Duplicate
@@ -39,7 +39,7 @@ pub fn repeat_and_duplicate_over_an_opening()
         ≡ opened_events accepted_events }
 {}
 
-/// An opening gives back the place of what is settled and not that of what is pending.
+/// An opening frees the place of a settled transfer, but not that of a pending one.
 pub fn places_given_back()
     ensures before { answers A two_places (asked_submit (codes "T3") 100 1000 ∷ [])
         ≡ refused Fault.Full ∷ [] }
@@ -48,8 +48,7 @@ pub fn places_given_back()
         taken (codes "T3") ∷ refused Fault.Full ∷ [] }
 {}
 
-/// A statement begins anew at an opening: with the number 1, and from the position of the whole
-/// history.
+/// An opening begins a new statement: with number 1, and from the position of the whole history.
 pub fn statement_begins_anew()
     ensures { answers A (opened_events accepted_events)
         (statement ∷ asked_fund (codes "F2") 1000 ∷ statement ∷ []) ≡
@@ -64,8 +63,8 @@ pub fn statement_begins_anew()
         } ∷ [])) ∷ [] }
 {}
 
-/// An outcome that was booked before an opening is answered again after it, whatever is found, and
-/// nothing is kept.
+/// An outcome that was booked before an opening is replied again after it, whatever is found, and
+/// no event is added.
 pub fn outcome_answered_after_an_opening()
     ensures answer { answers A (opened_events accepted_events)
         (asked_investigate (codes "T1") (Some Outcome.TimedOut)
@@ -76,8 +75,8 @@ pub fn outcome_answered_after_an_opening()
         opened_events accepted_events }
 {}
 
-/// With all fundings used a kept reference with another amount is a duplicate, and the same command
-/// a repeat. An opening gives the fundings back.
+/// With all fundings used, a kept reference with another amount is a duplicate, and the same
+/// command a repeat. An opening frees the fundings.
 pub fn duplicate_before_full()
     ensures full { answers A all_fundings (asked_fund (codes "F1") 11 ∷ asked_fund (codes "F1") 10
         ∷ asked_fund (codes "F5") 50 ∷ []) ≡
@@ -86,8 +85,8 @@ pub fn duplicate_before_full()
         ≡ done (codes "F5") ∷ [] }
 {}
 
-/// A submission that meets several refusals gets the first: to itself, an identifier that is kept,
-/// a stamp ahead, a reading at the deadline, no place, more than is available.
+/// A submission to which several refusals apply gets the first: own originator, kept identifier,
+/// stamp ahead, reading at the deadline, no place, more than is available.
 pub fn submission_refused_by_the_first()
     ensures full { answers A two_places
         (too_much A (codes "T1") 2001 1000 ∷ too_much B (codes "T1") 2001 1000
@@ -100,9 +99,8 @@ pub fn submission_refused_by_the_first()
         refused Fault.Shortage ∷ refused Fault.Shortage ∷ [] }
 {}
 
-/// A defunding that meets several refusals gets the first: a reference that is kept, no funding
-/// left, more than is available. Fund and defund commands use the same fundings and keep their
-/// references together.
+/// A defunding to which several refusals apply gets the first: kept reference, no free funding,
+/// more than is available. Fund and defund commands share the fundings and the references.
 pub fn defunding_refused_by_the_first()
     ensures full { answers A all_with_a_defunding
         (defund (codes "F1") 99 ∷ defund (codes "F5") 99 ∷ asked_fund (codes "D1") 5 ∷ asked_fund (codes "F5") 1
@@ -114,7 +112,7 @@ pub fn defunding_refused_by_the_first()
         refused Fault.Shortage ∷ done (codes "D2") ∷ [] }
 {}
 
-/// Pages come in the order of arrival, also over an opening.
+/// Pages are in order of arrival, also after an opening.
 pub fn fetch_in_order_of_arrival()
     ensures pages { answers B arrivals (fetch 2 ∷ fetch 2 ∷ fetch 2 ∷ []) ≡
         Ok (Reply.Inbox (record { from = A; id = codes "T1"; cents = 100; deadline = 11000 }
@@ -130,14 +128,13 @@ pub fn fetch_in_order_of_arrival()
         ∷ [] }
 {}
 
-/// A confirmation that leaves the transfer pending, since it was read in the margin, comes too late
-/// and keeps nothing.
+/// A confirmation in the margin, which leaves the transfer pending, is refused and adds no event.
 pub fn confirmed_in_the_margin()
     ensures answer { answers B arrivals (confirmation ∷ []) ≡ refused Fault.Expired ∷ [] }
     ensures keeps_nothing { after B arrivals (confirmation ∷ []) ≡ arrivals }
 {}
 
-/// A rejection that leaves the transfer pending says so and keeps nothing.
+/// A rejection that leaves the transfer pending replies so and adds no event.
 pub fn rejected_while_pending()
     ensures answer { answers B arrivals (rejection ∷ []) ≡ state A (codes "T1") State.Pending ∷ [] }
     ensures keeps_nothing { after B arrivals (rejection ∷ []) ≡ arrivals }

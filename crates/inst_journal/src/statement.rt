@@ -1,4 +1,4 @@
-//! A participant's statement, by a walk over the fronts of its history.
+//! A participant's statement, from the prefixes of its history.
 ghost use Rattle.std.specs.Prelude.{◌≡◌, None, IfOk};
 ghost use Rattle.inst_base.specs.Fault.{IsUnlessMemory};
 ghost use Rattle.inst_settings.specs.Lawful.{IsSettings};
@@ -19,7 +19,7 @@ use inst_command::{Funding, Line, LineKind, Lines, Outcome, Reply};
 use inst_settings::Settings;
 use std::alloc::{AllocError, Global};
 
-/// The line of the forwarded transfer with this key, from the event that forwards it.
+/// Returns the line of this forwarded transfer, from the event that forwards it.
 fn received(number: u32, position: u64, from: u8, id: &Ident, event: &Event) -> Option<Line>
     ensures { result ≡ received number position from id.now event.now }
 {
@@ -41,7 +41,7 @@ fn received(number: u32, position: u64, from: u8, id: &Ident, event: &Event) -> 
     }
 }
 
-/// The line of the taken transfer with this identifier, from the event that takes it.
+/// Returns the line of the taken transfer with this identifier, from the event that takes it.
 fn paid(number: u32, position: u64, id: &Ident, event: &Event) -> Option<Line>
     ensures { result ≡ paid number position id.now event.now }
 {
@@ -63,7 +63,7 @@ fn paid(number: u32, position: u64, id: &Ident, event: &Event) -> Option<Line>
     }
 }
 
-/// The line of the forwarded transfer with this key.
+/// Returns the line of this forwarded transfer.
 fn line_received(events: &[Event], number: u32, position: u64, from: u8, id: &Ident) -> Option<Line>
     ensures { result ≡ first_some (received number position from id.now) events.now }
 {
@@ -76,7 +76,7 @@ fn line_received(events: &[Event], number: u32, position: u64, from: u8, id: &Id
     None
 }
 
-/// The line of the taken transfer with this identifier.
+/// Returns the line of the taken transfer with this identifier.
 fn line_paid(events: &[Event], number: u32, position: u64, id: &Ident) -> Option<Line>
     ensures { result ≡ first_some (paid number position id.now) events.now }
 {
@@ -89,7 +89,7 @@ fn line_paid(events: &[Event], number: u32, position: u64, id: &Ident) -> Option
     None
 }
 
-/// The line of an accepted transfer of the history.
+/// Returns the line of an accepted transfer of the history.
 fn accepted(events: &[Event], number: u32, position: u64, from: u8, id: &Ident) -> Option<Line>
     ensures { result ≡ line_of_accepted events.now number position from id.now }
 {
@@ -100,7 +100,7 @@ fn accepted(events: &[Event], number: u32, position: u64, from: u8, id: &Ident) 
     }
 }
 
-/// The line of a booked transfer of the history, if it was accepted.
+/// Returns the line of a booked transfer of the history, if it was accepted.
 fn booked_line(
     events: &[Event],
     number: u32,
@@ -117,7 +117,7 @@ fn booked_line(
     }
 }
 
-/// The line of an event of the history, if it has one.
+/// Returns the line of an event of the history, if it has one.
 fn line_of(events: &[Event], number: u32, position: u64, event: &Event) -> Option<Line>
     ensures { result ≡ line_of events.now number position event.now }
 {
@@ -135,7 +135,7 @@ fn line_of(events: &[Event], number: u32, position: u64, event: &Event) -> Optio
     }
 }
 
-/// The line of a funding or a defunding.
+/// Returns the line of a funding or a defunding.
 fn funding_line(number: u32, kind: LineKind, funding: &Funding, position: u64) -> Line
     ensures { result ≡ record {
       number = number;
@@ -156,7 +156,7 @@ fn funding_line(number: u32, kind: LineKind, funding: &Funding, position: u64) -
     }
 }
 
-/// The position after a front of the history.
+/// Returns the position after a prefix of the history.
 fn position_after(settings: &Settings, who: u8, front: &[Event]) -> u64
     requires lawful { IsSettings settings.now }
     requires sound { IsSound settings.now who front.now }
@@ -165,7 +165,7 @@ fn position_after(settings: &Settings, who: u8, front: &[Event]) -> u64
     sums::position(front) as u64
 }
 
-/// All lines since the last opening, numbered from 1.
+/// Returns all lines since the last opening, numbered from 1.
 fn all_lines(
     alloc: Global,
     settings: &Settings,
@@ -188,7 +188,7 @@ fn all_lines(
     Ok(lines)
 }
 
-/// At most `count` lines after the first `skip`.
+/// Returns at most `count` lines after the first `skip`.
 fn lines_part(
     alloc: Global,
     settings: &Settings,
@@ -209,7 +209,7 @@ fn lines_part(
     rest[..rest.len().min(count as usize)].to_vec(alloc)
 }
 
-/// Answers at most `count` statement lines after the first `skip`.
+/// Replies at most `count` statement lines after the first `skip`.
 pub(crate) fn statement(
     alloc: Global,
     settings: &Settings,

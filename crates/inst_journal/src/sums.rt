@@ -13,7 +13,7 @@ use crate::booked::{booked, own_booked};
 use inst_base::Cents;
 use inst_command::Outcome;
 
-/// The amount where the outcome is `Accepted`, else 0.
+/// Returns the amount if the outcome is `Accepted`, else 0.
 fn if_accepted(outcome: Option<Outcome>, cents: Cents) -> u64
     ensures value { result ≡ if_accepted outcome cents }
     ensures within { result ≤ MOST_CENTS }
@@ -24,7 +24,7 @@ fn if_accepted(outcome: Option<Outcome>, cents: Cents) -> u64
     }
 }
 
-/// The amount where nothing is booked, else 0.
+/// Returns the amount if no outcome is booked, else 0.
 fn if_unbooked(outcome: Option<Outcome>, cents: Cents) -> u64
     ensures value { result ≡ amount_unbooked outcome cents }
     ensures within { result ≤ MOST_CENTS }
@@ -35,7 +35,7 @@ fn if_unbooked(outcome: Option<Outcome>, cents: Cents) -> u64
     }
 }
 
-/// What the event adds to the net funding.
+/// Returns what the event adds to the net funding.
 fn funding(event: &Event) -> u64
     ensures value { result ≡ funding event.now }
     ensures within { result ≤ (if is_funding event.now then MOST_CENTS else 0) }
@@ -46,7 +46,7 @@ fn funding(event: &Event) -> u64
     }
 }
 
-/// What the event takes away from the net funding.
+/// Returns what the event takes from the net funding.
 fn defunding(event: &Event) -> u64
     ensures value { result ≡ defunding event.now }
     ensures within { result ≤ MOST_CENTS }
@@ -57,7 +57,7 @@ fn defunding(event: &Event) -> u64
     }
 }
 
-/// What the event credits: a forwarded transfer that is booked accepted.
+/// Returns what the event credits: the amount of a forwarded transfer that is booked accepted.
 fn credit(events: &[Event], event: &Event) -> u64
     ensures value { result ≡ credit events.now event.now }
     ensures within { result ≤ (if is_forwarding event.now then MOST_CENTS else 0) }
@@ -73,7 +73,7 @@ fn credit(events: &[Event], event: &Event) -> u64
     }
 }
 
-/// What the event debits: a taken transfer that is booked accepted.
+/// Returns what the event debits: the amount of a taken transfer that is booked accepted.
 fn debit(events: &[Event], event: &Event) -> u64
     ensures value { result ≡ debit events.now event.now }
     ensures within { result ≤ MOST_CENTS }
@@ -84,7 +84,7 @@ fn debit(events: &[Event], event: &Event) -> u64
     }
 }
 
-/// What the event reserves: a taken transfer with nothing booked.
+/// Returns what the event reserves: the amount of a taken transfer without a booked outcome.
 fn reservation(events: &[Event], event: &Event) -> u64
     ensures value { result ≡ reservation events.now event.now }
     ensures within { result ≤ MOST_CENTS }
@@ -95,7 +95,7 @@ fn reservation(events: &[Event], event: &Event) -> u64
     }
 }
 
-/// All that was funded.
+/// Returns the sum of all fundings.
 pub(crate) fn funded(events: &[Event]) -> u128
     ensures value { result ≡ funded events.now }
     ensures within { result ≤ length events.now * MOST_CENTS }
@@ -109,7 +109,7 @@ pub(crate) fn funded(events: &[Event]) -> u128
     total
 }
 
-/// All that was defunded.
+/// Returns the sum of all defundings.
 pub(crate) fn defunded(events: &[Event]) -> u128
     ensures value { result ≡ defunded events.now }
     ensures within { result ≤ length events.now * MOST_CENTS }
@@ -121,7 +121,7 @@ pub(crate) fn defunded(events: &[Event]) -> u128
     total
 }
 
-/// The forwarded transfers that are booked accepted.
+/// Returns the sum of the forwarded transfers that are booked accepted.
 pub(crate) fn credits(events: &[Event]) -> u128
     ensures value { result ≡ credits events.now }
     ensures within { result ≤ length events.now * MOST_CENTS }
@@ -135,7 +135,7 @@ pub(crate) fn credits(events: &[Event]) -> u128
     total
 }
 
-/// The taken transfers that are booked accepted.
+/// Returns the sum of the taken transfers that are booked accepted.
 pub(crate) fn debits(events: &[Event]) -> u128
     ensures value { result ≡ debits events.now }
     ensures within { result ≤ length events.now * MOST_CENTS }
@@ -147,7 +147,7 @@ pub(crate) fn debits(events: &[Event]) -> u128
     total
 }
 
-/// The taken transfers with nothing booked.
+/// Returns the sum of the taken transfers without a booked outcome.
 pub(crate) fn reserved(events: &[Event]) -> u128
     ensures value { result ≡ reserved events.now }
     ensures within { result ≤ length events.now * MOST_CENTS }
@@ -159,7 +159,7 @@ pub(crate) fn reserved(events: &[Event]) -> u128
     total
 }
 
-/// Net funding and credits less debits.
+/// Returns net funding and credits, less debits.
 pub(crate) fn position(events: &[Event]) -> u128
     ensures value { result ≡ position events.now }
     ensures counted { result ≤ sum_by (λ event. if is_funding event then MOST_CENTS
@@ -170,7 +170,7 @@ pub(crate) fn position(events: &[Event]) -> u128
     came_in.saturating_sub(defunded(events) + debits(events))
 }
 
-/// The position less what is reserved.
+/// Returns the position less what is reserved.
 pub(crate) fn available(events: &[Event]) -> u128
     ensures { result ≡ available events.now }
 {

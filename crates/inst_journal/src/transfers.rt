@@ -14,8 +14,8 @@ use inst_base::{Fault, Ident, Moment};
 use inst_command::{Outcome, Reply, State, Submission};
 use inst_settings::Settings;
 
-/// Reserves the amount: refused, in this order, by `SelfTransfer`, `Duplicate`, `StampAhead`,
-/// `Expired`, `Full` and `Shortage`.
+/// Takes a submission and reserves its amount. Refuses, in this order: `SelfTransfer`, `Duplicate`,
+/// `StampAhead`, `Expired`, `Full`, `Shortage`. A repeat is recognised before `Duplicate`.
 pub(crate) fn submit(
     settings: &Settings,
     who: u8,
@@ -67,14 +67,14 @@ pub(crate) fn submit(
     })
 }
 
-/// The reply that tells a transfer's state.
+/// Returns the reply with a transfer's state.
 fn told(from: u8, id: Ident, state: State) -> Reply
     ensures { result ≡ Reply.State from id state }
 {
     Reply::State { from, id, state }
 }
 
-/// The answer that the transfer is pending, which keeps nothing. It takes no memory.
+/// Replies that the transfer is pending, and adds no event; doesn't allocate.
 pub fn still_pending(from: u8, id: Ident) -> Result<Handled, Fault>
     ensures { result ≡ still_pending from id }
 {
@@ -84,8 +84,10 @@ pub fn still_pending(from: u8, id: Ident) -> Result<Handled, Fault>
     })
 }
 
-/// What a side that has booked `known` and finds `found` is answered: `pending` where it is
-/// neither, and else the outcome, whose booking is kept where it is new. It takes no memory.
+/// Returns the reply to a party that has booked the outcome `known` and finds the outcome `found`.
+///
+/// It is `pending` if there is neither; else the outcome, `known` before `found`, and a found
+/// outcome is booked if there is no known one. Doesn't allocate.
 pub fn standing(
     from: u8,
     id: Ident,
@@ -102,7 +104,7 @@ pub fn standing(
     }
 }
 
-/// The reply that tells the outcome, and where it is new the event that books it.
+/// Returns the reply with the outcome and, if it is new, the event that books it.
 fn decided(from: u8, id: Ident, is_new: bool, outcome: &Outcome) -> Handled
     ensures reply { result.reply ≡ Reply.State from id (State.Decided outcome.now) }
     ensures kept { result.kept
@@ -123,8 +125,8 @@ fn decided(from: u8, id: Ident, is_new: bool, outcome: &Outcome) -> Handled
     }
 }
 
-/// Books what is found of a forwarded transfer, and answers `pending` where it is pending. Refused
-/// by `UnknownTransfer` where it wasn't forwarded.
+/// Books the outcome that is found of a forwarded transfer; replies `pending` without an outcome.
+/// Refuses `UnknownTransfer` if the transfer wasn't forwarded.
 fn answer_forwarded(
     events: &[Event],
     from: u8,
@@ -140,8 +142,8 @@ fn answer_forwarded(
     standing(from, id, pending, booked(events, from, &id), found)
 }
 
-/// Books what is found of a forwarded transfer. A confirmation that leaves it pending was read in
-/// the margin before the deadline: it is refused as `Expired`.
+/// Books the outcome that is found of a forwarded transfer. Refuses `Expired` without one: the
+/// confirmation was then read in the margin before the deadline.
 pub(crate) fn confirm(
     events: &[Event],
     from: u8,
@@ -153,7 +155,7 @@ pub(crate) fn confirm(
     answer_forwarded(events, from, id, Err(Fault::Expired), found)
 }
 
-/// Books what is found of a forwarded transfer.
+/// Books the outcome that is found of a forwarded transfer.
 pub(crate) fn reject(
     events: &[Event],
     from: u8,
@@ -165,7 +167,8 @@ pub(crate) fn reject(
     answer_forwarded(events, from, id, still_pending(from, id), found)
 }
 
-/// Books what is found of a taken transfer, or answers `UnknownTransfer` where it wasn't taken.
+/// Books the outcome that is found of a taken transfer. Refuses `UnknownTransfer` if it wasn't
+/// taken.
 pub(crate) fn investigate(
     who: u8,
     events: &[Event],

@@ -1,8 +1,8 @@
--- The asks of command lines. Each command is a table of its fields, in which no order counts, and
--- then the checks of what they hold, in the order in which refusals are told: identifier, amount,
--- moments, participants. Where two checks have the same refusal, as those of two moments, no reply
--- tells which came first. The commands stand for the scheme's messages (EPC004-16, chapter 4:
--- datasets); fields and order are this hub's own choice.
+-- The asks of command lines. Each command first reads its fields, in which order doesn't matter,
+-- and then checks their values in the order of the faults: identifier, amount, moments,
+-- participants. If two checks have the same fault, no reply shows which came first. The commands
+-- stand for the scheme's messages (EPC004-16, chapter 4: datasets); fields and order are a choice
+-- of this hub.
 use Rattle.std.specs.Prelude.{Result, Ok}
 use Rattle.inst_base.specs.Text.{identifier_of}
 use Rattle.inst_settings.specs.Settings.{HubSettings}
@@ -23,7 +23,7 @@ use Rattle.inst_json.specs.declared.refusal.Refusal.{Refusal}
 use Rattle.inst_json.specs.declared.verb.Verb.{Verb}
 use Rattle.inst_json.specs.declared.verb.Verb.TheVariants as verb
 
--- what is funded or defunded, and by whom
+-- A fund or defund command, and its asker.
 unfoldable pub funding_of : HubSettings → Asker → LineFields → Result AskedFunding Refusal
 funding_of s asker line = do
   reference ← in_field name.Reference (text_in line.reference)
@@ -33,7 +33,7 @@ funding_of s asker line = do
   asker ← known_of s asker
   Ok (record { asker = asker; funding = record { reference = reference; cents = cents } })
 
--- a submission
+-- A submission.
 unfoldable pub submit_of : HubSettings → Asker → LineFields → Result Ask Refusal
 submit_of s asker line = do
   id ← in_field name.Id (text_in line.id)
@@ -47,7 +47,7 @@ submit_of s asker line = do
   to ← in_field name.To (participant_of s to)
   Ok (asking asker (command.Submit (record { id = id; to = to; cents = cents; stamp = stamp })))
 
--- the transfer that a beneficiary confirms or rejects
+-- The transfer that a beneficiary confirms or rejects.
 unfoldable pub received_of : HubSettings → Asker → LineFields → Result Received Refusal
 received_of s asker line = do
   from ← in_field name.From (code_in line.from)
@@ -57,14 +57,14 @@ received_of s asker line = do
   from ← in_field name.From (participant_of s from)
   Ok (record { asker = asker; from = from; id = id })
 
--- a rejection
+-- A rejection.
 unfoldable pub reject_of : HubSettings → Asker → LineFields → Result Ask Refusal
 reject_of s asker line = do
   reason ← in_field name.Reason (reason_in line.reason)
   transfer ← received_of s asker line
   Ok (asking transfer.asker (command.Reject transfer.from transfer.id reason))
 
--- an investigation
+-- An investigation.
 unfoldable pub investigate_of : HubSettings → Asker → LineFields → Result Ask Refusal
 investigate_of s asker line = do
   id ← in_field name.Id (text_in line.id)
@@ -72,14 +72,14 @@ investigate_of s asker line = do
   asker ← known_of s asker
   Ok (asking asker (command.Investigate id))
 
--- a fetch of forwarded transfers
+-- A fetch of forwarded transfers.
 unfoldable pub fetch_of : HubSettings → Asker → LineFields → Result Ask Refusal
 fetch_of s asker line = do
   max ← in_field name.Max (count_in line.max)
   asker ← known_of s asker
   Ok (asking asker (command.Fetch max))
 
--- a question for statement lines
+-- A query for statement lines.
 unfoldable pub statement_of : HubSettings → Asker → LineFields → Result Ask Refusal
 statement_of s asker line = do
   skip ← in_field name.Skip (whole_in line.skip)
@@ -87,7 +87,7 @@ statement_of s asker line = do
   asker ← known_of s asker
   Ok (asking asker (command.Query (query.Statement skip count)))
 
--- the ask of a command line with a verb
+-- The ask of a command line with this verb.
 unfoldable pub command_of : HubSettings → Asker → LineFields → Verb → Result Ask Refusal
 command_of s asker line verb.Fund = do
   asked ← funding_of s asker line
@@ -107,7 +107,7 @@ command_of s asker line verb.Position = do
   Ok (asking asker (command.Query query.Position))
 command_of s asker line verb.Statement = statement_of s asker line
 
--- the ask of a command line
+-- The ask of a command line.
 unfoldable pub ask_of : HubSettings → LineFields → Result Ask Refusal
 ask_of s line = do
   verb ← in_field name.Cmd (verb_in line.cmd)

@@ -1,4 +1,4 @@
--- Public contracts cite these.
+-- Definitions that public contracts cite.
 pub mod Name
 pub mod Refusals
 pub mod Fields
@@ -13,5 +13,5 @@ pub mod StepLines
 pub mod Lines
 pub mod Laws
 pub mod LineFields
--- Only inner functions and proofs cite these.
+-- Definitions that only private functions and proofs cite.
 pub mod inner

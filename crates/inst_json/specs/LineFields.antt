@@ -1,5 +1,4 @@
--- What the fields of a scanned line tell of the line's object (JSON, RFC 8259). Which names lines
--- have is this hub's own choice.
+-- The fields of a line's object (JSON, RFC 8259). The names are a choice of this hub.
 use Rattle.std.specs.Prelude.{ℕ, List, replicate, Option, Some, None, option_and_then, [], ◌∷◌}
 use Rattle.std.specs.Prelude.{codes}
 use Rattle.serde_json.specs.Data.{Data}
@@ -8,14 +7,14 @@ use Rattle.inst_json.specs.declared.scanning.fields.Field.{Field}
 use Rattle.inst_json.specs.declared.scanning.fields.Fields.{Fields}
 use Rattle.inst_json.specs.declared.scanning.fields.Field.TheVariants as field
 
--- what stands under a name
+-- The value under a name.
 pub data FoundValue : Type 0 where
   missing : FoundValue
   text : List ℕ → FoundValue
   whole : ℕ → FoundValue
   other : FoundValue
 
--- what stands under each name that lines know
+-- The value under each name that lines know.
 pub record LineFields : Type 0 where
   pub cmd : FoundValue
   pub who : FoundValue
@@ -33,17 +32,18 @@ pub record LineFields : Type 0 where
   pub step : FoundValue
   pub place : FoundValue
 
+-- A text if there is one, else a whole number, else something else.
 abbrev pub text_or_whole : Option (List ℕ) → Option ℕ → FoundValue
 text_or_whole (Some s) n = text s
 text_or_whole None (Some n) = whole n
 text_or_whole None None = other
 
--- a value as what stands under a name: a text, a whole number of 64 bits, or something else
+-- A JSON value as a text, a whole number of 64 bits, or something else.
 abbrev pub value_found : Option Data → FoundValue
 value_found None = missing
 value_found (Some d) = text_or_whole (as_str d) (option_and_then as_u64 (as_number d))
 
--- what a value has under each name; only an object has anything
+-- The fields of a JSON value. Only an object has any.
 abbrev pub fields_of : Data → LineFields
 fields_of d = record {
   cmd = value_found (get (codes "cmd") d);
@@ -63,14 +63,14 @@ fields_of d = record {
   place = value_found (get (codes "place") d);
 }
 
--- what a field tells
+-- The value of a scanned field.
 abbrev pub field_value : Field → FoundValue
 field_value field.Missing = missing
 field_value (field.Text s) = text s.now
 field_value (field.Whole n) = whole n
 field_value field.Other = other
 
--- what the fields of a line tell
+-- The values of a line's scanned fields.
 abbrev pub fields_told : Fields → LineFields
 fields_told line = record {
   cmd = field_value line.cmd;
@@ -90,13 +90,13 @@ fields_told line = record {
   place = field_value line.place;
 }
 
--- the fields in the order of their names
+-- The fields in the order of their names.
 abbrev pub fields_in_order : Fields → List Field
 fields_in_order line =
     line.cmd ∷ line.who ∷ line.at ∷ line.reference ∷ line.id ∷ line.to ∷ line.from ∷ line.cents
     ∷ line.stamp
     ∷ line.reason ∷ line.max ∷ line.skip ∷ line.count ∷ line.step ∷ line.place ∷ []
 
--- the fields of a line that has none
+-- The fields of a line that has none.
 abbrev pub no_fields : List Field
 no_fields = replicate 15 field.Missing

@@ -1,9 +1,9 @@
--- The names of a line's fields. They are this hub's own choice.
+-- The names of a line's fields. They are a choice of this hub.
 use Rattle.std.specs.Prelude.{ℕ, List, codes}
 use Rattle.inst_json.specs.declared.name.Name.{Name}
 use Rattle.inst_json.specs.declared.name.Name.TheVariants as name
 
--- a name as a line has it
+-- A name as it is in a line.
 abbrev pub text_of : Name → List ℕ
 text_of name.Cmd = codes "cmd"
 text_of name.Who = codes "who"

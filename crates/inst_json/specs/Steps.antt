@@ -1,6 +1,6 @@
--- The steps of script lines. Each is a table of its fields, in which no order counts, and then the
--- checks of what they hold, in the order in which refusals are told: moments, participants. Steps
--- are this hub's own.
+-- The steps of script lines. Each first reads its fields, in which order doesn't matter, and then
+-- checks their values in the order of the faults: moments, participants. Steps are a choice of this
+-- hub.
 use Rattle.std.specs.Prelude.{ℕ, List, Result, Ok, Err, if◌then◌else◌, codes}
 use Rattle.inst_base.specs.declared.fault.Fault.TheVariants.{BadField}
 use Rattle.inst_settings.specs.Settings.{HubSettings, same_text}
@@ -16,7 +16,8 @@ use Rattle.inst_json.specs.declared.name.Name.TheVariants as name
 use Rattle.inst_json.specs.declared.refusal.Refusal.{Refusal}
 use Rattle.inst_json.specs.declared.step.Passing.{Passing}
 
--- a participant, and the place of an originator's transfer that it comes to know of
+-- A participant, and the place of an originator's transfer that is delivered to it or that it
+-- learns about.
 unfoldable pub passing_of : HubSettings → LineFields → Result Passing Refusal
 passing_of s line = do
   who ← in_field name.Who (code_in line.who)
@@ -26,19 +27,19 @@ passing_of s line = do
   from ← in_field name.From (participant_of s from)
   Ok (record { who = who; from = from; index = index })
 
--- the transfer at a place of `from` comes to the asker
+-- The transfer at a place of `from` is delivered to `who`.
 unfoldable pub deliver_of : HubSettings → LineFields → Result Step Refusal
 deliver_of s line = do
   passing ← passing_of s line
   Ok (step.Deliver passing.from passing.index passing.who)
 
--- the asker books the decided outcome of the transfer at a place of `from`
+-- The participant `who` books the decided outcome of the transfer at a place of `from`.
 unfoldable pub learn_of : HubSettings → LineFields → Result Step Refusal
 learn_of s line = do
   passing ← passing_of s line
   Ok (step.Learn passing.who passing.from passing.index)
 
--- the asker books the outcome of its own transfer at a place, or times it out when due
+-- The asker books the outcome of its own transfer at a place, or times it out if due.
 unfoldable pub expire_of : HubSettings → LineFields → Result Step Refusal
 expire_of s line = do
   asker ← asker_of line
@@ -46,7 +47,7 @@ expire_of s line = do
   asker ← known_of s asker
   Ok (step.Expire asker.who index asker.at)
 
--- the step that a name stands for
+-- The step of this name.
 abbrev pub step_named : HubSettings → LineFields → List ℕ → Result Step Refusal
 step_named s line text =
     if same_text text (codes "deliver") then deliver_of s line else
@@ -54,19 +55,19 @@ step_named s line text =
     (if same_text text (codes "expire") then expire_of s line
     else in_field name.Step (Err BadField)))
 
--- the step that the field `step` names
+-- The step that the field `step` names.
 unfoldable pub move_of : HubSettings → LineFields → Result Step Refusal
 move_of s line = do
   text ← in_field name.Step (text_in line.step)
   step_named s line text
 
--- the ask of a command line, as a step
+-- The ask of a command line, as a step.
 unfoldable pub asked_of : HubSettings → LineFields → Result Step Refusal
 asked_of s line = do
   ask ← ask_of s line
   Ok (step.Ask ask)
 
--- the step of a script line: an object with the field `step`, whatever it holds, is read by that
--- field alone
+-- The step of a script line. If the field `step` is present, whatever its value, the line isn't a
+-- command.
 unfoldable pub step_of : HubSettings → LineFields → Result Step Refusal
 step_of s line = if is_there line.step then move_of s line else asked_of s line

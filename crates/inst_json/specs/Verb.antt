@@ -1,4 +1,4 @@
--- The commands by the names that lines give them. The names are this hub's own choice.
+-- The commands by their names in lines. The names are a choice of this hub.
 use Rattle.std.specs.Prelude.{ℕ, List, Result, Ok, Err, if◌then◌else◌, codes}
 use Rattle.inst_base.specs.declared.fault.Fault.{Fault}
 use Rattle.inst_base.specs.declared.fault.Fault.TheVariants.{BadField}
@@ -10,7 +10,7 @@ use Rattle.inst_json.specs.declared.verb.Verb.{Verb}
 use Rattle.inst_json.specs.declared.verb.Verb.TheVariants.{Fund, Defund, Submit, Confirm, Reject}
 use Rattle.inst_json.specs.declared.verb.Verb.TheVariants.{Investigate, Fetch, Position, Statement}
 
--- the verb of a name, or that there is none
+-- The verb of a name, or BadField.
 unfoldable pub verb_of : List ℕ → Result Verb Fault
 verb_of name =
     if same_text name (codes "fund") then Ok Fund else
@@ -23,6 +23,6 @@ verb_of name =
     (if same_text name (codes "position") then Ok Position else
     (if same_text name (codes "statement") then Ok Statement else Err BadField))))))))
 
--- the verb in a field
+-- The verb in a field.
 unfoldable pub verb_in : FoundValue → Result Verb Fault
 verb_in field = text_in field >>= verb_of

@@ -1,4 +1,4 @@
-//! What every command has: who asks, and when.
+//! The asker and clock reading that every command line has.
 ghost use Rattle.std.specs.Prelude.{◌≡◌, true, IfOk};
 ghost use Rattle.inst_settings.specs.Settings.{is_participant};
 ghost use Rattle.inst_json.specs.LineFields.{fields_told};
@@ -13,21 +13,21 @@ use inst_base::{Code, Moment};
 use inst_command::{Ask, Command};
 use inst_settings::Settings;
 
-/// Who asks and when, as a line gives them: the reading is in absolute milliseconds.
+/// A line's asker and clock reading, in absolute milliseconds, before they are checked.
 #[derive(Clone, Copy)]
 pub(crate) struct Asker {
     pub who: Code,
     pub at: u64,
 }
 
-/// The number of who asks, and the moment.
+/// The participant who asks, and the moment.
 #[derive(Clone, Copy)]
 pub(crate) struct KnownAsker {
     pub who: u8,
     pub at: Moment,
 }
 
-/// The asker of a line, or `BadField`.
+/// Returns the asker of a line, or `BadField`.
 #[tactic(auto, unfolding(crate::specs::Asker::asker_of))]
 pub(crate) fn asker_of(line: &Fields<'_>) -> Result<Asker, Refusal>
     ensures { result ≡ asker_of (fields_told line.now) }
@@ -39,8 +39,8 @@ pub(crate) fn asker_of(line: &Fields<'_>) -> Result<Asker, Refusal>
 }
 
 impl Asker {
-    /// The asker as a participant, or `BadMoment` where the reading is outside the moments of the
-    /// hub, and else `UnknownParticipant`.
+    /// Returns the asker as a participant; `BadMoment` for a reading outside the hub's moments,
+    /// then `UnknownParticipant`.
     #[tactic(auto, unfolding(crate::specs::Asker::known_of))]
     pub(crate) fn known(&self, settings: &Settings) -> Result<KnownAsker, Refusal>
         ensures value { result ≡ known_of settings.now self.now }
@@ -53,7 +53,7 @@ impl Asker {
 }
 
 impl KnownAsker {
-    /// What it asks.
+    /// Returns the ask of this command.
     pub(crate) fn asks(self, command: Command) -> Ask
         ensures { result ≡ asking self command }
     {

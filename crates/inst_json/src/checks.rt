@@ -1,4 +1,4 @@
-//! The checks that come after each field is there: amount, moments, participants.
+//! Checks made once all fields of a line were read: amount, moments, participants.
 ghost use Rattle.std.specs.Prelude.{◌≡◌, true, IfOk};
 ghost use Rattle.inst_base.specs.Moment.{is_moment, moment_of};
 ghost use Rattle.inst_base.specs.TimeLimit.{deadline_of};
@@ -8,7 +8,7 @@ ghost use Rattle.inst_json.specs.Checks.{amount_of, stamp_of, participant_of};
 use inst_base::{Cents, Code, Fault, Moment};
 use inst_settings::Settings;
 
-/// The amount of this many cents, or `BadAmount` outside 1 to the ceiling.
+/// Returns the amount of this many cents; `BadAmount` outside 1 to the ceiling.
 #[tactic(auto, unfolding(crate::specs::Checks::amount_of))]
 pub(crate) fn amount(settings: &Settings, cents: u64) -> Result<Cents, Fault>
     ensures value { result ≡ amount_of settings.now cents }
@@ -22,15 +22,15 @@ pub(crate) fn amount(settings: &Settings, cents: u64) -> Result<Cents, Fault>
     Ok(amount)
 }
 
-/// The moment at `ms` absolute milliseconds, or `BadMoment` outside the moments of the hub.
+/// Returns the moment at `ms` absolute milliseconds; `BadMoment` outside the hub's moments.
 pub(crate) fn moment(settings: &Settings, ms: u64) -> Result<Moment, Fault>
     ensures { result ≡ moment_of settings.now.base ms }
 {
     Moment::new(settings.base(), ms)
 }
 
-/// The time stamp at `ms` absolute milliseconds, or `BadMoment` where it or its deadline is outside
-/// the moments of the hub.
+/// Returns the time stamp at `ms` absolute milliseconds; `BadMoment` if it or its deadline is
+/// outside the hub's moments.
 #[tactic(auto, unfolding(crate::specs::Checks::stamp_of))]
 pub(crate) fn time_stamp(settings: &Settings, ms: u64) -> Result<Moment, Fault>
     ensures value { result ≡ stamp_of settings.now ms }
@@ -43,7 +43,11 @@ pub(crate) fn time_stamp(settings: &Settings, ms: u64) -> Result<Moment, Fault>
     Ok(stamp)
 }
 
-/// The number of the participant with this code, or `UnknownParticipant`.
+/// Returns the number of the participant with this code.
+///
+/// # Errors
+///
+/// [`Fault::UnknownParticipant`] if no participant has the code.
 #[tactic(auto, unfolding(crate::specs::Checks::participant_of))]
 pub fn participant(settings: &Settings, code: &Code) -> Result<u8, Fault>
     ensures value { result ≡ participant_of settings.now code.now }

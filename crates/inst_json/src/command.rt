@@ -1,4 +1,4 @@
-//! The asks of the nine commands: each reads all its fields, and then checks what they hold.
+//! Command lines: each command reads all its fields first, then checks their values.
 ghost use Rattle.std.specs.Prelude.{◌≡◌, true, IfOk};
 ghost use Rattle.inst_json.specs.LineFields.{fields_told};
 ghost use Rattle.inst_settings.specs.Settings.{is_participant, is_within_ceiling};
@@ -17,14 +17,14 @@ use inst_base::Ident;
 use inst_command::{Ask, Command, Funding, Query, Submission};
 use inst_settings::Settings;
 
-/// What is funded or defunded, and by whom.
+/// A fund or defund command, and its asker.
 #[derive(Clone, Copy)]
 struct AskedFunding {
     asker: KnownAsker,
     funding: Funding,
 }
 
-/// What a fund or defund command says, or the first refusal of its line.
+/// Reads a fund or defund command.
 #[tactic(auto, unfolding(crate::specs::Commands::funding_of))]
 fn funding_of(
     settings: &Settings,
@@ -47,7 +47,7 @@ fn funding_of(
     })
 }
 
-/// A submission, or the first refusal of its line.
+/// Reads a submission.
 #[tactic(auto, unfolding(crate::specs::Commands::submit_of))]
 fn submit(settings: &Settings, asker: &Asker, line: &Fields<'_>) -> Result<Ask, Refusal>
     ensures value { result ≡ submit_of settings.now asker.now (fields_told line.now) }
@@ -70,7 +70,7 @@ fn submit(settings: &Settings, asker: &Asker, line: &Fields<'_>) -> Result<Ask, 
     })))
 }
 
-/// A transfer that a beneficiary confirms or rejects: who does, the originator, and the identifier.
+/// The transfer that a beneficiary confirms or rejects, and its asker.
 #[derive(Clone, Copy)]
 struct Received {
     asker: KnownAsker,
@@ -78,7 +78,7 @@ struct Received {
     id: Ident,
 }
 
-/// What a confirmation or rejection is of, or the first refusal of its line.
+/// Reads the transfer of a confirmation or rejection.
 #[tactic(auto, unfolding(crate::specs::Commands::received_of))]
 fn received_of(settings: &Settings, asker: &Asker, line: &Fields<'_>) -> Result<Received, Refusal>
     ensures value { result ≡ received_of settings.now asker.now (fields_told line.now) }
@@ -94,7 +94,7 @@ fn received_of(settings: &Settings, asker: &Asker, line: &Fields<'_>) -> Result<
     Ok(Received { asker, from, id })
 }
 
-/// A rejection, or the first refusal of its line.
+/// Reads a rejection.
 #[tactic(auto, unfolding(crate::specs::Commands::reject_of))]
 fn reject(settings: &Settings, asker: &Asker, line: &Fields<'_>) -> Result<Ask, Refusal>
     ensures value { result ≡ reject_of settings.now asker.now (fields_told line.now) }
@@ -105,7 +105,7 @@ fn reject(settings: &Settings, asker: &Asker, line: &Fields<'_>) -> Result<Ask, 
     Ok(asker.asks(Command::Reject { from, id, reason }))
 }
 
-/// An investigation, or the first refusal of its line.
+/// Reads an investigation.
 #[tactic(auto, unfolding(crate::specs::Commands::investigate_of))]
 fn investigate(settings: &Settings, asker: &Asker, line: &Fields<'_>) -> Result<Ask, Refusal>
     ensures value { result ≡ investigate_of settings.now asker.now (fields_told line.now) }
@@ -117,7 +117,7 @@ fn investigate(settings: &Settings, asker: &Asker, line: &Fields<'_>) -> Result<
     Ok(asker.asks(Command::Investigate { id }))
 }
 
-/// A fetch of forwarded transfers, or the first refusal of its line.
+/// Reads a fetch.
 #[tactic(auto, unfolding(crate::specs::Commands::fetch_of))]
 fn fetch(settings: &Settings, asker: &Asker, line: &Fields<'_>) -> Result<Ask, Refusal>
     ensures value { result ≡ fetch_of settings.now asker.now (fields_told line.now) }
@@ -128,7 +128,7 @@ fn fetch(settings: &Settings, asker: &Asker, line: &Fields<'_>) -> Result<Ask, R
     Ok(asker.asks(Command::Fetch { max }))
 }
 
-/// A question for statement lines, or the first refusal of its line.
+/// Reads a query for statement lines.
 #[tactic(auto, unfolding(crate::specs::Commands::statement_of))]
 fn statement(settings: &Settings, asker: &Asker, line: &Fields<'_>) -> Result<Ask, Refusal>
     ensures value { result ≡ statement_of settings.now asker.now (fields_told line.now) }
@@ -140,7 +140,7 @@ fn statement(settings: &Settings, asker: &Asker, line: &Fields<'_>) -> Result<As
     Ok(asker.asks(Command::Query(Query::Statement { skip, count })))
 }
 
-/// The ask of a command line's fields, or the first refusal of the line.
+/// Returns the ask of a command line's fields, or the line's first refusal.
 #[tactic(auto, unfolding(crate::specs::Commands::ask_of, crate::specs::Commands::command_of))]
 pub(crate) fn ask_of(settings: &Settings, line: &Fields<'_>) -> Result<Ask, Refusal>
     ensures value { result ≡ ask_of settings.now (fields_told line.now) }

@@ -1,4 +1,4 @@
-//! What a line's fields hold.
+//! Reading the value of one field.
 ghost use Rattle.std.specs.Prelude.{◌≡◌, true, IfOk};
 ghost use Rattle.inst_command.specs.Ask.{is_count};
 ghost use Rattle.inst_json.specs.LineFields.{field_value};
@@ -11,7 +11,11 @@ use inst_base::{Code, Fault, Reason};
 use inst_command::is_count;
 use inst_settings::MOST_PLACES;
 
-/// The text in a field, or `BadField` where there is none.
+/// Returns the text in a field.
+///
+/// # Errors
+///
+/// [`Fault::BadField`] if the field is missing or isn't a text.
 #[inline(always)]
 pub fn text(field: Field<'_>) -> Result<&str, Fault>
     ensures { GivesValue (λ text. text.now) result (text_in (field_value field.entry)) }
@@ -22,7 +26,11 @@ pub fn text(field: Field<'_>) -> Result<&str, Fault>
     }
 }
 
-/// The whole number in a field, or `BadField` where there is none of 64 bits.
+/// Returns the whole number in a field.
+///
+/// # Errors
+///
+/// [`Fault::BadField`] if the field is missing or isn't a whole number from 0 to 2^64 - 1.
 #[inline(always)]
 pub fn whole(field: Field<'_>) -> Result<u64, Fault>
     ensures { result ≡ whole_in (field_value field.entry) }
@@ -33,7 +41,7 @@ pub fn whole(field: Field<'_>) -> Result<u64, Fault>
     }
 }
 
-/// Whether anything stands in a field.
+/// Returns `true` if the field is present.
 #[inline(always)]
 pub(crate) fn is_there(field: Field<'_>) -> bool
     ensures { result ≡ is_there (field_value field.entry) }
@@ -44,7 +52,11 @@ pub(crate) fn is_there(field: Field<'_>) -> bool
     }
 }
 
-/// The participant's code in a field, or `BadField` where there is none.
+/// Returns the participant's code in a field.
+///
+/// # Errors
+///
+/// [`Fault::BadField`] if the field is missing or isn't 8 or 11 characters of `A-Z 0-9`.
 #[tactic(auto, unfolding(crate::specs::Fields::code_in))]
 pub fn code(field: Field<'_>) -> Result<Code, Fault>
     ensures { result ≡ code_in (field_value field.entry) }
@@ -52,7 +64,11 @@ pub fn code(field: Field<'_>) -> Result<Code, Fault>
     Code::new(text(field)?)
 }
 
-/// The reason in a field, or `BadField` where there is none.
+/// Returns the reason in a field.
+///
+/// # Errors
+///
+/// [`Fault::BadField`] if the field is missing or isn't four characters of `A-Z 0-9`.
 #[tactic(auto, unfolding(crate::specs::Fields::reason_in))]
 pub fn reason(field: Field<'_>) -> Result<Reason, Fault>
     ensures { result ≡ reason_in (field_value field.entry) }
@@ -60,7 +76,11 @@ pub fn reason(field: Field<'_>) -> Result<Reason, Fault>
     Reason::new(text(field)?)
 }
 
-/// How many entries or lines a field asks for, 1 to 100, or `BadField`.
+/// Returns the number of entries or lines that a field asks for.
+///
+/// # Errors
+///
+/// [`Fault::BadField`] if the field is missing or isn't a whole number from 1 to 100.
 #[tactic(auto, unfolding(crate::specs::Fields::count_in))]
 pub fn count(field: Field<'_>) -> Result<u32, Fault>
     ensures value { result ≡ count_in (field_value field.entry) }
@@ -72,7 +92,7 @@ pub fn count(field: Field<'_>) -> Result<u32, Fault>
     }
 }
 
-/// The place in a field, 0 to 1,023, or `BadField`.
+/// Returns the place in a field; `BadField` if it isn't 0 to 1,023.
 #[tactic(auto, unfolding(crate::specs::Fields::place_in))]
 pub(crate) fn place(field: Field<'_>) -> Result<u16, Fault>
     ensures { result ≡ place_in (field_value field.entry) }

@@ -1,4 +1,4 @@
-//! The lines of a hub: commands and steps read from JSON, replies written to it.
+//! The lines of a hub: commands and steps read from JSON, and replies and steps written to it.
 #![tactic(auto)]
 
 mod asker;

@@ -1,4 +1,4 @@
-//! The fields of a line, by one pass over a line of the usual form, and else from its JSON value.
+//! The fields of a line, by one pass over a plain line, else from its JSON value.
 ghost use Rattle.std.specs.Prelude.{◌≡◌, Ok, Err};
 ghost use Rattle.serde_json.specs.Data.{Data};
 ghost use Rattle.serde_json.specs.Find.{get};
@@ -11,15 +11,15 @@ ghost use Rattle.inst_json.specs.Lines.{json_of};
 use crate::scanning::{Field, Fields, Form, scan};
 use serde_json::Value;
 
-/// What one pass over a line finds.
+/// The result of one pass over a line.
 #[derive(Drop)]
 pub(crate) struct Scanned<'a> {
     pub form: Form,
-    /// The fields of the line, where it is plain. Where it isn't, it may have others.
+    /// The fields of the line if it is plain; otherwise they mean nothing.
     pub fields: Fields<'a>,
 }
 
-/// The fields of a line by one pass, filled where they lie.
+/// Scans a line in one pass. The fields are filled in place.
 #[inline(always)]
 pub(crate) fn scan_line(line: &[u8]) -> Scanned<'_>
     ensures plain { result.form ≡ Plain
@@ -34,7 +34,7 @@ pub(crate) fn scan_line(line: &[u8]) -> Scanned<'_>
     scanned
 }
 
-/// What a value has under a name.
+/// Returns member `name` of `value`; `Field::Missing` if there is none or `value` isn't an object.
 pub fn field_at<'v>(value: &'v Value, name: &str) -> Field<'v>
     ensures { field_value result ≡ value_found (get name.now (view value.now)) }
 {
@@ -50,7 +50,7 @@ pub fn field_at<'v>(value: &'v Value, name: &str) -> Field<'v>
     }
 }
 
-/// The known fields of a value.
+/// Returns the fields of a JSON value that lines know.
 #[inline(never)]
 pub(crate) fn fields_of(value: &Value) -> Fields<'_>
     ensures { fields_told result ≡ fields_of (view value.now) }

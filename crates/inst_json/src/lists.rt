@@ -1,4 +1,4 @@
-//! The replies that are lists: the entries of an inbox and the lines of a statement.
+//! Replies that are lists: the entries of an inbox and the lines of a statement.
 ghost use Rattle.std.specs.Prelude.{◌≡◌, ◌++◌, ◌+◌, ◌-◌, ◌≤◌, true, length, nat_lt, decimal, OnOk};
 ghost use Rattle.std.specs.List.{list_all};
 ghost use Rattle.serde_json.specs.Data.{string};
@@ -16,6 +16,7 @@ use inst_settings::Settings;
 use itoa::write_digits;
 use std::alloc::AllocError;
 
+/// Appends an inbox reply.
 pub(crate) fn append_inbox(
     out: &mut Vec<u8>,
     settings: &Settings,
@@ -34,7 +35,7 @@ pub(crate) fn append_inbox(
     push_text(out, "],\"reply\":\"inbox\"}")
 }
 
-/// Puts the comma before the item with this index at the end of the text; before the first is none.
+/// Appends the comma before the item with this index; none before the first.
 fn append_comma(out: &mut Vec<u8>, index: usize) -> Result<(), AllocError>
     ensures { OnOk result (out.new.items ≡ out.old.items ++ comma_if (nat_lt 0 index)) }
 {
@@ -44,7 +45,7 @@ fn append_comma(out: &mut Vec<u8>, index: usize) -> Result<(), AllocError>
     Ok(())
 }
 
-/// Puts an entry of an inbox at the end of the text.
+/// Appends an entry of an inbox.
 fn append_entry<'a>(
     out: &mut Vec<u8>,
     settings: &'a Settings,
@@ -70,6 +71,7 @@ fn append_entry<'a>(
     push_text(out, "\"}")
 }
 
+/// Appends a statement reply.
 pub(crate) fn append_statement(
     out: &mut Vec<u8>,
     settings: &Settings,
@@ -87,7 +89,7 @@ pub(crate) fn append_statement(
     push_text(out, "],\"reply\":\"statement\"}")
 }
 
-/// Puts a statement line at the end of the text, as a text of JSON: its columns between two quotes.
+/// Appends a statement line as a JSON string: its columns between quotation marks.
 fn append_line(out: &mut Vec<u8>, settings: &Settings, line: &Line) -> Result<(), AllocError>
     requires { line_fits settings.now line.now ≡ true }
     ensures { OnOk result (out.new.items
@@ -105,7 +107,7 @@ fn append_line(out: &mut Vec<u8>, settings: &Settings, line: &Line) -> Result<()
     out.extend_from_slice(&row)
 }
 
-/// Puts a text into the row, from this column on.
+/// Writes a text into the row from this column on.
 #[inline(always)]
 fn put_text(row: &mut [u8; 93], column: usize, text: &str)
     requires { column + length text.now ≤ 93 }
@@ -114,7 +116,7 @@ fn put_text(row: &mut [u8; 93], column: usize, text: &str)
     row[column..column + text.len()].copy_from_slice(text.as_bytes());
 }
 
-/// Puts the digits of a number into the row, right before this column.
+/// Writes the digits of a number into the row so that they end before this column.
 #[inline(always)]
 fn put_number(row: &mut [u8; 93], end: usize, number: u64)
     requires { (length (decimal number) ≤ end) × (end ≤ 93) }

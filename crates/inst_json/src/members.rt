@@ -1,5 +1,4 @@
-//! The members of a JSON object, each put at the end of those before. No name and no text of theirs
-//! needs an escape.
+//! Appending the members of a JSON object. No name and no text of theirs needs an escape.
 ghost use Rattle.std.specs.Prelude.{◌≡◌, ◌++◌, [], ◌∷◌, IsTrue, OnOk};
 ghost use Rattle.json.specs.Print.{quoted};
 ghost use Rattle.serde_json.specs.Data.{string};
@@ -35,7 +34,7 @@ pub(crate) fn begin_with_whole(out: &mut Vec<u8>, name: &str, number: u64) -> Re
     push_number(out, number)
 }
 
-/// Puts one member more at the end, a text.
+/// Appends a member that is a text.
 pub(crate) fn push_text_member<'a>(
     out: &mut Vec<u8>,
     name: &'a str,
@@ -51,7 +50,7 @@ pub(crate) fn push_text_member<'a>(
     push_quoted(out, text)
 }
 
-/// Puts one member more at the end, a whole number.
+/// Appends a member that is a whole number.
 pub(crate) fn push_whole_member(
     out: &mut Vec<u8>,
     name: &str,
@@ -72,7 +71,7 @@ pub(crate) fn push_end(out: &mut Vec<u8>) -> Result<(), AllocError>
     push_text(out, "}")
 }
 
-/// Puts the name of a member at the end, with its colon.
+/// Appends the name of a member with its colon.
 fn push_name(out: &mut Vec<u8>, name: &str) -> Result<(), AllocError>
     requires { IsTrue (is_plain name.now) }
     ensures { OnOk result (out.new.items ≡ out.old.items ++ (quoted name.now ++ 58 ∷ [])) }
@@ -81,7 +80,7 @@ fn push_name(out: &mut Vec<u8>, name: &str) -> Result<(), AllocError>
     push_text(out, ":")
 }
 
-/// Puts a text between quotation marks at the end.
+/// Appends a text between quotation marks.
 fn push_quoted(out: &mut Vec<u8>, text: &str) -> Result<(), AllocError>
     requires { IsTrue (is_plain text.now) }
     ensures { OnOk result (out.new.items ≡ out.old.items ++ quoted text.now) }

@@ -1,3 +1,4 @@
+//! The names of a line's fields.
 ghost use Rattle.std.specs.Prelude.{◌≡◌};
 ghost use Rattle.inst_json.specs.Name.{text_of};
 
@@ -22,7 +23,7 @@ pub enum Name {
 }
 
 impl Name {
-    /// The name as a line has it.
+    /// Returns the name as it is in a line.
     pub fn as_str(self) -> &'static str
         ensures { result.now ≡ text_of self }
     {

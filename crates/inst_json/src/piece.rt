@@ -1,10 +1,14 @@
-//! Pieces of a text, each put at the end of those before.
+//! Appending texts and numbers to a line.
 ghost use Rattle.std.specs.Prelude.{◌≡◌, ◌++◌, OnOk, decimal};
 
 use itoa::Buffer;
 use std::alloc::AllocError;
 
-/// Puts a text at the end of `out`. It is inlined, so that a text that is known has no loop.
+/// Appends a text to `out`. Inlined, so that a constant text is appended without a loop.
+///
+/// # Errors
+///
+/// [`AllocError`] if `out` can't grow; it is unchanged.
 #[inline(always)]
 pub fn push_text(out: &mut Vec<u8>, text: &str) -> Result<(), AllocError>
     ensures { OnOk result (out.new.items ≡ out.old.items ++ text.now) }
@@ -12,7 +16,11 @@ pub fn push_text(out: &mut Vec<u8>, text: &str) -> Result<(), AllocError>
     out.extend_from_slice(text.as_bytes())
 }
 
-/// Puts the decimal digits of a number at the end of `out`.
+/// Appends the decimal digits of a number to `out`.
+///
+/// # Errors
+///
+/// [`AllocError`] if `out` can't grow; it is unchanged.
 #[inline(always)]
 pub fn push_number(out: &mut Vec<u8>, number: u64) -> Result<(), AllocError>
     ensures { OnOk result (out.new.items ≡ out.old.items ++ decimal number) }

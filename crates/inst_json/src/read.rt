@@ -1,4 +1,4 @@
-//! From a line to what it asks.
+//! Reading lines as asks and steps.
 ghost use Rattle.std.specs.Prelude.{◌≡◌, ◌↔◌, true, IfOk, IsTrue, IsSome};
 ghost use Rattle.serde_json.specs.View.{view};
 ghost use Rattle.inst_command.specs.Ask.{ask_fits};
@@ -22,11 +22,14 @@ use serde_json::Value;
 use std::alloc::{AllocError, Global};
 use std::str;
 
-/// How deep arrays and objects of a line may nest, as `serde_json` reads them.
+/// The deepest nesting of arrays and objects that `serde_json` reads.
 const MOST_DEPTH: usize = 127;
 
-/// Reads lines one after another. A plain line takes no memory, nor does one that the pass over it
-/// knows to be no JSON; what refuses any other that is none is kept from line to line.
+/// Reads lines one after another.
+///
+/// A plain line allocates nothing, nor does one that the single pass already finds to be no JSON.
+/// Any other line is read as a JSON value. The memory that checks such a line is kept for the next
+/// one.
 ///
 /// ```text
 /// let mut reader = LineReader::new(alloc);
@@ -39,7 +42,7 @@ pub struct LineReader {
 }
 
 impl LineReader {
-    /// A reader before its first line. It takes no memory.
+    /// Returns a reader; allocates nothing.
     pub fn new(alloc: Global) -> LineReader {
         LineReader {
             alloc,
@@ -47,11 +50,16 @@ impl LineReader {
         }
     }
 
-    /// The ask of a command line, or the first of its refusals: `NotJson`, `BadField`,
-    /// `BadIdentifier`, `BadAmount`, `BadMoment`, `UnknownParticipant`, in this order. Moments in
-    /// the line are absolute milliseconds, and amounts are cents. The fields may stand in any
-    /// order, fields that the command doesn't have are ignored, and of a field given twice the last
-    /// counts. `Memory` comes only where memory was refused.
+    /// Returns the ask of a command line.
+    ///
+    /// Moments in the line are absolute milliseconds, amounts are cents. Fields may be in any
+    /// order, and those that the command doesn't have are ignored. If a field is given twice, the
+    /// last one counts.
+    ///
+    /// # Errors
+    ///
+    /// The first that applies of `NotJson`, `BadField`, `BadIdentifier`, `BadAmount`, `BadMoment`
+    /// and `UnknownParticipant`, in this order. `Memory` on allocation failure.
     #[tactic(auto, unfolding(crate::specs::Lines::command_of_line))]
     pub fn read_command(&mut self, settings: &Settings, line: &[u8]) -> Result<Ask, Fault>
         ensures value { IsUnlessMemory result (command_of_line settings.now line.now) }
@@ -63,8 +71,14 @@ impl LineReader {
         }
     }
 
-    /// The same, where a refusal tells by which field the line is refused: of fields that are
-    /// refused alike, the one that is looked at first.
+    /// Returns the ask of a command line; a refusal also names the field that is refused.
+    ///
+    /// Of several fields that are refused with the same fault it names the one that is checked
+    /// first.
+    ///
+    /// # Errors
+    ///
+    /// The faults of [`read_command`](LineReader::read_command), each with its field if it has one.
     #[tactic(auto, unfolding(crate::specs::Lines::blamed_command_of_line))]
     #[inline(always)]
     pub fn read_blamed_command(&mut self, settings: &Settings, line: &[u8]) -> Result<Ask, Refusal>
@@ -82,9 +96,14 @@ impl LineReader {
         }
     }
 
-    /// The step of a script line, or the first of its refusals, in the order of `read_command`. An
-    /// object with the field `step` is a delivery, a booking or an expiry, and any other is a
-    /// command. `Memory` comes only where memory was refused.
+    /// Returns the step of a script line.
+    ///
+    /// An object with the field `step` is a delivery, a learning or an expiry; any other is a
+    /// command.
+    ///
+    /// # Errors
+    ///
+    /// The faults of [`read_command`](LineReader::read_command), in the same order.
     #[tactic(auto, unfolding(crate::specs::Lines::step_of_line))]
     pub fn read_step(&mut self, settings: &Settings, line: &[u8]) -> Result<Step, Fault>
         ensures value { IsUnlessMemory result (step_of_line settings.now line.now) }
@@ -96,7 +115,11 @@ impl LineReader {
         }
     }
 
-    /// The same, where a refusal tells by which field the line is refused.
+    /// Returns the step of a script line; a refusal also names the field that is refused.
+    ///
+    /// # Errors
+    ///
+    /// The faults of [`read_command`](LineReader::read_command), each with its field if it has one.
     #[tactic(auto, unfolding(crate::specs::Lines::blamed_step_of_line))]
     #[inline(always)]
     pub fn read_blamed_step(&mut self, settings: &Settings, line: &[u8]) -> Result<Step, Refusal>
@@ -114,8 +137,8 @@ impl LineReader {
         }
     }
 
-    /// The JSON value of a line, or `NotJson` where it is no JSON text in UTF-8 that nests at most
-    /// 127 deep: that is found without a tree, and without the place of the error.
+    /// Returns the JSON value of a line; `NotJson` if it isn't JSON in UTF-8 nested at most 127
+    /// deep. A line that is no JSON is found without building a value.
     #[tactic(auto, unfolding(crate::specs::Lines::json_of))]
     #[inline(never)]
     fn json_of(&mut self, line: &[u8]) -> Result<Value, Fault>
@@ -137,7 +160,7 @@ impl LineReader {
     }
 }
 
-/// Whether the text is one value of JSON that nests at most as deep as `serde_json` reads.
+/// Returns `true` if the text is one JSON value nested at most as deep as `serde_json` reads.
 fn is_json(text: &str, scratch: &mut Scratch) -> Result<bool, AllocError>
     ensures { IfOk result (λ is. IsTrue is ↔ IsSome (document text.now)) }
 {
@@ -145,7 +168,7 @@ fn is_json(text: &str, scratch: &mut Scratch) -> Result<bool, AllocError>
     Ok(reader.skip_value(MOST_DEPTH).is_ok() && reader.next().is_none())
 }
 
-/// The ask of a single command line, or its refusal, as a `LineReader` reads it.
+/// Returns the ask of a single command line, as [`LineReader::read_command`] does.
 pub fn read_command(alloc: Global, settings: &Settings, line: &[u8]) -> Result<Ask, Fault>
     ensures value { IsUnlessMemory result (command_of_line settings.now line.now) }
     ensures fits { IfOk result (λ ask. ask_fits settings.now ask ≡ true) }
@@ -153,7 +176,7 @@ pub fn read_command(alloc: Global, settings: &Settings, line: &[u8]) -> Result<A
     LineReader::new(alloc).read_command(settings, line)
 }
 
-/// The step of a single script line, or its refusal, as a `LineReader` reads it.
+/// Returns the step of a single script line, as [`LineReader::read_step`] does.
 pub fn read_step(alloc: Global, settings: &Settings, line: &[u8]) -> Result<Step, Fault>
     ensures value { IsUnlessMemory result (step_of_line settings.now line.now) }
     ensures fits { IfOk result (λ step. step_fits settings.now step ≡ true) }

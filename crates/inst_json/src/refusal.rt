@@ -1,12 +1,14 @@
-//! Why a line asks for nothing.
+//! Refusals of lines.
 ghost use Rattle.std.specs.Prelude.{◌≡◌, None};
 ghost use Rattle.inst_json.specs.Refusals.{in_field};
 
 use crate::Name;
 use inst_base::Fault;
 
-/// Why a line asks for nothing: the fault that its reply tells, and the field that lacks what its
-/// command wants, where the line is an object.
+/// The refusal of a line: the fault of its reply, and the field that is refused.
+///
+/// The field is `None` if the line as a whole is refused: it isn't JSON, it is too long, or reading
+/// it failed to allocate.
 #[derive(Clone, Copy, Debug, PartialEq, Eq)]
 pub struct Refusal {
     pub fault: Fault,
@@ -21,7 +23,7 @@ impl From<Fault> for Refusal {
     }
 }
 
-/// What was read in a field, or that the line is refused by this field.
+/// Names the field in the refusal of what was read from it.
 #[inline(always)]
 pub(crate) fn in_field<T>(name: Name, read: Result<T, Fault>) -> Result<T, Refusal>
     ensures { result ≡ in_field name read }

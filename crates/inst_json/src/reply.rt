@@ -1,4 +1,4 @@
-//! The text of each reply, put at the end of others piece by piece.
+//! Appending the text of each reply.
 ghost use Rattle.std.specs.Prelude.{◌≡◌, ◌++◌, true, IsTrue, OnOk};
 ghost use Rattle.serde_json.specs.Written.{compact_text};
 ghost use Rattle.inst_base.specs.Text.{is_code};
@@ -18,9 +18,15 @@ use inst_command::{Outcome, Reply, State};
 use inst_settings::Settings;
 use std::alloc::AllocError;
 
-/// Puts the line of a reply, without its newline, at the end of `out`: compact JSON with the keys
-/// in byte order. Moments are absolute milliseconds, and amounts are cents. After an error a part
-/// of the line may stand at the end.
+/// Appends the line of a reply, without its newline, to `out`: compact JSON with the keys in byte
+/// order.
+///
+/// Moments are absolute milliseconds, amounts are cents. Requires a reply of a hub with these
+/// settings.
+///
+/// # Errors
+///
+/// [`AllocError`] if `out` can't grow; it may end in a part of the line.
 pub fn append_reply(settings: &Settings, reply: &Reply, out: &mut Vec<u8>) -> Result<(), AllocError>
     requires { reply_can_be_written settings.now reply.now ≡ true }
     ensures text { OnOk result (out.new.items
@@ -52,7 +58,7 @@ fn append_done(out: &mut Vec<u8>, reference: &Ident) -> Result<(), AllocError>
     push_text(out, "\",\"reply\":\"done\"}")
 }
 
-/// The deadline is in absolute milliseconds.
+/// Appends a `taken` reply. The deadline is in absolute milliseconds.
 fn append_taken(out: &mut Vec<u8>, id: &Ident, deadline: u64) -> Result<(), AllocError>
     ensures { OnOk result (out.new.items
         ≡ out.old.items ++ compact_text (taken_data id.now deadline)) }
@@ -93,7 +99,8 @@ fn append_refused(out: &mut Vec<u8>, fault: Fault) -> Result<(), AllocError>
     push_text(out, ",\"reply\":\"refused\"}")
 }
 
-/// The code of the participant with this number.
+/// Returns the code of the participant with this number. Requires `number` below the number of
+/// participants.
 pub fn code_text(settings: &Settings, number: u8) -> &str
     requires { is_participant settings.now number ≡ true }
     ensures value { result.now ≡ code_numbered settings.now number }
@@ -128,7 +135,7 @@ fn append_state(
     }
 }
 
-/// A state without a reason.
+/// Appends a state without a reason.
 fn append_named_state<'a>(
     out: &mut Vec<u8>,
     from: &'a str,

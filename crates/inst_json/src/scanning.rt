@@ -1,4 +1,5 @@
-//! Lines that are flat objects of plain texts and whole numbers, read in one pass with no tree.
+//! Plain lines, which are flat objects of plain texts and whole numbers: read in one pass, without
+//! a tree.
 
 mod broken;
 mod fields;

@@ -1,4 +1,4 @@
-//! The steps of a script: deliveries, bookings and expiries, and the asks.
+//! Script lines: deliveries, learnings, expiries, and commands.
 ghost use Rattle.std.specs.Prelude.{◌≡◌, true, IfOk};
 ghost use Rattle.inst_json.specs.LineFields.{fields_told};
 ghost use Rattle.inst_settings.specs.Settings.{is_participant};
@@ -17,8 +17,7 @@ use inst_base::Fault;
 use inst_command::Step;
 use inst_settings::Settings;
 
-/// The step of a script line's fields, or the first refusal of the line: what its field `step`
-/// names, or else its ask.
+/// Returns the step of a script line's fields, or the line's first refusal.
 #[tactic(auto, unfolding(crate::specs::Steps::step_of, crate::specs::Steps::asked_of))]
 pub(crate) fn step_of(settings: &Settings, line: &Fields<'_>) -> Result<Step, Refusal>
     ensures value { result ≡ step_of settings.now (fields_told line.now) }
@@ -30,7 +29,7 @@ pub(crate) fn step_of(settings: &Settings, line: &Fields<'_>) -> Result<Step, Re
     Ok(Step::Ask(ask_of(settings, line)?))
 }
 
-/// The step that the field `step` names, or the first refusal of its line.
+/// Returns the step that the field `step` names.
 #[tactic(auto, unfolding(crate::specs::Steps::move_of))]
 fn move_of(settings: &Settings, line: &Fields<'_>) -> Result<Step, Refusal>
     ensures value { result ≡ move_of settings.now (fields_told line.now) }
@@ -47,7 +46,8 @@ fn move_of(settings: &Settings, line: &Fields<'_>) -> Result<Step, Refusal>
     }
 }
 
-/// A participant, and the place of an originator's transfer that it comes to know of.
+/// A participant, and the place of an originator's transfer that is delivered to it or that it
+/// learns about.
 #[derive(Clone, Copy)]
 pub(crate) struct Passing {
     pub who: u8,
@@ -55,7 +55,7 @@ pub(crate) struct Passing {
     pub index: u16,
 }
 
-/// What a delivery or a booking is of, or the first refusal of its line.
+/// Reads the participant and place of a delivery or a learning.
 #[tactic(auto, unfolding(crate::specs::Steps::passing_of))]
 fn passing_of(settings: &Settings, line: &Fields<'_>) -> Result<Passing, Refusal>
     ensures value { result ≡ passing_of settings.now (fields_told line.now) }
@@ -70,7 +70,7 @@ fn passing_of(settings: &Settings, line: &Fields<'_>) -> Result<Passing, Refusal
     Ok(Passing { who, from, index })
 }
 
-/// A delivery, or the first refusal of its line.
+/// Reads a delivery.
 #[tactic(auto, unfolding(crate::specs::Steps::deliver_of))]
 fn deliver(settings: &Settings, line: &Fields<'_>) -> Result<Step, Refusal>
     ensures value { result ≡ deliver_of settings.now (fields_told line.now) }
@@ -84,7 +84,7 @@ fn deliver(settings: &Settings, line: &Fields<'_>) -> Result<Step, Refusal>
     })
 }
 
-/// A booking of what was decided, or the first refusal of its line.
+/// Reads a learning.
 #[tactic(auto, unfolding(crate::specs::Steps::learn_of))]
 fn learn(settings: &Settings, line: &Fields<'_>) -> Result<Step, Refusal>
     ensures value { result ≡ learn_of settings.now (fields_told line.now) }
@@ -94,7 +94,7 @@ fn learn(settings: &Settings, line: &Fields<'_>) -> Result<Step, Refusal>
     Ok(Step::Learn { who, from, index })
 }
 
-/// An expiry, or the first refusal of its line.
+/// Reads an expiry.
 #[tactic(auto, unfolding(crate::specs::Steps::expire_of))]
 fn expire(settings: &Settings, line: &Fields<'_>) -> Result<Step, Refusal>
     ensures value { result ≡ expire_of settings.now (fields_told line.now) }

@@ -1,4 +1,4 @@
-//! From a step to its line.
+//! Writing steps as lines.
 ghost use Rattle.std.specs.Prelude.{◌≡◌, ◌+◌, ◌++◌, ◌&&◌, true, Ok, IsTrue, OnOk};
 ghost use Rattle.std.specs.List.{list_all};
 ghost use Rattle.inst_base.specs.Cents.{is_amount};
@@ -30,12 +30,14 @@ use inst_settings::Settings;
 use std::alloc::AllocError;
 
 /// Appends the line of a step, without its newline, to `out`: compact JSON with the keys in byte
-/// order, which `read_step` reads as the step if its place is below 1,024. Moments are absolute
-/// milliseconds, and amounts are cents.
+/// order.
+///
+/// [`read_step`](crate::read_step) reads the line back as `step` if its place index is below 1,024.
+/// Moments are absolute milliseconds, amounts are cents. Requires `step.fits(settings)`.
 ///
 /// # Errors
 ///
-/// Returns `AllocError` if memory is refused. A part of the line may then be at the end of `out`.
+/// [`AllocError`] if `out` can't grow; it may end in a part of the line.
 pub fn append_step(settings: &Settings, step: &Step, out: &mut Vec<u8>) -> Result<(), AllocError>
     requires { step_fits settings.now step.now ≡ true }
     ensures text { OnOk result (out.new.items ≡ out.old.items ++ step_line settings.now step.now) }
@@ -82,7 +84,7 @@ fn append_ask(settings: &Settings, ask: &Ask, out: &mut Vec<u8>) -> Result<(), A
     push_end(out)
 }
 
-/// Appends the line of a delivery or a booking, by its name.
+/// Appends the line of a delivery or a learning, by its name.
 #[tactic(auto, using(crate::proofs::TextsWithoutEscapes::plain_code))]
 fn append_passing(
     settings: &Settings,
@@ -151,7 +153,7 @@ fn push_command(settings: &Settings, command: &Command, out: &mut Vec<u8>) -> Re
     }
 }
 
-/// Appends the members of a funding or a defunding, by its name.
+/// Appends the members of a fund or defund command, by its name.
 #[tactic(auto, using(crate::proofs::TextsWithoutEscapes::plain_identifier))]
 fn push_funding(name: &str, funding: &Funding, out: &mut Vec<u8>) -> Result<(), AllocError>
     requires { IsTrue (is_plain name.now) }
@@ -259,7 +261,7 @@ fn push_query(query: &Query, out: &mut Vec<u8>) -> Result<(), AllocError>
     }
 }
 
-/// Appends the members of a question for statement lines.
+/// Appends the members of a query for statement lines.
 fn push_statement(skip: u64, count: u32, out: &mut Vec<u8>) -> Result<(), AllocError>
     ensures { OnOk result (out.new.items
         ≡ out.old.items ++ next_members (statement_rows skip count)) }

@@ -1,3 +1,4 @@
+//! The names of commands.
 ghost use Rattle.std.specs.Prelude.{◌≡◌};
 ghost use Rattle.inst_json.specs.LineFields.{field_value};
 ghost use Rattle.inst_json.specs.Verb.{verb_of, verb_in};
@@ -6,7 +7,7 @@ use crate::fields::text;
 use crate::scanning::Field;
 use inst_base::Fault;
 
-/// What a command line asks for, by its field `cmd`.
+/// A command by the name in its field `cmd`.
 #[derive(Clone, Copy)]
 pub(crate) enum Verb {
     Fund,
@@ -20,7 +21,7 @@ pub(crate) enum Verb {
     Statement,
 }
 
-/// The verb of this name, or `BadField` where no command has it.
+/// Returns the verb of this name; `BadField` if no command has it.
 #[tactic(auto, unfolding(crate::specs::Verb::verb_of))]
 fn verb_of(name: &str) -> Result<Verb, Fault>
     ensures { result ≡ verb_of name.now }
@@ -39,7 +40,7 @@ fn verb_of(name: &str) -> Result<Verb, Fault>
     }
 }
 
-/// The verb in a field, or `BadField` where there is none.
+/// Returns the verb in a field; `BadField` if it has none.
 #[tactic(auto, unfolding(crate::specs::Verb::verb_in))]
 pub(crate) fn verb_in(field: Field<'_>) -> Result<Verb, Fault>
     ensures { result ≡ verb_in (field_value field.entry) }

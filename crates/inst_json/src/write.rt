@@ -1,4 +1,4 @@
-//! From a reply to its line.
+//! Writing replies as lines.
 ghost use Rattle.std.specs.Prelude.{◌≡◌, ◌++◌, Some, true, IfOk, OnOk, codes, if◌then◌else◌};
 ghost use Rattle.serde_json.specs.Written.{compact_text};
 ghost use Rattle.serde_json.specs.Read.{read};
@@ -14,8 +14,14 @@ use inst_command::{Answer, Reply};
 use inst_settings::Settings;
 use std::alloc::{AllocError, Global};
 
-/// The line of a reply, without its newline: compact JSON with the keys in byte order, which reads
-/// back as the reply's object. Moments are absolute milliseconds, and amounts are cents.
+/// Returns the line of a reply, without its newline: compact JSON with the keys in byte order.
+///
+/// Moments are absolute milliseconds, amounts are cents. Requires a reply of a hub with these
+/// settings.
+///
+/// # Errors
+///
+/// [`AllocError`] if the line can't be allocated.
 pub fn write_reply(alloc: Global, settings: &Settings, reply: &Reply) -> Result<Vec<u8>, AllocError>
     requires { reply_can_be_written settings.now reply.now ≡ true }
     ensures text { IfOk result (λ bytes. bytes.items
@@ -28,8 +34,14 @@ pub fn write_reply(alloc: Global, settings: &Settings, reply: &Reply) -> Result<
     Ok(text)
 }
 
-/// The line of an answer, without its newline: its reply's line, or whether a step brought anything
-/// new.
+/// Returns the line of an answer, without its newline: the reply's line, or
+/// `{"new":true,"reply":"step"}` (`false` if no history changed).
+///
+/// Requires an answer of a hub with these settings.
+///
+/// # Errors
+///
+/// [`AllocError`] if the line can't be allocated.
 pub fn write_answer(
     alloc: Global,
     settings: &Settings,
@@ -46,8 +58,12 @@ pub fn write_answer(
     Ok(text)
 }
 
-/// Puts the line of an answer, without its newline, at the end of `out`, as `write_answer` gives
-/// it. After an error a part of the line may stand at the end.
+/// Appends the line of an answer to `out`, as [`write_answer`] returns it. Requires an answer of a
+/// hub with these settings.
+///
+/// # Errors
+///
+/// [`AllocError`] if `out` can't grow; it may end in a part of the line.
 pub fn append_answer(
     settings: &Settings,
     answer: &Answer,
@@ -65,7 +81,7 @@ pub fn append_answer(
     }
 }
 
-/// Whether a step brought anything new.
+/// Appends the line that says if a step brought anything new.
 fn append_new(out: &mut Vec<u8>, new: bool) -> Result<(), AllocError>
     ensures { OnOk result (out.new.items ≡ out.old.items ++ compact_text (new_data new)) }
 {

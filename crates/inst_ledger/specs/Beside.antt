@@ -1,5 +1,5 @@
--- What a ledger keeps beside its history, all of it: the totals, the transfers and the fundings by
--- their keys, how many are live, and the inbox with how much of it was handed out.
+-- The invariant of a ledger: its totals, tables, inbox and statement agree with its history. A
+-- choice of this hub.
 use Rattle.std.specs.Prelude.{◌≡◌, ℕ, ◌+◌, ◌*◌, ◌≤◌, List, length, Option, Some, None, sum_by}
 use Rattle.std.specs.Prelude.{if◌then◌else◌, true, false}
 use Rattle.inst_settings.specs.Settings.{HubSettings, same_text}
@@ -19,7 +19,7 @@ use Rattle.inst_journal.specs.Sums.{funded, defunded}
 use Rattle.inst_transfers.specs.Held.{Held, state_in}
 use Rattle.inst_statement.specs.KeptStatement.{Stated, IsStatementOf}
 
--- the funding that the event keeps under this reference
+-- The funding that the event keeps under this reference.
 abbrev pub funding_of : List ℕ → Event → Option KeptFunding
 funding_of reference (Funded funding) =
     if same_text funding.reference reference
@@ -29,19 +29,20 @@ funding_of reference (Defunded funding) =
     then Some (record { is_defunding = true; cents = funding.cents }) else None
 funding_of reference _ = None
 
--- what the event adds to the position at most
+-- The most that the event can add to the position.
 abbrev pub amount_of : Event → ℕ
 amount_of (Funded funding) = funding.cents
 amount_of (Forwarded from id cents deadline) = cents
 amount_of _ = 0
 
--- the amounts of fundings and of forwarded transfers, each counted as the most that it may be
+-- The sum over fundings and forwarded transfers, each counted as the maximum amount.
 abbrev pub most_of : List Event → ℕ
 most_of J = sum_by (λ event. if is_funding event then MOST_CENTS else 0) J
     + sum_by (λ event. if is_forwarding event then MOST_CENTS else 0) J
 
--- all that a ledger keeps beside its history is right of it
--- within: what came is within what the length of the history allows
+-- Everything but the statement agrees with the history.
+--
+-- - within: the length of the history bounds the money that came in, so no sum overflows
 pub record IsBeside (s : HubSettings) (who : ℕ) (J : List Event) (t : Totals) (table : Held)
     (references : List ℕ → Option KeptFunding)
     (since : ℕ) (positions : List ℕ) (read : ℕ) : Type 0 where
@@ -57,7 +58,7 @@ pub record IsBeside (s : HubSettings) (who : ℕ) (J : List Event) (t : Totals) 
   pub inboxed : IsRead who J positions read
   pub amounts : sum_by amount_of J ≤ most_of J
 
--- the statement that is kept beside them is the history's too
+-- The statement agrees with the history too.
 pub record IsLedger (s : HubSettings) (who : ℕ) (J : List Event) (t : Totals) (table : Held)
     (references : List ℕ → Option KeptFunding)
     (since : ℕ) (positions : List ℕ) (read : ℕ) (stated : Stated) : Type 0 where

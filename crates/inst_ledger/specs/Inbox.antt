@@ -1,5 +1,5 @@
--- How a ledger keeps what was forwarded to its participant: by the positions in the table of its
--- transfers, in order of arrival. What came is read off the table. This hub's own choice.
+-- The inbox: the positions in the table of the transfers that were forwarded to the participant, in
+-- order of arrival, and the read mark. A choice of this hub.
 use Rattle.std.specs.Prelude.{◌≡◌, ℕ, List, [], length, map, get_or, sum_by}
 use Rattle.inst_command.specs.declared.entry.Entry.{Entry}
 use Rattle.inst_journal.specs.declared.event.Event.{Event}
@@ -7,14 +7,15 @@ use Rattle.inst_journal.specs.Reply.{inbox, handed_out}
 use Rattle.inst_transfers.specs.State.{rows_of}
 use Rattle.inst_transfers.specs.Held.{AreWithin}
 
+-- An entry in place of one that isn't in the table.
 abbrev pub no_entry : Entry
 no_entry = record { from = 0; id = []; cents = 0; deadline = 0 }
 
--- what a table keeps for good of the transfers at these positions
+-- The entries of the transfers at these positions.
 abbrev pub entries_at : List Entry → List ℕ → List Entry
 entries_at rows positions = map (λ p. get_or rows p no_entry) positions
 
--- the positions of the arrivals, and how many of them were handed out
+-- The positions are those of the history's inbox, and the read mark is the number fetched.
 pub record IsRead (who : ℕ) (J : List Event) (positions : List ℕ) (read : ℕ) : Type 0 where
   pub within : AreWithin (length (rows_of who J)) positions
   pub came : entries_at (rows_of who J) positions ≡ inbox J

@@ -1,4 +1,4 @@
--- Public contracts cite these.
+-- Definitions that public contracts cite.
 pub mod References
 pub mod Kept
 pub mod Right
@@ -6,5 +6,5 @@ pub mod Inbox
 pub mod Beside
 pub mod Book
 pub mod Beneficiary
--- Only inner functions and proofs cite these.
+-- Definitions that only private functions and proofs cite.
 pub mod inner

@@ -1,5 +1,5 @@
--- The table is right of a history: what it finds and sums is what a walk over the history would
--- find and sum.
+-- The table agrees with a history: it finds and sums what a scan of the history finds and sums. A
+-- choice of this hub.
 use Rattle.std.specs.Prelude.{◌≡◌, ◌≢◌, ℕ, List, [], map, Option, Some, None}
 use Rattle.inst_journal.specs.declared.event.Event.{Event}
 use Rattle.inst_journal.specs.declared.event.Event.TheVariants.{Taken}
@@ -17,33 +17,36 @@ use Rattle.inst_transfers.specs.declared.transfer.Side.TheVariants.{Own, Other}
 use Rattle.inst_transfers.specs.declared.transfer.Transfer.{Transfer}
 use Rattle.inst_transfers.specs.State.{Key, State, outcome_in, table_of_history, rows_of}
 
--- what was sent, where the transfer is the participant's own
+-- The details of a transfer that is the participant's own.
 abbrev pub sending_by : ℕ → Side → Option Sending
 sending_by cents (Own to stamp) = Some (record { to = to; cents = cents; stamp = stamp })
 sending_by cents (Other deadline) = None
 
+-- The same, for a transfer that may be missing.
 abbrev pub sending_in : Option Transfer → Option Sending
 sending_in None = None
 sending_in (Some t) = sending_by t.cents t.side
 
--- what came, where it was forwarded
+-- The details of a transfer that was forwarded.
 abbrev pub forwarding_by : ℕ → Side → Option Forwarding
 forwarding_by cents (Own to stamp) = None
 forwarding_by cents (Other deadline) = Some (record { cents = cents; deadline = deadline })
 
+-- The same, for a transfer that may be missing.
 abbrev pub forwarding_in : Option Transfer → Option Forwarding
 forwarding_in None = None
 forwarding_in (Some t) = forwarding_by t.cents t.side
 
--- the identifier of the transfer that the event takes
+-- The identifier of the transfer that the event takes.
 abbrev pub id_of : Event → List ℕ
 id_of (Taken id to cents stamp) = id
 id_of _ = []
 
--- the identifiers of the participant's own live transfers, in the order of their places
+-- The identifiers of the participant's own live transfers, in the order of their places.
 abbrev pub own_ids : ℕ → List Event → List (List ℕ)
 own_ids who J = map id_of (live_taken who J)
 
+-- The table's state agrees with the history in every lookup, list and sum.
 pub record IsRight (who : ℕ) (J : List Event) (st : State) : Type 0 where
   pub taken : (id : List ℕ) → sending_in (st.found (who, id)) ≡ first_some (sending_of id) J
   pub others : (key : Key) → key.0 ≢ who → sending_in (st.found key) ≡ None
@@ -55,6 +58,7 @@ pub record IsRight (who : ℕ) (J : List Event) (st : State) : Type 0 where
   pub credits : st.credits ≡ credits J
   pub debits : st.debits ≡ debits J
 
+-- The table of every sound history agrees with it.
 abbrev pub ATableIsRight : Type 0
 ATableIsRight =
     (s : HubSettings) (who : ℕ) (J : List Event) → IsSound s who J →

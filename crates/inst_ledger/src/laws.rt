@@ -1,8 +1,7 @@
-//! What the table of a history is, in the words of the history. A function without a body whose
-//! contract is the law, so that the check proves it.
+//! Laws of the table of a history: functions without a body, whose contract is the law.
 ghost use Rattle.inst_ledger.specs.Right.{ATableIsRight};
 
-/// The table of a sound history finds and sums what a walk over the history would find and sum.
+/// The table of a sound history has the values that a scan of the history finds and sums.
 pub fn a_table_is_right()
     ensures { ATableIsRight }
 {}

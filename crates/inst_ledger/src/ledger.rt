@@ -1,3 +1,4 @@
+//! The ledger: its fields, how it opens, and reserving capacity.
 ghost use Rattle.std.specs.Prelude.{◌≡◌, ◌<◌, ◌+◌, ◌*◌, [], ◌∷◌, ◌++◌, IfOk, OnOk};
 ghost use Rattle.inst_settings.specs.Lawful.{IsSettings};
 ghost use Rattle.inst_journal.specs.Opened.{HasOpeningsLeft};
@@ -16,8 +17,8 @@ use inst_transfers::Transfers;
 use std::alloc::{AllocError, Global};
 use std::marker::Model;
 
-/// The books of one participant: its history, which is sound, and beside it running totals, tables
-/// and the statement, so that nothing walks the history.
+/// One participant's books: its history, with running totals, tables and the statement, so that no
+/// command scans events.
 #[derive(Drop)]
 pub struct Ledger {
     settings: Box<Settings>,
@@ -50,8 +51,7 @@ impl Model for Ledger {
         (funding_at l.references) l.fundings l.inbox.items l.read l.statement };
 }
 
-/// A copy of the settings, in memory of its own: they have a table, and who moves a ledger doesn't
-/// move that.
+/// Copies the settings into a box, so that moving a ledger doesn't move them.
 fn boxed(alloc: Global, settings: &Settings) -> Result<Box<Settings>, AllocError>
     ensures ok { IfOk result (λ b. b.value ≡ settings.now) }
     ensures lawful { IsSettings settings.now }
@@ -59,16 +59,14 @@ fn boxed(alloc: Global, settings: &Settings) -> Result<Box<Settings>, AllocError
     Ok(Box::new(alloc, settings.copy()?)?)
 }
 
-/// How many transfers an opening has of a participant that submits as many as it may, and to which
-/// as many come.
+/// Returns the most own live transfers of an opening and as many forwarded ones.
 fn expected_transfers(settings: &Settings) -> usize
     ensures { result ≡ 2 * settings.now.places }
 {
     2 * usize::from(settings.places())
 }
 
-/// How many events it keeps then, where it is funded as often as it may be too: each transfer, and
-/// its outcome.
+/// Returns the events of that many transfers and outcomes, and of the most fundings of an opening.
 fn expected_events(settings: &Settings) -> usize
     ensures { result ≡ 4 * settings.now.places + settings.now.fundings }
 {
@@ -76,7 +74,7 @@ fn expected_events(settings: &Settings) -> usize
 }
 
 impl Ledger {
-    /// The books of the participant `who`, with no history, and with room for so many events.
+    /// Returns a ledger of `who` with an empty history, and capacity for `room` events.
     fn with_room(
         alloc: Global,
         settings: &Settings,
@@ -101,8 +99,14 @@ impl Ledger {
         })
     }
 
-    /// The books of the participant `who`, with no history. They have a copy of the settings, and
-    /// room for the events that an opening may keep; more of them take more memory.
+    /// Opens a ledger of participant `who` with an empty history.
+    ///
+    /// It copies the settings, and reserves capacity for the events of an opening: 4 × places +
+    /// fundings of them, each of 56 bytes. Events beyond that allocate.
+    ///
+    /// # Errors
+    ///
+    /// [`AllocError`] if the settings can't be copied or the capacity can't be allocated.
     pub fn open(alloc: Global, settings: &Settings, who: u8) -> Result<Ledger, AllocError>
         ensures ok { IfOk result (λ l.
             l.book ≡ record { settings = settings.now; who = who; events = [] }) }
@@ -110,9 +114,15 @@ impl Ledger {
         Ledger::with_room(alloc, settings, who, expected_events(settings))
     }
 
-    /// The books of the participant `who` with this history, opened again from them. It is copied,
-    /// and there is room for the events of an opening behind it. It costs a look at a table for
-    /// each event.
+    /// Opens the ledger of participant `who` again from its history.
+    ///
+    /// Copies the history, appends `Opened`, and reserves capacity for the events of one more
+    /// opening. Requires a sound history of `who` with fewer than 500 openings. Cost: at most one
+    /// hash look-up for each event.
+    ///
+    /// # Errors
+    ///
+    /// [`AllocError`] if the copy or the tables can't be allocated; the journal is unchanged.
     pub fn open_from(
         alloc: Global,
         settings: &Settings,
@@ -134,8 +144,7 @@ impl Ledger {
         Ok(ledger)
     }
 
-    /// Keeps all events of a history, the first ones, and that the books are opened again behind
-    /// them.
+    /// Appends all events of a history to an empty one, then `Opened`.
     fn carry(&mut self, journal: &Journal) -> Result<(), AllocError>
         requires blank { self.old.book.events ≡ [] }
         requires sound { IsSound self.old.book.settings self.old.book.who journal.now.events }
@@ -147,8 +156,8 @@ impl Ledger {
         self.keep(Event::Opened)
     }
 
-    /// Keeps all events of a history, the first ones. Where memory is refused those are kept for
-    /// which there was room.
+    /// Appends all events of a history to an empty one. On allocation failure the events before the
+    /// failure stay.
     fn keep_all(&mut self, journal: &Journal) -> Result<(), AllocError>
         requires blank { self.old.book.events ≡ [] }
         requires sound { IsSound self.old.book.settings self.old.book.who journal.now.events }
@@ -161,7 +170,7 @@ impl Ledger {
         Ok(())
     }
 
-    /// The participant's history. It is sound.
+    /// Returns the participant's history.
     pub fn journal(&self) -> &Journal
         ensures events { result.now.events ≡ self.now.book.events }
         ensures lawful { IsSettings self.now.book.settings }
@@ -170,7 +179,11 @@ impl Ledger {
         &self.journal
     }
 
-    /// Makes room for one more event that brings no new key. The book stays as it is.
+    /// Reserves capacity for one booking, fetch or opening event.
+    ///
+    /// # Errors
+    ///
+    /// [`AllocError`] if it can't be allocated; only the capacity may have changed.
     pub fn reserve(&mut self) -> Result<(), AllocError>
         ensures book { self.new.book ≡ self.old.book }
         ensures table { self.new.table ≡ self.old.table }

@@ -1,4 +1,4 @@
-//! One participant's books: its history, with running totals and tables beside it.
+//! One participant's books: its history, with running totals, tables and the statement.
 #![tactic(auto)]
 
 pub mod laws;

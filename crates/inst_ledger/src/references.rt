@@ -1,4 +1,4 @@
-//! What is known of each funding, by its reference.
+//! The fundings of a history by their reference.
 ghost use Rattle.std.specs.Prelude.{◌≡◌, ℕ, List, None, OnOk, OnErr};
 ghost use Rattle.inst_ledger.specs.References.{funding_at};
 ghost use Rattle.inst_ledger.specs.inner.References.{PutsFunding};
@@ -7,21 +7,21 @@ use indexmap::IndexMap;
 use inst_base::{Cents, Ident};
 use std::alloc::{AllocError, Global};
 
-/// A kept fund or defund command.
+/// A fund or defund command that was kept.
 #[derive(Clone, Copy)]
 pub(crate) struct KeptFunding {
     pub(crate) is_defunding: bool,
     pub(crate) cents: Cents,
 }
 
-/// The fundings of a history.
+/// The fundings of a history by their reference.
 #[derive(Drop)]
 pub(crate) struct References {
     table: IndexMap<Ident, KeptFunding>,
 }
 
 impl References {
-    /// No fundings.
+    /// Returns an empty table; allocates nothing.
     pub(crate) fn new(alloc: Global) -> Self
         ensures { (reference : List ℕ) → funding_at result reference ≡ None }
     {
@@ -30,14 +30,14 @@ impl References {
         }
     }
 
-    /// The funding with this reference.
+    /// Returns the funding with this reference.
     pub(crate) fn get(&self, reference: &Ident) -> Option<KeptFunding>
         ensures { result ≡ funding_at self.now reference.now }
     {
         self.table.get(reference).copied()
     }
 
-    /// Puts the funding at this reference. Where memory is refused all is as it was.
+    /// Stores the funding under this reference. On allocation failure nothing changes.
     pub(crate) fn put(&mut self, reference: Ident, funding: KeptFunding) -> Result<(), AllocError>
         ensures ok { OnOk result (PutsFunding self.old reference funding self.new) }
         ensures err { OnErr result ((key : List ℕ) →

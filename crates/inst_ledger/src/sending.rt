@@ -1,7 +1,7 @@
-//! What was sent with a transfer that was taken, and what came with one that was forwarded.
+//! Details of a transfer as its submission and its forwarding bring them.
 use inst_base::{Cents, Moment};
 
-/// What was sent with a taken submission.
+/// The details of a taken submission: beneficiary, amount and time stamp.
 #[derive(Clone, Copy)]
 pub struct Sending {
     pub to: u8,
@@ -9,7 +9,7 @@ pub struct Sending {
     pub stamp: Moment,
 }
 
-/// What came with a forwarded transfer.
+/// The details of a forwarded transfer: amount and deadline.
 #[derive(Clone, Copy)]
 pub struct Forwarding {
     pub cents: Cents,

@@ -1,3 +1,4 @@
+//! Running totals of a history's fundings.
 ghost use Rattle.std.specs.Prelude.{◌≡◌, ◌<◌, ◌^◌, ◌+◌};
 ghost use Rattle.inst_ledger.specs.inner.Beside.{totals_with};
 
@@ -9,7 +10,7 @@ pub(crate) struct Totals {
 }
 
 impl Totals {
-    /// The totals of an empty history.
+    /// Returns the totals of an empty history.
     pub(crate) fn new() -> Self
         ensures { result ≡ record { funded = 0; defunded = 0 } }
     {
@@ -19,7 +20,7 @@ impl Totals {
         }
     }
 
-    /// Adds what a fund or defund command moves.
+    /// Adds the amount of a fund or defund command.
     pub(crate) fn keep(&mut self, is_defunding: bool, cents: u64)
         requires funded { self.old.funded + cents < 2 ^ 128 }
         requires defunded { self.old.defunded + cents < 2 ^ 128 }

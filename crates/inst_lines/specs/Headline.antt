@@ -1,7 +1,6 @@
--- The headline where lines are answered: the steps that the lines stood for, with what the model
--- answers to them and the histories that it makes of them, are a run like any other, and the
--- replies to the lines are among its answers. That lines stand for these steps is this hub's own
--- choice.
+-- The headline for lines. The steps that lines stand for, with the model's answers and histories,
+-- are a run like any other, and the replies to the lines are among its answers. Having lines stand
+-- for these steps is a choice of this hub.
 use Rattle.std.specs.Prelude.{◌≡◌, ℕ, List, [], ◌∷◌, ◌++◌, length, reverse, slice_get, Some, Result}
 use Rattle.std.specs.Prelude.{Ok, Err, if◌then◌else◌}
 use Rattle.inst_base.specs.declared.fault.Fault.{Fault}
@@ -23,42 +22,41 @@ use Rattle.inst_lines.specs.declared.mode.Mode.TheVariants as modes
 use Rattle.inst_lines.specs.Answers.{Answerer, is_too_long, state_after_line, state_after}
 use Rattle.inst_lines.specs.Answering.{HubPast, new_past, hub_answerer, answer_text}
 
--- the run of a hub that has gone through this
+-- The run of a hub with this past.
 abbrev pub run_through : HubPast → Run
 run_through past = run_of past.opening (reverse past.steps)
     (λ p. if is_participant past.settings p then history past.settings past.opening past.steps p
     else [])
     (trace past.settings past.opening past.steps)
 
--- the run that lines stand for where they are answered so, at a hub that opens for the first time
+-- The run that lines stand for at a hub that opens for the first time and answers them so.
 abbrev pub run_of_lines : Answerer HubPast → HubSettings → List (List ℕ) → Run
 run_of_lines a s lines = run_through (state_after a (new_past s) lines)
 
--- that run keeps the headline
+-- That run keeps the headline.
 abbrev pub LinesKeepTheHeadline : Answerer HubPast → HubSettings → List (List ℕ) → Type 0
 LinesKeepTheHeadline a s lines = KeepsTheHeadline s (run_of_lines a s lines)
 
--- an ask, as a step
+-- A command, as a step.
 abbrev pub as_step : Result AskValue Fault → Result Step Fault
 as_step (Ok ask) = Ok (Ask ask)
 as_step (Err fault) = Err fault
 
--- the step that a line stands for, or the fault by which it stands for none
+-- The step that a line stands for, or the fault of a line that stands for none.
 abbrev pub own_step : Mode → HubSettings → List ℕ → Result Step Fault
 own_step modes.Run s line =
     if is_too_long line then Err LineTooLong else as_step (command_of_line s line)
 own_step modes.Play s line = if is_too_long line then Err LineTooLong else step_of_line s line
 
--- what the run answers to a line: its answer to the line's own step, which is the step at this
--- index; or the refusal of a line that stands for no step
+-- The answer to a line: the run's answer to its step, which is the step at this index, or the
+-- refusal of a line that stands for no step.
 abbrev pub IsAnswerTo : Run → ℕ → Result Step Fault → Answer → Type 0
 IsAnswerTo run index (Ok step) answer =
     (slice_get run.steps index ≡ Some step) × (slice_get run.answers index ≡ Some answer)
 IsAnswerTo run index (Err fault) answer = answer ≡ Reply (Refused fault)
 
--- what the run answers to lines that come after this past, one answer for each line: the index of a
--- line's own step is the number of steps before it, and what follows a line has no part in the
--- answers
+-- The answers to lines after this past, one for each line. The index of a line's step is the number
+-- of steps before it; the answers to follow-ups aren't among them.
 abbrev pub AreAnswersTo : Mode → HubPast → Run → List (List ℕ) → List Answer → Type 0
 AreAnswersTo mode past run [] [] = Unit {0}
 AreAnswersTo mode past run (line ∷ lines) (answer ∷ answers) =
@@ -66,12 +64,12 @@ AreAnswersTo mode past run (line ∷ lines) (answer ∷ answers) =
     × AreAnswersTo mode (state_after_line (hub_answerer mode) past line) run lines answers
 AreAnswersTo mode past run _ _ = ⊥
 
--- the texts of answers, with a newline after each
+-- The texts of answers, with a newline after each.
 abbrev pub texts_of : HubSettings → List Answer → List ℕ
 texts_of s [] = []
 texts_of s (answer ∷ answers) = (answer_text s answer ++ newline ∷ []) ++ texts_of s answers
 
--- the bytes are the texts of what the run answers to lines that come after this past
+-- The bytes are the texts of the run's answers to lines after this past.
 pub record AreRepliesOf (run : Run) (mode : Mode) (past : HubPast) (lines : List (List ℕ))
     (bytes : List ℕ) : Type 0 where
   pub answers : List Answer

@@ -1,4 +1,4 @@
--- Public contracts cite these.
+-- Definitions that public contracts cite.
 pub mod Limits
 pub mod Lines
 pub mod Answers
@@ -8,5 +8,5 @@ pub mod Progress
 pub mod Session
 pub mod Headline
 pub mod Check
--- Only inner functions and proofs cite these.
+-- Definitions that only private functions and proofs cite.
 pub mod inner

@@ -1,29 +1,29 @@
--- The lines of a text of bytes, and how many a run may have. This hub's own choice.
+-- The lines of bytes, and the limits on them. A choice of this hub.
 use Rattle.std.specs.Prelude.{ℕ, ◌≤◌, List, [], ◌∷◌, length, take, ◌==◌, if◌then◌else◌}
 use Rattle.inst_base.specs.Newline.{newline, onto_whole}
 use Rattle.inst_lines.specs.Limits.{most_lines, most_bytes}
 
--- the byte goes onto the front of the first line, which is a new one where there is none
+-- The byte is put before the first line, which is a new one if there is none.
 abbrev pub onto_first : ℕ → List (List ℕ) → List (List ℕ)
 onto_first b [] = (b ∷ []) ∷ []
 onto_first b (line ∷ lines) = (b ∷ line) ∷ lines
 
--- the parts between newlines; what stands after the last newline is a line if it isn't empty
+-- The parts between newlines. What follows the last newline is a line if it isn't empty.
 abbrev pub lines_of : List ℕ → List (List ℕ)
 lines_of [] = []
 lines_of (b ∷ bytes) = if b == newline then [] ∷ lines_of bytes else onto_first b (lines_of bytes)
 
--- the lines that end by a newline
+-- The lines that end with a newline.
 abbrev pub whole_lines_of : List ℕ → List (List ℕ)
 whole_lines_of [] = []
 whole_lines_of (b ∷ bytes) =
     if b == newline then [] ∷ whole_lines_of bytes else onto_whole b (whole_lines_of bytes)
 
--- the lines whose newline stands within the limits of a run
+-- The lines whose newline is within the limits of a run.
 abbrev pub whole_lines_within : List ℕ → List (List ℕ)
 whole_lines_within bytes = take most_lines (whole_lines_of (take most_bytes bytes))
 
--- no more bytes, and no more lines, than a run may have
+-- The bytes and their lines are within the limits of a run.
 pub record IsWithinLimits (bytes : List ℕ) : Type 0 where
   pub bytes_fit : length bytes ≤ most_bytes
   pub lines_fit : length (lines_of bytes) ≤ most_lines

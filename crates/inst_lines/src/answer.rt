@@ -1,4 +1,4 @@
-//! The answer to one line: all that a session knows of the world.
+//! Answering one line.
 ghost use Rattle.std.specs.Prelude.{◌≡◌, ◌≢◌, ◌++◌, ◌∷◌, [], true, false, IfOk, OnOk};
 ghost use Rattle.serde_json.specs.Written.{compact_text};
 ghost use Rattle.inst_json.specs.Replies.{answer_data, answer_can_be_written};
@@ -19,9 +19,14 @@ use inst_json::LineReader;
 use inst_settings::Settings;
 use std::alloc::AllocError;
 
-/// Appends the answer to a line, whose newline is not among its bytes, and a newline to `out`, and
-/// says whether it is a refusal. A line of more than 4,096 bytes is refused. After an error a front
-/// of the answer may stand in `out`, and the runner may have gone on: let both go.
+/// Appends the reply to a line and a newline to `out`; returns `true` if the reply is a refusal.
+///
+/// `line` is without its newline. A line of more than 4,096 bytes is refused as `LineTooLong`.
+///
+/// # Errors
+///
+/// [`AllocError`] if the reply or what the line stores can't be allocated. `out` may end in a part
+/// of the reply, and the runner may have run the line: drop both.
 pub fn answer_line(
     reader: &mut LineReader,
     mode: Mode,
@@ -43,14 +48,13 @@ pub fn answer_line(
 /// A line as it is held.
 #[derive(Clone, Copy)]
 pub(crate) struct HeldLine<'a> {
-    /// Whether a front of it was let go, since it is too long.
+    /// `true` if earlier bytes of the line were dropped because it is too long.
     pub(crate) is_long: bool,
-    /// What is held of it.
+    /// The bytes of the line that are held.
     pub(crate) part: &'a [u8],
 }
 
-/// Appends the answer to a line that is held so, and a newline, to `out`, and says whether it is a
-/// refusal.
+/// Appends the reply to a held line and a newline to `out`; returns `true` if it is a refusal.
 pub(crate) fn answer_part(
     reader: &mut LineReader,
     mode: Mode,
@@ -66,7 +70,7 @@ pub(crate) fn answer_part(
     append_answer(runner.settings(), &answer, out)
 }
 
-/// The answer to a line as it is held.
+/// Returns the answer to a held line.
 fn answer_to(
     reader: &mut LineReader,
     mode: Mode,
@@ -86,7 +90,7 @@ fn answer_to(
     }
 }
 
-/// Appends the text of an answer, and a newline, to `out`, and says whether it is a refusal.
+/// Appends the text of an answer and a newline to `out`; returns `true` if it is a refusal.
 fn append_answer(
     settings: &Settings,
     answer: &Answer,
@@ -102,7 +106,7 @@ fn append_answer(
     Ok(matches!(answer, Answer::Reply(Reply::Refused(_))))
 }
 
-/// The answer to a command, after which all transfers are followed up.
+/// Returns the answer to a command, and does the follow-ups.
 fn answer_command(
     reader: &mut LineReader,
     runner: &mut Runner,
@@ -123,7 +127,7 @@ fn answer_command(
     }
 }
 
-/// The answer to a step.
+/// Returns the answer to a script line.
 fn answer_step(
     reader: &mut LineReader,
     runner: &mut Runner,
@@ -139,7 +143,7 @@ fn answer_step(
     }
 }
 
-/// What a line is answered that is refused in reading.
+/// Returns the answer to a line that can't be read.
 fn refused(fault: Fault) -> Result<Answer, AllocError>
     ensures ok { IfOk result (λ answer. (answer ≡ Answer.Reply (Reply.Refused fault))
         × (fault ≢ Fault.Memory)) }

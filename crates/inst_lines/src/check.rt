@@ -1,4 +1,4 @@
-//! What is wrong with lines by themselves, before any hub answers them.
+//! Checking lines without a hub.
 ghost use Rattle.std.specs.Prelude.{◌≡◌, ◌⊎◌, ◌++◌, OnOk, IfOk, IfErr, IfSome, OnErr};
 ghost use Rattle.std.specs.Io.KnownBytes.{Appends, IsAtEnd};
 ghost use Rattle.inst_lines.specs.Check.{refusal_of, refusal_text, field_text, told_line};
@@ -14,13 +14,18 @@ use inst_settings::Settings;
 use std::alloc::{AllocError, Global};
 use std::io::{ErrorKind, Read, Write};
 
-/// Tells of each command line that the reader gives and that no hub of these settings takes, one
-/// line each to the writer: its number from 1, the fault, and the field that is missing or wrong,
-/// as in `line 3: fault 4 BadAmount in "cents"`. What a hub refuses by its books isn't told. All is
-/// read before anything is written, and held in memory.
+/// Writes a report of the command lines that no hub with these settings accepts, whatever its
+/// books.
 ///
-/// `ReadFault` comes where a read fails, `Memory` where there is none, and nothing is written then;
-/// `WriteFault` where a write fails or takes no byte.
+/// Each such line gets one line: its number from 1, the fault, and the field that is missing or
+/// wrong, as in `line 3: fault 4 BadAmount in "cents"`. Refusals that depend on a hub's books
+/// aren't reported. The whole input is read and held in memory before anything is written. Blocks
+/// while the reader or writer does.
+///
+/// # Errors
+///
+/// - `ReadFault` if a read fails, `Memory` on allocation failure: nothing was written.
+/// - `WriteFault` if a write fails or takes no byte: a prefix of the report was written.
 pub fn check_lines<R: Read, W: Write>(
     alloc: Global,
     settings: &Settings,
@@ -43,7 +48,7 @@ pub fn check_lines<R: Read, W: Write>(
     replies.deliver(writer)
 }
 
-/// Reads all that a reader gives. `Memory` where there is no room for it, and else `ReadFault`.
+/// Reads all that a reader has; `Memory` on allocation failure, `ReadFault` if a read fails.
 fn read_all<R: Read>(reader: &mut R, input: &mut Vec<u8>) -> Result<(), Fault>
     ensures end { OnOk result (IsAtEnd (R.remaining reader.new)) }
     ensures bytes { OnOk result (IfSome (R.remaining reader.old) (λ bytes.
@@ -57,7 +62,7 @@ fn read_all<R: Read>(reader: &mut R, input: &mut Vec<u8>) -> Result<(), Fault>
     }
 }
 
-/// Tells of the lines of an input at the end of `out`.
+/// Appends the report of an input's lines.
 fn tell_lines(
     alloc: Global,
     settings: &Settings,
@@ -80,7 +85,7 @@ fn tell_lines(
     tell_line(&mut reader, settings, number + 1, rest, out)
 }
 
-/// Tells at the end of `out` why the line of this number is refused, if it is.
+/// Appends the report of one line, if it is refused.
 fn tell_line(
     reader: &mut LineReader,
     settings: &Settings,
@@ -97,7 +102,7 @@ fn tell_line(
     }
 }
 
-/// Why a command line is refused by itself, if it is.
+/// Returns the refusal of a command line, whatever a hub's books are.
 fn refusal_of(
     reader: &mut LineReader,
     settings: &Settings,
@@ -115,7 +120,7 @@ fn refusal_of(
     }
 }
 
-/// Puts the line that tells of a refusal at the end of `out`.
+/// Appends the report of a refusal.
 fn push_refusal(number: usize, refusal: Refusal, out: &mut Vec<u8>) -> Result<(), AllocError>
     ensures { OnOk result (out.new.items ≡ out.old.items ++ refusal_text number refusal) }
 {
@@ -129,7 +134,7 @@ fn push_refusal(number: usize, refusal: Refusal, out: &mut Vec<u8>) -> Result<()
     push_text(out, "\n")
 }
 
-/// Puts at the end of `out` by which field a line is refused, if it is by one.
+/// Appends the name of the refused field, if there is one.
 fn push_field(field: Option<Name>, out: &mut Vec<u8>) -> Result<(), AllocError>
     ensures { OnOk result (out.new.items ≡ out.old.items ++ field_text field) }
 {

@@ -1,5 +1,4 @@
-//! The laws of lines. Each is a function without a body whose contract is the law, so that the
-//! check proves it.
+//! Laws of lines: functions without a body, whose contract is the law.
 ghost use Rattle.std.specs.Prelude.{List, ℕ};
 ghost use Rattle.inst_model.specs.Interleaving.{IsInterleaving};
 ghost use Rattle.inst_model.specs.Opening.{IsOpening};
@@ -9,15 +8,15 @@ ghost use Rattle.inst_lines.specs.Answers.{output, state_after};
 ghost use Rattle.inst_lines.specs.Answering.{HubPast, hub_answerer};
 ghost use Rattle.inst_lines.specs.Headline.{run_through, AreRepliesOf};
 
-/// The run that lines stand for keeps the headline, whatever the hub has gone through before them.
+/// Law: the run that lines stand for keeps the headline, whatever the hub has run before them.
 pub fn lines_keep_the_headline()
     ensures { (mode : Mode) (past : HubPast) → IsOpening past.settings past.opening →
         IsInterleaving past.settings past.steps → (lines : List (List ℕ)) →
         KeepsTheHeadline past.settings (run_through (state_after (hub_answerer mode) past lines)) }
 {}
 
-/// The replies to lines are the texts of that run's answers: for each line the answer to the line's
-/// own step, or the refusal of a line that stands for no step.
+/// Law: the replies to lines are the texts of that run's answers. Each line gets the answer to the
+/// step that it stands for, or the refusal of a line that stands for none.
 pub fn replies_are_the_runs_answers()
     ensures { (mode : Mode) (past : HubPast) (lines : List (List ℕ)) →
         AreRepliesOf (run_through (state_after (hub_answerer mode) past lines)) mode past lines

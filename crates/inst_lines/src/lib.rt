@@ -1,4 +1,4 @@
-//! Whole runs of lines at a hub in one thread: each line of the input is answered by one line.
+//! Whole runs of lines at a hub in one thread: each line of the input gets one line as its reply.
 #![tactic(auto)]
 
 mod answer;

@@ -4,7 +4,7 @@
 pub const MOST_LINES: u64 = 1_000_000;
 /// The most bytes that a run reads.
 pub const MOST_BYTES: u64 = 4_294_967_296;
-/// The most bytes of a line that reaches the world, its newline not counted.
+/// The most bytes of a line, not counting its newline. A longer one is refused.
 pub const MOST_LINE_BYTES: usize = 4_096;
-/// The bytes that the input's buffer has room for, and with which the replies are written.
+/// The bytes of the input buffer, and the bytes of replies from which they are written.
 pub const BUFFER_BYTES: usize = 65_536;

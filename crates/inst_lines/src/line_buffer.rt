@@ -1,4 +1,4 @@
-//! The part of the input that is held, and where its lines end.
+//! The input buffer.
 ghost use Rattle.std.specs.Prelude.{◌≡◌, ◌≤◌, ◌<◌, ◌+◌, [], ◌||◌, nat_lt, IfOk, IsErrOf};
 ghost use Rattle.std.specs.Prelude.{OnErr, false, length, drop, vec_len};
 ghost use Rattle.std.specs.Io.{ReadsAtMost};
@@ -11,8 +11,9 @@ use inst_base::Fault;
 use std::alloc::{AllocError, Global};
 use std::io::Read;
 
-/// The bytes that were read and not answered. Of a line that is too long nothing is held but what
-/// the last read gave.
+/// The bytes that were read and not answered yet.
+///
+/// Of a line that is too long only the bytes of the last read are held.
 #[derive(Drop)]
 pub struct LineBuffer {
     bytes: Vec<u8>,
@@ -30,7 +31,11 @@ impl LineBuffer {
     ghost use Rattle.inst_lines.specs.Answers.{MakesRoom};
     ghost use Rattle.inst_lines.specs.LineBuffer.{unanswered_bytes, Fills, FillFails};
 
-    /// An empty buffer.
+    /// Returns an empty buffer.
+    ///
+    /// # Errors
+    ///
+    /// [`AllocError`] if the buffer of 65,536 bytes can't be allocated.
     pub fn new(alloc: Global) -> Result<LineBuffer, AllocError>
         ensures held { IfOk result (λ input. unanswered_bytes input ≡ []) }
         ensures start { IfOk result (λ input. (input.is_long ≡ false) × (input.taken ≡ 0)
@@ -46,8 +51,14 @@ impl LineBuffer {
         })
     }
 
-    /// Reads further bytes, and says how many: 0 at the end of the input. `ReadFault` comes where
-    /// the read fails, and where the input goes on after `MOST_BYTES`.
+    /// Reads more bytes, and returns their number: 0 at the end of the input. Blocks while the
+    /// reader does.
+    ///
+    /// Requires space in the buffer, as [`make_room`](LineBuffer::make_room) makes it.
+    ///
+    /// # Errors
+    ///
+    /// `ReadFault` if the read fails, or the input is longer than `MOST_BYTES`. No byte is added.
     pub fn fill<R: Read>(&mut self, reader: &mut R) -> Result<usize, Fault>
         requires { self.old.end < buffer_bytes }
         ensures ok { IfOk result (λ n.
@@ -68,35 +79,36 @@ impl LineBuffer {
         Ok(count)
     }
 
-    /// The bytes that are held.
+    /// Returns the bytes that are held.
     pub fn as_slice(&self) -> &[u8]
         ensures { result.now ≡ unanswered_bytes self.now }
     {
         &self.bytes[self.start..self.end]
     }
 
-    /// How many bytes are held.
+    /// Returns the number of bytes that are held.
     pub fn len(&self) -> usize
         ensures { result ≡ length (unanswered_bytes self.now) }
     {
         self.end - self.start
     }
 
-    /// Whether part of a line is held, or was let go.
+    /// Returns `true` if a part of a line is held or was dropped.
     pub fn is_in_line(&self) -> bool
         ensures { result ≡ (self.now.is_long || nat_lt 0 (length (unanswered_bytes self.now))) }
     {
         self.is_long || self.start < self.end
     }
 
-    /// Whether the front of a line was let go of which the rest is held.
+    /// Returns `true` if earlier bytes of the held line were dropped.
     pub fn lacks_front(&self) -> bool
         ensures { result ≡ self.now.is_long }
     {
         self.is_long
     }
 
-    /// Lets go of a line of which this many bytes are held, and of its newline.
+    /// Drops a line of which this many bytes are held, and its newline. Requires that `len` bytes
+    /// are held.
     pub fn drop_line(&mut self, len: usize)
         requires { len ≤ length (unanswered_bytes self.old) }
         ensures held { unanswered_bytes self.new
@@ -108,8 +120,8 @@ impl LineBuffer {
         self.is_long = false;
     }
 
-    /// Makes room for a read, where no newline is held: what is held goes to the front, or is let
-    /// go if the line is too long already.
+    /// Makes space for a read. Moves the held bytes to the start, or drops them if their line is
+    /// too long already. Requires that no newline is held.
     pub fn make_room(&mut self)
         requires { NoNewline (unanswered_bytes self.old) }
         ensures kept { MakesRoom self.old.is_long (unanswered_bytes self.old) self.new.is_long
@@ -129,15 +141,14 @@ impl LineBuffer {
     }
 }
 
-/// Whether a line is too long of which this many bytes are held, and a front was let go where it is
-/// long already.
+/// Returns `true` if a line is too long: some of it was dropped, or more than the maximum is held.
 pub(crate) fn is_too_long(is_long: bool, len: usize) -> bool
     ensures { result ≡ (is_long || nat_lt most_line_bytes len) }
 {
     is_long || len > MOST_LINE_BYTES
 }
 
-/// Reads into `buf`, and says how many bytes: `ReadFault` comes where the read fails.
+/// Reads into `buf`, and returns the number of bytes; `ReadFault` if the read fails.
 fn read_bytes<R: Read>(reader: &mut R, buf: &mut [u8]) -> Result<usize, Fault>
     ensures bound { ReadsAtMost result buf.new }
     ensures bytes { ReadConsumes (R.remaining reader.old) (R.remaining reader.new) result buf.new }

@@ -1,8 +1,10 @@
-/// What a line stands for.
+//! The meaning of a line.
+
+/// The meaning of a line.
 #[derive(Clone, Copy, Debug, PartialEq, Eq)]
 pub enum Mode {
-    /// A command. All transfers are followed up after it.
+    /// A command, with the follow-ups of all live transfers after it.
     Run,
-    /// One step, and nothing else happens.
+    /// One step, without follow-ups.
     Play,
 }

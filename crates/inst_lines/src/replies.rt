@@ -1,4 +1,4 @@
-//! Replies on their way to a writer.
+//! The output buffer.
 ghost use Rattle.std.specs.Prelude.{◌≡◌, ◌<◌, ◌||◌, [], true, false, nat_lt, length, OnOk, OnErr};
 ghost use Rattle.std.specs.Prelude.{IsErrOf};
 ghost use Rattle.std.specs.Io.KnownBytes.{Appends};
@@ -10,7 +10,7 @@ use inst_base::{Fault, write_bytes};
 use std::alloc::Global;
 use std::io::Write;
 
-/// Replies that are not written yet.
+/// Replies that aren't written yet.
 #[derive(Drop)]
 pub struct ReplyBuffer {
     pub bytes: Vec<u8>,
@@ -18,7 +18,7 @@ pub struct ReplyBuffer {
 }
 
 impl ReplyBuffer {
-    /// A buffer with no replies.
+    /// Returns an empty buffer; allocates nothing.
     pub fn new(alloc: Global) -> ReplyBuffer
         ensures { result.bytes.items ≡ [] }
     {
@@ -28,8 +28,11 @@ impl ReplyBuffer {
         }
     }
 
-    /// Writes the replies, and keeps the room for more. `WriteFault` comes where a write fails or
-    /// takes no byte; a front of the replies was written then.
+    /// Writes the replies, and keeps the capacity for more. Blocks while the writer does.
+    ///
+    /// # Errors
+    ///
+    /// `WriteFault` if a write fails or takes no byte: a prefix of the replies was written.
     pub fn write_to<W: Write>(&mut self, writer: &mut W) -> Result<(), Fault>
         ensures ok { OnOk result
             (Appends (W.contents writer.old) (W.contents writer.new) self.old.bytes.items) }
@@ -46,7 +49,12 @@ impl ReplyBuffer {
         Ok(())
     }
 
-    /// Writes the replies if there are many. `WriteFault` comes as from `write_to`.
+    /// Writes the replies if there are at least `BUFFER_BYTES` of them.
+    ///
+    /// # Errors
+    ///
+    /// `WriteFault` as from [`write_to`](ReplyBuffer::write_to): a prefix of the replies was
+    /// written.
     pub fn write_if_full<W: Write>(&mut self, writer: &mut W) -> Result<(), Fault>
         ensures ok { OnOk result
             (WritesFirst (W.contents writer.old) (W.contents writer.new) self.old.bytes.items
@@ -64,8 +72,12 @@ impl ReplyBuffer {
         self.write_to(writer)
     }
 
-    /// Writes the replies, and flushes if anything was written since the last flush. `WriteFault`
-    /// comes as from `write_to`, and where the flush fails.
+    /// Writes the replies, and flushes if anything was written since the last flush.
+    ///
+    /// # Errors
+    ///
+    /// `WriteFault` as from [`write_to`](ReplyBuffer::write_to), or if the flush fails; then all
+    /// replies were written.
     pub fn deliver<W: Write>(&mut self, writer: &mut W) -> Result<(), Fault>
         ensures ok { OnOk result
             (Appends (W.contents writer.old) (W.contents writer.new) self.old.bytes.items) }

@@ -1,4 +1,4 @@
-//! Runs: each line that a reader gives is answered by one line to a writer.
+//! Whole runs from a reader to a writer.
 ghost use Rattle.std.specs.Prelude.{◌≡◌, OnOk, IfOk, IfErr, IfSome, length};
 ghost use Rattle.std.specs.Io.KnownBytes.{Appends, IsAtEnd};
 ghost use Rattle.inst_lines.specs.Lines.{lines_of, IsWithinLimits};
@@ -16,30 +16,34 @@ use inst_settings::Settings;
 use std::alloc::Global;
 use std::io::{Read, Write};
 
-/// Answers each line that the reader gives by one line to the writer, and says how many there were.
-/// A line is a command; after each that is read without refusal all transfers taken so far are
-/// followed up at its reading.
+/// Answers each line of the reader by one line to the writer; returns their number.
+///
+/// A line is a command. After each that is read without refusal, the follow-ups are done at its
+/// clock reading.
 ///
 /// ```text
 /// let counts = run_lines(alloc, &settings, &mut input.as_bytes(), &mut output)?;
 /// counts.lines // as many lines as `input` has
 /// ```
 ///
-/// A line ends by a newline, and the last one may lack it; a line of more than 4,096 bytes is
-/// answered `LineTooLong`. Whatever was answered is written and flushed before each read and at the
-/// end.
+/// A line ends with a newline, which the last line may lack. A line of more than 4,096 bytes is
+/// answered `LineTooLong`. All replies are written and flushed before each read and at the end.
+/// Blocks while the reader or writer does.
 ///
-/// `ReadFault` comes where a read fails in any way, and where the input goes on after `MOST_LINES`
-/// lines, each with its newline, or after `MOST_BYTES` bytes: what was read up to there is
-/// answered. `WriteFault` comes where a write or a flush fails, or a write takes no byte, and
-/// `Memory` where there is none: then a front of the replies is written.
+/// # Errors
+///
+/// - `ReadFault` if a read fails, or the input is longer than [`MOST_LINES`](crate::MOST_LINES)
+///   lines or [`MOST_BYTES`](crate::MOST_BYTES) bytes. Each line whose newline was read within the
+///   limits is answered.
+/// - `WriteFault` if a write or flush fails or a write takes no byte, and `Memory` on allocation
+///   failure. A prefix of the replies was written.
 pub fn run_lines<R: Read, W: Write>(
     alloc: Global,
     settings: &Settings,
     reader: &mut R,
     writer: &mut W,
 ) -> Result<Counts, Fault>
-    // All that the reader has left is read and answered, where its bytes are known.
+    // If the reader's bytes are known, all of them are read and answered.
     ensures end { OnOk result
         (IsReadToEnd (R.remaining reader.old) (R.remaining reader.new)) }
     ensures output { OnOk result (IfSome (R.remaining reader.old) (λ bytes.
@@ -51,8 +55,8 @@ pub fn run_lines<R: Read, W: Write>(
     ensures counts { IfOk result (λ counts. IfSome (R.remaining reader.old) (λ bytes.
         CountsLines run_answerer (new_past settings.now) bytes counts)) }
 
-    // Some bytes were read: at `ReadFault` each line whose newline stands within the limits is
-    // answered, and at another fault a front of the replies is written.
+    // After some bytes: at `ReadFault` exactly the whole lines within the limits are answered; at
+    // another fault a prefix of the replies is written.
     ensures err { IfErr result (FailsAfter run_answerer (new_past settings.now)
         (W.contents writer.old) (W.contents writer.new)
         (R.remaining reader.old) (R.remaining reader.new)) }
@@ -61,15 +65,18 @@ pub fn run_lines<R: Read, W: Write>(
     Ok(served.counts)
 }
 
-/// Answers each line that the reader gives by one line to the writer, as `run_lines` does. Here a
-/// line is one step, or a command, which is one step too, and nothing else happens: what a run does
-/// by itself is played by hand.
+/// Answers each line of a script by one line to the writer; returns their number.
+///
+/// A line is a step or a command, which is one step too. There are no follow-ups: the script has
+/// them as steps.
 ///
 /// ```text
 /// let counts = play_lines(alloc, &settings, &mut script.as_bytes(), &mut output)?;
 /// ```
 ///
-/// `ReadFault`, `WriteFault` and `Memory` come as from `run_lines`.
+/// # Errors
+///
+/// As [`run_lines`], with the same replies written.
 pub fn play_lines<R: Read, W: Write>(
     alloc: Global,
     settings: &Settings,
@@ -93,16 +100,18 @@ pub fn play_lines<R: Read, W: Write>(
     Ok(served.counts)
 }
 
-/// A hub that has answered all the lines of a run, and how many there were.
+/// A hub after a run, and the number of its lines.
 #[derive(Drop)]
 pub struct Served {
     pub counts: Counts,
     pub runner: Runner,
 }
 
-/// Answers each line that the reader gives by one line to the writer, as `run_lines` or
-/// `play_lines` does by the mode, and leaves the hub. `ReadFault`, `WriteFault` and `Memory` come
-/// as from `run_lines`.
+/// Answers lines as [`run_lines`] or [`play_lines`] does, by the mode, and returns the hub too.
+///
+/// # Errors
+///
+/// As [`run_lines`], with the same replies written.
 pub fn serve_lines<R: Read, W: Write>(
     alloc: Global,
     mode: Mode,
@@ -131,7 +140,7 @@ pub fn serve_lines<R: Read, W: Write>(
     Ok(Served { counts, runner })
 }
 
-/// Answers lines at a hub that is there, whatever it has gone through.
+/// Answers lines at a hub, whatever it has run before.
 fn answer_lines<R: Read, W: Write>(
     alloc: Global,
     mode: Mode,

@@ -1,4 +1,4 @@
-//! What a run holds between its reads, and one turn of it: a read, and the answers to what it gave.
+//! The state of a run between its reads, and one turn: a read, and the replies to its lines.
 ghost use Rattle.inst_lines.specs.Limits.{most_lines};
 ghost use Rattle.std.specs.Prelude.{◌≡◌, ◌≤◌, ◌<◌, ◌⊎◌, [], OnOk, IfOk, OnErr, IfErr, MatchBool};
 ghost use Rattle.std.specs.Prelude.{false, length};
@@ -14,16 +14,16 @@ use inst_json::LineReader;
 use std::alloc::{AllocError, Global};
 use std::io::{Read, Write};
 
-/// How many lines were answered.
+/// The number of lines that were answered.
 #[derive(Clone, Copy, Debug, PartialEq, Eq)]
 pub struct Counts {
-    /// All the lines.
+    /// All lines.
     pub lines: u64,
-    /// Those that were answered by a refusal.
+    /// The lines that were answered by a refusal.
     pub refused: u64,
 }
 
-/// What a run holds between its reads.
+/// The state of a run between its reads.
 #[derive(Drop)]
 pub struct Session {
     pub reader: LineReader,
@@ -44,7 +44,11 @@ impl Session {
     ghost use Rattle.inst_lines.specs.inner.Session.{TakesLine, AnswersLast, IsNoReadFault};
     ghost use Rattle.inst_lines.specs.inner.Session.{MovesOn, HasStopped, HasFinished};
 
-    /// A session that has read nothing.
+    /// Returns a session that has read nothing.
+    ///
+    /// # Errors
+    ///
+    /// [`AllocError`] if the buffers can't be allocated.
     pub fn new(alloc: Global) -> Result<Session, AllocError>
         ensures ready { IfOk result (λ session. IsReadyToRead session) }
         ensures input { IfOk result (λ session. unanswered_bytes session.input ≡ []) }
@@ -64,8 +68,7 @@ impl Session {
         })
     }
 
-    /// Answers the rest of a line, of which this many bytes are held, and lets go of it and of its
-    /// newline.
+    /// Answers the rest of a line, of which this many bytes are held, and drops it and its newline.
     fn answer_line(&mut self, mode: Mode, runner: &mut Runner, len: usize) -> Result<(), AllocError>
         requires within { len ≤ length (unanswered_bytes self.old.input) }
         requires room { self.old.counts.lines < most_lines }
@@ -90,8 +93,8 @@ impl Session {
         Ok(())
     }
 
-    /// Answers the lines that are held whole, up to `MOST_LINES` in all. `Memory` comes where
-    /// there is no room for a reply, and `WriteFault` as from `write_if_full`.
+    /// Answers the whole lines that are held, up to `MOST_LINES` in all. `Memory` on allocation
+    /// failure; `WriteFault` as from `write_if_full`.
     fn answer_held<W: Write>(
         &mut self,
         mode: Mode,
@@ -121,7 +124,7 @@ impl Session {
         Ok(())
     }
 
-    /// Answers a last line with no newline, if there is one.
+    /// Answers a last line without a newline, if there is one.
     fn answer_last(&mut self, mode: Mode, runner: &mut Runner) -> Result<(), AllocError>
         requires { IsAnswered self.old }
         ensures ok { OnOk result
@@ -135,8 +138,8 @@ impl Session {
         self.answer_line(mode, runner, len)
     }
 
-    /// Answers a last line with no newline, and delivers what is left. `Memory` comes where there
-    /// is no room for the reply, and `WriteFault` as from `deliver`.
+    /// Answers a last line without a newline, and writes the remaining replies. `Memory` on
+    /// allocation failure; `WriteFault` as from `deliver`.
     fn finish<W: Write>(
         &mut self,
         mode: Mode,
@@ -158,8 +161,15 @@ impl Session {
         self.replies.deliver(writer)
     }
 
-    /// Reads once, and answers each line that ends there; at the end of the input, the last line
-    /// too. Says whether the input may go on.
+    /// Reads once, and answers each line that ends there; at the end of the input also the last
+    /// line.
+    ///
+    /// Returns `false` at the end of the input. Blocks while the reader or writer does. Requires a
+    /// session that is new or whose last turn returned `Ok(true)`.
+    ///
+    /// # Errors
+    ///
+    /// As [`run_lines`](crate::run_lines). Drop the session then.
     pub fn turn<R: Read, W: Write>(
         &mut self,
         mode: Mode,

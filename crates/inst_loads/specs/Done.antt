@@ -1,5 +1,5 @@
--- What the threads of a round give back: each that came to its end has the teller that it began
--- with, later. This hub's own choice.
+-- The results of a round's threads. A thread that didn't fail returns a teller of the hub with as
+-- many parts as its job's teller.
 use Rattle.std.specs.Prelude.{◌≡◌, ℕ, List, length, slice_get, Some, Result, IfOk}
 use Rattle.inst_hub.specs.declared.hub.Hub.{Hub}
 use Rattle.inst_loads.specs.declared.hub.done.Done.{Done}
@@ -7,7 +7,7 @@ use Rattle.inst_loads.specs.declared.hub.job.HubJob.{HubJob}
 use Rattle.inst_loads.specs.declared.flaw.Failure.{Failure}
 use Rattle.inst_loads.specs.Jobs.{IsStill}
 
--- each of these jobs was done, in order, unless its thread failed
+-- The results are those of the jobs, in order. Each job was done, unless its thread failed.
 pub record AllAreDone {T : Type 0} (h : Hub) (jobs : List HubJob)
     (results : List (Result (Done T) Failure)) : Type 0 where
   pub enough : length results ≡ length jobs

@@ -1,5 +1,4 @@
--- The tellers of a hub that is to close: they are its, and have all parts of its row. This hub's
--- own choice.
+-- The tellers that a hub needs to be closed: they are its own and have all parts of its row.
 use Rattle.std.specs.Prelude.{List}
 use Rattle.inst_hub.specs.declared.hub.Hub.{Hub}
 use Rattle.inst_hub.specs.declared.teller.Teller.{Teller}

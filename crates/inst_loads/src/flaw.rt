@@ -1,88 +1,87 @@
-//! What is wrong with a hub, in a round of a load or of a stress, or in a row in want of memory.
+//! Errors that a load, a stress or a worked row with allocation failures finds.
 use inst_base::Fault;
 use std::alloc::{AllocError, AllocFailed};
 use std::fmt::{self, Display, Formatter};
 use thiserror::Error;
 
-/// What is wrong in a round or in a row.
+/// An error that a round or a row finds in the hub.
 #[derive(Clone, Copy, Debug, Error)]
 pub(crate) enum Flaw {
-    /// What a round or a row needs was refused, as memory, or a command that must be granted.
+    /// An allocation that must succeed failed, or a command that must be accepted was refused.
     #[error("Refused: {}", .0.name())]
     Refused(#[from] Fault),
     /// Not all transfers of a load were accepted.
     #[error("NotAllSettled: {settled} of {transfers} transfers were settled")]
     NotAllSettled { settled: u32, transfers: u32 },
-    /// A reply tells of a transfer that was taken, and there is no ticket.
-    #[error("NoTicket: a reply tells of a transfer and there is no ticket")]
+    /// A reply concerns a transfer, and there is no ticket.
+    #[error("NoTicket: a reply concerns a transfer, but there is no ticket")]
     NoTicket,
-    /// Tickets of one place go with different identifiers, or a repeat was taken with other
-    /// contents.
+    /// Tickets of one place have different identifiers, or a repeat with other contents was taken.
     #[error("OtherTransfer: one place has two identifiers or two contents")]
     OtherTransfer,
-    /// A reply tells less of a transfer than its teller had seen, or another outcome.
-    #[error("ReplyWentBack: a reply tells less than the teller had seen")]
+    /// A reply has an earlier state than its teller had seen, or another outcome.
+    #[error("ReplyWentBack: a reply has less than the teller had seen")]
     ReplyWentBack,
-    /// A peek shows less of a transfer than its teller was told or had seen, or another outcome.
+    /// A peek returns an earlier state than its teller knew, or another outcome.
     #[error("PeekWentBack: a peek shows less than the teller knew")]
     PeekWentBack,
-    /// Two tellers were told or see different outcomes of one transfer.
+    /// Two tellers got or see different outcomes of one transfer.
     #[error("TellersDiffer: two tellers have different outcomes")]
     TellersDiffer,
-    /// A transfer is pending after its originator asked for it long past the deadline.
+    /// A transfer is pending though its originator asked for it after its deadline.
     #[error("StillPending: a transfer is pending at the end")]
     StillPending,
-    /// A sweep finds something new where each call told the other side what it had done.
-    #[error("NotTold: a call didn't tell the other side what it had done")]
+    /// A sweep finds something new, though each call had to do its follow-up at the other side.
+    #[error("NotTold: a call didn't let the other side learn what it had done")]
     NotTold,
-    /// A sweep finds something new after a sweep of each participant.
+    /// A sweep finds something new after every participant was swept.
     #[error("StillNew: a sweep finds something new at the end")]
     StillNew,
-    /// A transfer was handed out twice, or one that nobody submitted.
-    #[error("StrangeEntry: a transfer was handed out twice or unsubmitted")]
+    /// A transfer was fetched twice, or nobody submitted it.
+    #[error("StrangeEntry: a transfer was fetched twice, or was never submitted")]
     StrangeEntry,
-    /// A transfer that was accepted or rejected, or is pending, was never handed out.
-    #[error("NotHandedOut: a transfer didn't come to its beneficiary")]
+    /// A transfer that is accepted, rejected or pending was never fetched.
+    #[error("NotHandedOut: a transfer wasn't fetched by its beneficiary")]
     NotHandedOut,
-    /// A position isn't the sum of what is reserved and what is available.
+    /// A position isn't the sum of the reserved and the available amount.
     #[error("Unbalanced: reserved and available don't sum to the position")]
     Unbalanced,
-    /// Something is reserved where no transfer is pending.
+    /// Something is reserved though no transfer is pending.
     #[error("StillReserved: cents are reserved at the end")]
     StillReserved,
-    /// A position isn't what the outcomes of the transfers make it.
-    #[error("OtherPosition: a position isn't that of the outcomes")]
+    /// A position differs from what the outcomes of the transfers give.
+    #[error("OtherPosition: a position doesn't match the outcomes")]
     OtherPosition,
     /// The positions don't sum to the funding, in cents.
     #[error("OtherSum: the positions sum to {positions} cents, the funding to {funding}")]
     OtherSum { positions: u64, funding: u64 },
-    /// The lines of a statement don't lead to the position, one by one.
-    #[error("OtherStatement: the lines don't lead to the position")]
+    /// The lines of a statement don't add up to the position, one by one.
+    #[error("OtherStatement: the lines of a statement don't add up to the position")]
     OtherStatement,
-    /// No run of the hub in one thread was found that leaves the books.
-    #[error("NoInterleaving: no run in one thread was found that leaves the books")]
+    /// No steps of a hub in one thread were found that leave the books.
+    #[error("NoInterleaving: no single-threaded run was found that leaves the books")]
     NoInterleaving,
-    /// The memory that is to be refused couldn't be taken whole.
-    #[error("NoHoard: memory can't be taken whole")]
+    /// Not all memory could be taken.
+    #[error("NoHoard: the free memory could not all be allocated")]
     NoHoard,
-    /// A call was refused memory until the end.
-    #[error("NeverServed: a call was refused memory until the end")]
+    /// A call still fails to allocate with the most memory that is tried.
+    #[error("NeverServed: a call failed to allocate until the end")]
     NeverServed,
     /// An answer isn't the row's.
-    #[error("OtherAnswer: an answer isn't the row's")]
+    #[error("OtherAnswer: an answer isn't the one of its row")]
     OtherAnswer,
-    /// A call that was refused memory changed what it should have left.
-    #[error("Changed: a call that was refused memory changed something")]
+    /// A call that failed to allocate changed something that it must not.
+    #[error("Changed: a call that failed to allocate changed something")]
     Changed,
-    /// A call that takes no memory was refused some.
-    #[error("Needless: a call that takes no memory was refused some")]
+    /// A call that promises not to allocate failed to allocate.
+    #[error("Needless: a call that needn't allocate failed to allocate")]
     Needless,
-    /// A call that takes memory was never refused any.
-    #[error("NeverRefused: a call that takes memory was never refused any")]
+    /// A call that must allocate never failed to.
+    #[error("NeverRefused: a call that allocates never failed to")]
     NeverRefused,
 }
 
-/// `OtherSum` where the positions don't sum to the funding.
+/// Returns `OtherSum` if the positions don't sum to the funding.
 pub(crate) fn check_sum(positions: u64, funding: u64) -> Result<(), Flaw> {
     if positions != funding {
         return Err(Flaw::OtherSum { positions, funding });
@@ -102,8 +101,8 @@ impl<T: Drop> From<AllocFailed<T>> for Flaw {
     }
 }
 
-/// A flaw, with the round, from 0, and the thread whose teller met it: `None` for the teller that
-/// is in no thread.
+/// A flaw with its round, from 0, and the thread whose teller found it; `None` for the teller that
+/// no thread has.
 #[derive(Clone, Copy)]
 pub(crate) struct Failure {
     pub(crate) flaw: Flaw,
@@ -112,7 +111,7 @@ pub(crate) struct Failure {
 }
 
 impl Flaw {
-    /// This flaw, met by the teller of this thread.
+    /// Returns this flaw, found by this thread's teller.
     pub(crate) fn of(self, thread: u8) -> Failure {
         Failure {
             flaw: self,
@@ -123,7 +122,7 @@ impl Flaw {
 }
 
 impl Failure {
-    /// The same in this round.
+    /// Returns this failure with its round.
     pub(crate) fn in_round(self, round: u32) -> Failure {
         Failure { round, ..self }
     }

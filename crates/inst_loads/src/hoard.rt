@@ -1,32 +1,32 @@
-//! All memory but a little, so that a call that wants more is refused. It holds of addresses what
-//! there is of them and next to no memory, so a program that does so is to run in a thread that has
-//! its stack before.
+//! Allocation failures: takes all memory but a little, so that a call that needs more fails. This
+//! uses up addresses and hardly any memory. Run such calls in a thread that got its stack before.
 use std::alloc::{AllocError, Global};
 
-/// How large the pieces of the room are, in bytes: so small that an allocator takes none from the
-/// system by itself and gives it back there, and so all of them lie side by side.
+/// The size of a piece of the reserve in bytes. An allocator doesn't map such a small block by
+/// itself and return it to the system, so all pieces are adjacent.
 const PIECE: usize = 1 << 16;
 
-/// How many pieces the room has.
+/// The number of pieces of the reserve.
 const PIECES: usize = 64;
 
-/// The largest block that is tried, in bytes.
+/// The size of the largest block that is tried, in bytes.
 const LARGEST: usize = 1 << 40;
 
-/// Below it every size that a request may be rounded to is tried, since an allocator may keep what
-/// was given back for the next request of the same size.
+/// Below this size in bytes, every size that a request may be rounded to is tried: an allocator may
+/// keep a freed block for the next request of the same size.
 const SMALL: usize = 1_024;
 
-/// How many blocks a hoard keeps at most.
+/// The most blocks that a hoard keeps.
 const MOST_BLOCKS: usize = 1 << 17;
 
-/// How often a block is asked for at most.
+/// The most requests for a block.
 const MOST_REQUESTS: usize = 1 << 18;
 
-/// More than an allocator keeps for the next request of the same size.
+/// A block larger in bytes than those that an allocator keeps for the next request of the same
+/// size.
 const CUT: usize = 2_048;
 
-/// Blocks that nothing is written to, so that they take addresses and next to no memory.
+/// Allocated blocks that are never written, so that they take addresses and hardly any memory.
 #[derive(Drop)]
 struct Blocks {
     blocks: Vec<Vec<u8>>,
@@ -39,7 +39,7 @@ impl Blocks {
         })
     }
 
-    /// Takes so many blocks of so many bytes.
+    /// Allocates `count` blocks of `size` bytes.
     fn take(&mut self, alloc: Global, count: usize, size: usize) -> Result<(), AllocError> {
         for _ in 0..count {
             self.blocks.push(Vec::with_capacity(alloc, size)?)?;
@@ -47,7 +47,8 @@ impl Blocks {
         Ok(())
     }
 
-    /// Takes blocks of at most so many bytes until one byte is refused: whether it was.
+    /// Allocates blocks of at most `largest` bytes until a request for one byte fails. Returns
+    /// `true` if it did.
     fn take_all(&mut self, alloc: Global, largest: usize) -> bool {
         let mut size = largest;
         for _ in 0..MOST_REQUESTS {
@@ -73,19 +74,19 @@ impl Blocks {
     }
 }
 
-/// All memory but a room of 4 MiB for a row and its calls; dropped it gives all back.
+/// All memory but a reserve of 4 MiB for a row and its calls. Dropping it frees the memory.
 #[derive(Drop)]
 pub(crate) struct Hoard {
     alloc: Global,
-    /// Held until the end.
+    /// Kept until the hoard is dropped.
     far: Blocks,
-    /// Held while a call is made.
+    /// Kept during a call.
     near: Blocks,
 }
 
 impl Hoard {
-    /// Takes all but the room; `None` where it can't be had whole, and then it took nothing. Some
-    /// thousand requests.
+    /// Takes all memory but the reserve, in some thousand requests. Returns `None`, with nothing
+    /// taken, if it can't take all.
     pub(crate) fn new(alloc: Global) -> Option<Hoard> {
         let mut far = Blocks::new(alloc, MOST_BLOCKS).ok()?;
         let near = Blocks::new(alloc, 8_192).ok()?;
@@ -98,8 +99,8 @@ impl Hoard {
         Some(Hoard { alloc, far, near })
     }
 
-    /// Takes the room but for so many bytes, in one piece: whether it did. It holds what it took
-    /// till it gives the room back.
+    /// Takes the reserve but for `bytes`, in one piece, and keeps it until `give_back`. Returns
+    /// `true` if it could.
     pub(crate) fn leave(&mut self, bytes: usize) -> bool {
         let little: Vec<u8> = match Vec::with_capacity(self.alloc, CUT.saturating_add(bytes)) {
             Ok(little) => little,
@@ -114,7 +115,7 @@ impl Hoard {
         }
     }
 
-    /// Gives the room back.
+    /// Frees the reserve.
     pub(crate) fn give_back(&mut self) {
         self.near.blocks.clear();
     }

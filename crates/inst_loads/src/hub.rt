@@ -1,5 +1,4 @@
-//! A hub of many threads, as loads and stresses have it: how it opens, what the threads start with
-//! and give back, what it is asked, and how it ends.
+//! The hub of a load or a stress: opening, the threads' jobs and results, calls, and closing.
 pub(crate) mod asking;
 pub(crate) mod closing;
 pub(crate) mod done;

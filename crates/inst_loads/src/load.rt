@@ -1,40 +1,39 @@
-//! A load of a hub by several threads, each with a teller of its own: transfers are submitted and
-//! confirmed, so many rounds, each at a hub of 64 participants that opens anew. All must be
-//! settled, and the positions still sum to the funding.
+//! A load of a hub. Threads, each with one teller, submit and confirm transfers in rounds, each at
+//! a new hub of 64 participants. All must be settled, and the positions must sum to the funding.
 pub(crate) mod rounds;
 
 use crate::words::MOST_WORDS;
 
-/// How many participants the hub has.
+/// The number of participants of the hub.
 pub(crate) const PARTICIPANTS: u16 = 64;
 
-/// How many places each has.
+/// The number of places of each participant.
 pub(crate) const PLACES: u16 = 1_024;
 
-/// What each participant is funded with, in cents.
+/// The funding of each participant, in cents.
 pub(crate) const FUNDS: u64 = 200_000;
 
-/// The most threads of a load or a stress: one teller fewer than a hub has at most.
+/// The most threads of a load or a stress: one less than the most tellers of a hub.
 const MOST_THREADS: u8 = 15;
 
-/// Between whom the threads' transfers are.
+/// Which participants the threads' transfers are between.
 #[derive(Clone, Copy)]
 pub(crate) enum Pattern {
     /// Any two participants, in turn.
     Uniform,
-    /// Each thread has participants of its own.
+    /// Each thread uses a group of participants that no other thread uses.
     Split,
-    /// All threads use the same two.
+    /// All threads use the same two participants.
     Hot,
 }
 
-/// How many participants each of so many threads has of its own.
+/// Returns the size of each thread's group of participants.
 fn group(threads: u8) -> u32 {
     u32::from(PARTICIPANTS) / u32::from(threads.max(1))
 }
 
 impl Pattern {
-    /// The most transfers for which each of so many threads finds places.
+    /// Returns the most transfers of each thread that find places.
     fn most(self, threads: u8) -> u32 {
         let places = u32::from(PLACES);
         match self {
@@ -45,7 +44,7 @@ impl Pattern {
     }
 }
 
-/// The numbers of threads, 1 to 15, and of rounds that these words choose.
+/// Returns the numbers of threads, 1 to 15, and of rounds that these words ask for.
 pub(crate) fn threads_of(words: &[String]) -> Option<(u8, u32)> {
     let threads = words.get(2)?.parse().ok()?;
     if threads == 0 || threads > MOST_THREADS {
@@ -55,19 +54,19 @@ pub(crate) fn threads_of(words: &[String]) -> Option<(u8, u32)> {
     Some((threads, rounds))
 }
 
-/// What the threads do.
+/// The options of a load.
 #[derive(Clone, Copy)]
 pub(crate) struct Load {
     pub(crate) pattern: Pattern,
     /// 1 to 15.
     pub(crate) threads: u8,
-    /// How many transfers each thread makes in a round.
+    /// The number of transfers of each thread in a round.
     pub(crate) share: u32,
-    /// Whether the hub of a round isn't closed, so that the program's time is that of the load.
+    /// `true` if a round's hub isn't closed, so that the program's time is that of the load.
     pub(crate) is_left_open: bool,
 }
 
-/// These words without the last one, if it is `open`, and whether it is.
+/// Returns the words without a last word `open`, and whether there was one.
 fn split_open(words: &[String]) -> (&[String], bool) {
     match words.split_last() {
         Some((last, others)) if last.as_str() == "open" => (others, true),
@@ -76,8 +75,8 @@ fn split_open(words: &[String]) -> (&[String], bool) {
 }
 
 impl Load {
-    /// The load that these words choose, and the number of rounds. Without a word for it each
-    /// thread makes as many transfers as find places.
+    /// Returns the load and the number of rounds that these words ask for. By default a thread
+    /// makes as many transfers as find places.
     pub(crate) fn of(words: &[String]) -> Option<(Load, u32)> {
         let (words, is_left_open) = split_open(words);
         if words.len() > MOST_WORDS {
@@ -103,12 +102,12 @@ impl Load {
         Some((load, count))
     }
 
-    /// How many transfers all threads make in a round.
+    /// Returns the number of transfers of all threads in a round.
     pub(crate) fn transfers(self) -> u32 {
         self.share.saturating_mul(u32::from(self.threads))
     }
 
-    /// The originator and the beneficiary of the transfer with this number in its thread.
+    /// Returns the originator and the beneficiary of a thread's transfer with this number.
     pub(crate) fn pair(self, thread: u8, number: u32) -> (u8, u8) {
         match self.pattern {
             Pattern::Uniform => {
@@ -128,7 +127,7 @@ impl Load {
     }
 }
 
-/// The pair with this number of so many participants from `first` on: two different ones.
+/// Returns pair `number` of the `size` participants from `first` on; the two differ.
 fn pair_of(first: u32, size: u32, number: u32) -> (u8, u8) {
     let size = size.max(2);
     let from = number % size;

@@ -1,7 +1,6 @@
-//! Loads and stresses of a hub of many threads, races of slots over shared boards, and worked rows
-//! in want of memory, as the words of the command line ask for (`--help` prints them). How it ended
-//! it tells on standard error, and ends with status 0; with 1 where something isn't as it must be,
-//! and with 2 where the words are others.
+//! Loads and stresses of a hub for many threads, races of slots over shared boards, and worked rows
+//! with allocation failures. `--help` prints the command line. The result is printed on standard
+//! error. The exit status is 0, or 1 if something is wrong, or 2 for wrong words.
 #![tactic(auto)]
 
 mod flaw;
@@ -41,13 +40,13 @@ fn main(rt: HostRuntime) -> ExitCode {
     }
 }
 
-/// What the words of the command line ask for, if they are such.
+/// Returns the task that the command line asks for, or `None`.
 fn task(rt: &HostRuntime, alloc: Global) -> Option<Task> {
     let words: Vec<String> = env::args(rt).ok()?.collect::<Vec<_>>(alloc).ok()?;
     Task::of(&words)
 }
 
-/// Prints the words.
+/// Prints the help.
 fn help(rt: &HostRuntime) -> ExitCode {
     match rt.stdout().write_all(HELP.as_bytes()) {
         Ok(()) => ExitCode::from(0),
@@ -55,7 +54,7 @@ fn help(rt: &HostRuntime) -> ExitCode {
     }
 }
 
-/// Tells how many transfers a load settled, or what failed.
+/// Prints how many transfers a load settled, or its failure.
 fn tell_load(rt: &HostRuntime, ended: &Result<u64, Failure>) -> ExitCode {
     match ended {
         Ok(settled) => {
@@ -66,7 +65,7 @@ fn tell_load(rt: &HostRuntime, ended: &Result<u64, Failure>) -> ExitCode {
     }
 }
 
-/// Tells how the transfers of a stress ended, or what failed.
+/// Prints how the transfers of a stress ended, or its failure.
 fn tell_stress(rt: &HostRuntime, ended: &Result<StressTally, Failure>) -> ExitCode {
     match ended {
         Ok(tally) => {
@@ -82,7 +81,7 @@ fn tell_failure(rt: &HostRuntime, failure: &Failure) -> ExitCode {
     ExitCode::from(1)
 }
 
-/// Tells how the transfers of all races ended, where none failed.
+/// Prints how the transfers of all races ended, if none failed.
 fn tell_races(rt: &HostRuntime, ended: Option<EndedRace>) -> ExitCode {
     match ended {
         Some(ended) => {
@@ -98,7 +97,7 @@ fn tell_races(rt: &HostRuntime, ended: Option<EndedRace>) -> ExitCode {
     }
 }
 
-/// Tells which worked row failed, if one did.
+/// Prints which worked row failed, if one did.
 fn tell_rows(rt: &HostRuntime, failed: Option<&str>) -> ExitCode {
     match failed {
         None => ExitCode::from(0),
@@ -109,8 +108,7 @@ fn tell_rows(rt: &HostRuntime, failed: Option<&str>) -> ExitCode {
     }
 }
 
-/// Tells how many calls were answered and how often one was refused memory, and what failed, if
-/// anything did.
+/// Prints how many calls succeeded, how often one failed to allocate, and the first flaw, if any.
 fn tell_scarce(rt: &HostRuntime, ended: &(Option<Flaw>, Tries)) -> ExitCode {
     let (flaw, tries) = ended;
     let _ = writeln!(

@@ -1,4 +1,4 @@
-//! Two participants race for the outcomes of the same transfers, each in a thread of its own.
+//! Two participants, each in its own thread, race for the outcomes of the same transfers.
 mod acts;
 mod explaining;
 mod opening;
@@ -14,39 +14,39 @@ use inst_command::{Command, Funding, Outcome, Place, Submission};
 use std::alloc::Global;
 use std::thread::{Threads, join_mut};
 
-/// How many transfers are raced for.
+/// The number of transfers.
 const TRANSFERS: u16 = 200;
 
-/// The cents of each.
+/// The amount of each transfer, in cents.
 const CENTS: u64 = 100;
 
-/// What the originator is funded with, in cents.
+/// The funding of the originator, in cents.
 const FUNDS: u64 = 20_000;
 
-/// The time stamp of all transfers, and the reading at which they are submitted.
+/// The time stamp of all transfers, and the clock reading of their submission, in milliseconds.
 const STAMP: u64 = 1_000;
 
 /// The deadline of all transfers, in milliseconds.
 const DEADLINE: u64 = 11_000;
 
-/// How a race ended.
+/// The result of a race.
 #[derive(Clone, Copy)]
 pub(crate) struct Finish {
-    /// Of how many transfers the originator's expiry booked an outcome.
+    /// How many outcomes the originator's expiries booked.
     expired: u16,
-    /// Of how many both books say that they were accepted.
+    /// How many transfers are accepted in both books.
     pub(crate) accepted: u16,
-    /// Of how many both books say that they timed out.
+    /// How many transfers timed out in both books.
     pub(crate) timed_out: u16,
-    /// What the positions of both sum to, in cents.
+    /// The sum of both positions, in cents.
     sum: u128,
-    /// Whether the books are those of a run in one thread.
+    /// `true` if steps in one thread were found that leave the books.
     is_explained: bool,
 }
 
 impl Finish {
-    /// How the race of the first two of these participants ended, with so many expiries that booked
-    /// an outcome.
+    /// Returns the result of the race between the first two participants, given how many expiries
+    /// booked an outcome.
     fn of(alloc: Global, hub: &[Racer], expired: u16) -> Result<Finish, Fault> {
         let [first, second, ..] = hub else {
             return Err(Fault::BadSettings);
@@ -61,9 +61,8 @@ impl Finish {
         })
     }
 
-    /// Whether it is a finish that a race may have: each expiry booked an outcome, both books have
-    /// the same one of each transfer, no cent came or went, and a run in one thread leaves the
-    /// books.
+    /// Returns `true` if each expiry booked an outcome, both books have the same outcome of each
+    /// transfer, the positions sum to the funding, and the books are explained.
     pub(crate) fn is_whole(&self) -> bool {
         self.expired == TRANSFERS
             && self.accepted.checked_add(self.timed_out) == Some(TRANSFERS)
@@ -72,13 +71,13 @@ impl Finish {
     }
 }
 
-/// The identifier of the transfer with this index.
+/// Returns the identifier of the transfer with this index.
 fn name(alloc: Global, index: u16) -> Result<Ident, Fault> {
     let text = format!(in alloc; "T{index}")?;
     Ident::new(text.as_str())
 }
 
-/// Funds the originator, which submits all transfers; each is delivered.
+/// Funds the originator, submits all transfers and delivers each.
 fn submit_all(alloc: Global, first: &mut Racer, second: &mut Racer) -> Result<(), Fault> {
     let at = Moment::new(0, STAMP)?;
     let fund = Command::Fund(Funding {
@@ -99,7 +98,7 @@ fn submit_all(alloc: Global, first: &mut Racer, second: &mut Racer) -> Result<()
     Ok(())
 }
 
-/// The beneficiary confirms all.
+/// Lets the beneficiary confirm all transfers.
 fn confirm_all(alloc: Global, second: &mut Racer, at: Moment) -> Result<(), Fault> {
     for index in 0..TRANSFERS {
         let id = name(alloc, index)?;
@@ -108,7 +107,7 @@ fn confirm_all(alloc: Global, second: &mut Racer, at: Moment) -> Result<(), Faul
     Ok(())
 }
 
-/// The originator lets all expire. Of how many that booked an outcome.
+/// Lets the originator expire all transfers, and counts the booked outcomes.
 fn expire_all(first: &mut Racer, at: Moment) -> Result<u16, Fault> {
     let mut expired = 0;
     for index in 0..TRANSFERS {
@@ -119,7 +118,7 @@ fn expire_all(first: &mut Racer, at: Moment) -> Result<u16, Fault> {
     Ok(expired)
 }
 
-/// Of how many transfers both books have the same outcome: accepted ones, and such that timed out.
+/// Counts the transfers that are accepted in both books, and those that timed out in both.
 fn outcomes(alloc: Global, first: &Racer, second: &Racer) -> Result<(u16, u16), Fault> {
     let mut accepted = 0u16;
     let mut timed_out = 0u16;
@@ -137,13 +136,13 @@ fn outcomes(alloc: Global, first: &Racer, second: &Racer) -> Result<(u16, u16), 
     Ok((accepted, timed_out))
 }
 
-/// What the positions of both sum to, in cents.
+/// Returns the sum of both positions, in cents.
 fn sum(first: &Racer, second: &Racer) -> u128 {
     let first = first.journal().position();
     first.saturating_add(second.journal().position())
 }
 
-/// The race of these two for transfers that are pending: of how many an expiry booked an outcome.
+/// Runs the race for pending transfers, and returns how many expiries booked an outcome.
 fn run<R: Threads + Sync>(
     rt: &R,
     alloc: Global,
@@ -162,9 +161,9 @@ fn run<R: Threads + Sync>(
     expired
 }
 
-/// The beneficiary confirms all transfers at the last moment in time, while the originator lets
-/// them expire at the deadline. An acceptance must come before the deadline by more than `margin`
-/// milliseconds.
+/// Runs a race: the beneficiary confirms all transfers at the last moment in time, while the
+/// originator lets them expire at their deadline. The last moment is `margin` + 1 milliseconds
+/// before the deadline.
 pub(crate) fn race<R: Threads + Sync>(rt: &R, alloc: Global, margin: u32) -> Result<Finish, Fault> {
     let mut hub = open(alloc, 256, margin)?;
     let [first, second, ..] = hub.as_mut_slice() else {

@@ -1,6 +1,6 @@
-//! Rows of calls in want of memory: all memory but a little is taken before a call and given back
-//! after it, and the little grows until the call is refused none. Each answer must be the row's or
-//! `Memory`, and what was answered `Memory` must have left all as it was.
+//! Worked rows with allocation failures. All memory but a little is taken before a call and freed
+//! after it; the little grows until the call succeeds. Each answer must be the row's or `Memory`,
+//! and a call that fails with `Memory` must have changed nothing.
 mod asking;
 mod closing;
 mod hub_row;
@@ -19,14 +19,14 @@ use std::alloc::Global;
 use std::sync::Wait;
 use std::thread::{Threads, join};
 
-/// All rows.
+/// Runs all rows.
 fn run<R: Wait>(rt: &R, alloc: Global, want: &mut Want) -> Result<(), Flaw> {
     step_rows(alloc, want)?;
     two_tellers(rt, alloc, want)?;
     closings(rt, alloc, want)
 }
 
-/// What is wrong, the first that is, and how often calls were made.
+/// Runs all rows, and returns the first flaw and the counts of calls.
 fn ended<R: Wait>(rt: &R, alloc: Global) -> (Option<Flaw>, Tries) {
     let tries = Tries::new();
     let Some(hoard) = Hoard::new(alloc) else {
@@ -37,8 +37,8 @@ fn ended<R: Wait>(rt: &R, alloc: Global) -> (Option<Flaw>, Tries) {
     (want.tries.flaw.or(ended.err()), want.tries)
 }
 
-/// All rows, in a thread of their own: its stack has all its addresses before the hoard takes the
-/// rest, where that of the first thread could not grow any more.
+/// Runs all rows in another thread, whose stack is allocated before all memory is taken. That of
+/// the first thread couldn't grow then.
 pub(crate) fn run_apart<R: Threads + Wait + Sync>(rt: &R, alloc: Global) -> (Option<Flaw>, Tries) {
     let (answer, ()) = join(rt, || ended(rt, alloc), || ());
     answer

@@ -1,7 +1,6 @@
-//! A stress of a small hub: threads race for the outcomes of a few transfers between 4
-//! participants, and after each round all that they were told is compared with the books. In a
-//! round of want each thread makes some calls in want of memory, while the others race, and goes on
-//! where one is refused.
+//! A stress of a small hub: threads race for the outcomes of transfers between 4 participants.
+//! After each round their replies are compared with the books. In a round with allocation failures
+//! each thread makes some calls with little memory left, and continues after a failure.
 ghost use Rattle.std.specs.Prelude.{IfOk};
 ghost use Rattle.inst_hub.specs.Calls.{IsTellerOf};
 ghost use Rattle.inst_loads.specs.Jobs.{AreJobsOf, AreStill, IsStill};
@@ -40,7 +39,7 @@ use std::alloc::Global;
 use std::sync::Wait;
 use std::thread::{Threads, join};
 
-/// What was submitted came to its beneficiary, and each transfer comes to its end.
+/// Checks that each transfer reached its beneficiary, and lets each be decided and booked.
 fn settle_all<R: Wait>(
     rt: &R,
     hub: &Hub,
@@ -58,7 +57,7 @@ fn settle_all<R: Wait>(
     sweep_all(rt, hub, teller, round)
 }
 
-/// All tellers see the same, before all transfers come to their end and after that.
+/// Checks that all tellers see the same, before the pending transfers are decided and after it.
 fn end<R: Wait>(
     rt: &R,
     hub: &Hub,
@@ -70,8 +69,8 @@ fn end<R: Wait>(
     requires { IsTellerOf hub.now teller.old × AreJobsOf hub.now jobs.old }
     ensures { IsStill hub.now teller.old teller.new × AreStill hub.now jobs.old jobs.new }
 {
-    // The teller first learns what each of the others knows, and only then can it tell each of them
-    // all of it.
+    // In the first pass the teller receives what each of the others knows; in the second it passes
+    // all of it to each of them.
     meet_all(hub, teller, jobs);
     meet_all(hub, teller, jobs);
     peek_all(teller, sights)?;
@@ -80,7 +79,7 @@ fn end<R: Wait>(
     agree(jobs, sights)
 }
 
-/// How the transfers ended, where all that was told agrees with the books.
+/// Compares all replies with the books, and returns how the transfers ended.
 fn check<R: Wait>(
     rt: &R,
     hub: &Hub,
@@ -95,7 +94,7 @@ fn check<R: Wait>(
     Ok(tally)
 }
 
-/// The stress of a round, by threads that do these jobs: how the transfers ended.
+/// Runs a round with these jobs, and returns how the transfers ended.
 fn race<R: Threads + Wait + Sync>(
     rt: &R,
     alloc: Global,
@@ -115,7 +114,7 @@ fn race<R: Threads + Wait + Sync>(
     Ok((tally, jobs))
 }
 
-/// A round at a hub that opens anew, is closed, and leaves the books of a run in one thread.
+/// Runs a round at a new hub, closes it, and finds steps in one thread that leave its books.
 fn round<R: Threads + Wait + Sync>(
     rt: &R,
     alloc: Global,
@@ -134,18 +133,18 @@ fn round<R: Threads + Wait + Sync>(
     Ok(tally)
 }
 
-/// What a stress is.
+/// The options of a stress.
 #[derive(Clone, Copy)]
 pub(crate) struct Stress {
     /// 1 to 15.
     threads: u8,
     rounds: u32,
-    /// Whether its rounds are such of want.
+    /// `true` if threads take memory before some calls.
     is_scarce: bool,
 }
 
 impl Stress {
-    /// The stress that these words choose.
+    /// Returns the stress that these words ask for, or `None`.
     pub(crate) fn of(words: &[String]) -> Option<Stress> {
         let (threads, rounds) = threads_of(words)?;
         let is_scarce = match words.get(4) {
@@ -161,7 +160,7 @@ impl Stress {
     }
 }
 
-/// The rounds one by one: how the transfers ended, or the first failure.
+/// Runs the rounds, and returns how the transfers ended, or the first failure.
 fn play<R: Threads + Wait + Sync>(
     rt: &R,
     alloc: Global,
@@ -178,8 +177,8 @@ fn play<R: Threads + Wait + Sync>(
     Ok(tally)
 }
 
-/// Plays the rounds apart from the first thread, since its stack can't grow where threads have
-/// taken all memory.
+/// Runs the rounds in another thread: the first thread's stack can't grow while all memory is
+/// taken.
 pub(crate) fn play_apart<R: Threads + Wait + Sync>(
     rt: &R,
     alloc: Global,

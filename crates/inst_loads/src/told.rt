@@ -1,16 +1,16 @@
-//! What is answered, by short texts and plain numbers.
+//! Expected answers, as short texts and plain numbers.
 use inst_base::Ident;
 use inst_command::{Answer, Outcome, Reply, State};
 
-/// All that the answer says.
+/// An expected answer.
 #[derive(Clone, Copy)]
 pub(crate) enum RaceReply {
     Done(&'static str),
-    /// With the deadline in milliseconds.
+    /// The identifier, and the deadline in milliseconds.
     Taken(&'static str, u64),
     Accepted(u8, &'static str),
     TimedOut(u8, &'static str),
-    /// Position, reserved and available cents.
+    /// Position, reserved and available, in cents.
     Position(u64, u64, u64),
     New(bool),
 }
@@ -27,7 +27,7 @@ fn is_state(told: RaceReply, from: u8, id: &Ident, state: State) -> bool {
     }
 }
 
-/// Whether the reply is what is told.
+/// Returns `true` if the reply is the expected one.
 pub(crate) fn is_reply(reply: &Reply, told: RaceReply) -> bool {
     match reply {
         Reply::Done { reference } => match told {
@@ -53,7 +53,7 @@ pub(crate) fn is_reply(reply: &Reply, told: RaceReply) -> bool {
     }
 }
 
-/// Whether the answer is what is told.
+/// Returns `true` if the answer is the expected one.
 pub(crate) fn tells(answer: &Answer, told: RaceReply) -> bool {
     match answer {
         Answer::Reply(reply) => is_reply(reply, told),

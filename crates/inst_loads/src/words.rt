@@ -1,8 +1,8 @@
-//! What the words of the command line ask for.
+//! The command line.
 use crate::load::Load;
 use crate::stress::Stress;
 
-/// What `--help` prints.
+/// The text that `--help` prints.
 pub(crate) const HELP: &str = "\
 Loads and stresses of a hub that threads share, races over shared boards, and worked rows in want of memory.
 
@@ -22,27 +22,27 @@ that the program's time is that of the load. How it ended is told on standard er
 where the words are others.
 ";
 
-/// How many words choose a load or a stress at most, with the program's name and without `open`.
+/// The most words of a load or a stress, with the program's name and without `open`.
 pub(crate) const MOST_WORDS: usize = 5;
 
-/// What is run.
+/// The task that the words ask for.
 #[derive(Clone, Copy)]
 pub(crate) enum Task {
-    /// Nothing: the words are printed.
+    /// Prints the help.
     Help,
-    /// A load, so many rounds.
+    /// A load, and its number of rounds.
     Load(Load, u32),
     Stress(Stress),
-    /// So many races.
+    /// Races, and their number.
     Races(u32),
     /// The worked rows over shared boards.
     RaceRows,
-    /// The worked rows in want of memory.
+    /// The worked rows with allocation failures.
     Scarce,
 }
 
 impl Task {
-    /// What these words ask for, the first of which is the program's name.
+    /// Returns the task that these words ask for, or `None`. The first word is the program's name.
     pub(crate) fn of(words: &[String]) -> Option<Task> {
         match words.get(1)?.as_str() {
             "--help" if words.len() == 2 => Some(Task::Help),
@@ -57,7 +57,7 @@ impl Task {
     }
 }
 
-/// What the word behind `race` asks for.
+/// Returns the task that the word after `race` asks for.
 fn race_of(word: &str) -> Option<Task> {
     if word == "rows" {
         return Some(Task::RaceRows);

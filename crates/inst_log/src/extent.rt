@@ -1,16 +1,16 @@
-//! How far the lines of a file go.
+//! The length of a file and of the lines in it.
 ghost use Rattle.inst_log.specs.Pieces.{IsExtent};
 
 use crate::front::{is_closed, kept_len};
 
-/// How far the lines of a file go.
+/// The length of a file, and where its lines end.
 #[derive(Clone, Copy, Debug)]
 pub struct Extent {
-    /// How many bytes the file has.
+    /// The length of the file in bytes.
     pub len: usize,
-    /// Where its lines end.
+    /// The position after the last line's newline.
     pub end: usize,
-    /// Whether the closed byte follows them.
+    /// `true` if a closed byte, any byte but `{`, follows the lines.
     pub is_closed: bool,
 }
 

@@ -1,4 +1,4 @@
-//! A file is read piece by piece, and nothing of it is changed.
+//! Reading the lines of a file in pieces. The file isn't changed.
 ghost use Rattle.std.specs.Prelude.{◌≡◌, ◌≤◌, ◌<◌, ◌+◌, ◌^◌, ◌++◌, [], List, ℕ, length, take, drop};
 ghost use Rattle.std.specs.Prelude.{true, false, IsTrue, MatchBool, MatchResult, IfOk, ⊤};
 ghost use Rattle.sqlite_disk.specs.Disk.{Holds, MoreFaults};
@@ -13,21 +13,25 @@ use crate::line_cutter::LineCutter;
 use sqlite_disk::Disk;
 use std::alloc::Global;
 
-/// How many bytes are read at a time.
+/// How many bytes one read takes.
 const PIECE: usize = 65_536;
 
-/// Reads the lines of a file, some at a time. It takes the memory of a piece of 64 KiB and of the
-/// longest line.
+/// Reads the lines of a file in pieces of 64 KiB. Takes memory for one piece and for the longest
+/// line.
 #[derive(Drop)]
 pub struct FileLines {
     alloc: Global,
     cutter: LineCutter,
-    /// How many bytes the file has.
+    /// The length of the file in bytes.
     len: usize,
 }
 
 impl FileLines {
-    /// Begins at this byte of the disk's file, at which a line begins.
+    /// Starts at the byte `at` of the disk's file, where a line must begin.
+    ///
+    /// # Errors
+    ///
+    /// `Disk` if the disk fails.
     pub fn new<D: Disk>(alloc: Global, disk: &mut D, at: usize) -> Result<FileLines, LogError>
         requires usable { IsTrue (D.Disk.is_usable disk.old) }
         ensures reading { IfOk result (λ lines. HasKeptFaith D.Disk disk.new →
@@ -55,7 +59,12 @@ impl FileLines {
         self.cutter.at() < self.len && !self.cutter.stops()
     }
 
-    /// Reads the next piece of the file, and returns the lines that end in it.
+    /// Reads the next piece, 64 KiB or less, and returns the lines that end in it, each with its
+    /// newline. Call it only if [`has_more`](FileLines::has_more) is `true`.
+    ///
+    /// # Errors
+    ///
+    /// `Disk` if the disk fails, `Memory` if an allocation fails. Drop the value then.
     pub fn next<D: Disk>(&mut self, disk: &mut D) -> Result<Vec<u8>, LogError>
         requires more { has_more self.old ≡ true }
         requires usable { IsTrue (D.Disk.is_usable disk.old) }
@@ -72,7 +81,8 @@ impl FileLines {
         Ok(self.cutter.take(&piece)?)
     }
 
-    /// Returns `true` if the lines of a file that has no more end by the closed byte 0.
+    /// Returns `true` if the byte 0 follows the lines. Call it once
+    /// [`has_more`](FileLines::has_more) is `false`.
     pub fn is_shut(&self) -> bool
         ensures { (file : List ℕ) (done : List (List ℕ)) → IsReading file self.now done →
             has_more self.now ≡ false
@@ -81,7 +91,8 @@ impl FileLines {
         self.cutter.is_shut()
     }
 
-    /// Returns how far the lines go of a file that has no more.
+    /// Returns where the file's lines end. Call it once [`has_more`](FileLines::has_more) is
+    /// `false`.
     pub fn extent(&self) -> Extent
         ensures { (file : List ℕ) (done : List (List ℕ)) → IsReading file self.now done →
             has_more self.now ≡ false
@@ -95,7 +106,7 @@ impl FileLines {
     }
 }
 
-/// The bytes of a file from this one on, so many.
+/// Reads `len` bytes of the file from `at`.
 fn read_piece<D: Disk>(
     alloc: Global,
     disk: &mut D,

@@ -1,18 +1,18 @@
-//! The lines with which bytes begin, and where they end.
+//! The whole lines that bytes begin with, and where they end.
 ghost use Rattle.std.specs.Prelude.{◌≡◌, ◌≢◌, ◌⊎◌, ◌<◌, ◌≤◌, [], length, slice_index, MatchBool};
 ghost use Rattle.std.specs.Prelude.{MatchOption};
 ghost use Rattle.inst_log.specs.Layout.{recovered_lines, blocks, IsFirstLine};
 
 use inst_base::find_newline;
 
-/// The whole lines with which bytes begin, each with its newline.
+/// Returns the prefix of the bytes that is whole lines, each with its newline.
 pub fn whole_lines(bytes: &[u8]) -> &[u8]
     ensures { result.now ≡ blocks (recovered_lines bytes.now) }
 {
     &bytes[..kept_len(bytes)]
 }
 
-/// How many bytes the lines have.
+/// Returns the length of the whole lines that the bytes begin with.
 pub(crate) fn kept_len(bytes: &[u8]) -> usize
     ensures len { result ≡ length (blocks (recovered_lines bytes.now)) }
     ensures within { result ≤ length bytes.now }
@@ -24,7 +24,8 @@ pub(crate) fn kept_len(bytes: &[u8]) -> usize
     bytes.len() - rest.len()
 }
 
-/// How long the first line is, with its newline, if one stands there.
+/// Returns the length of the first line with its newline, or `None` if the bytes don't begin with a
+/// whole line.
 pub fn first_line(bytes: &[u8]) -> Option<usize>
     ensures { MatchOption result (recovered_lines bytes.now ≡ []) (λ n. IsFirstLine bytes.now n) }
 {
@@ -37,7 +38,7 @@ pub fn first_line(bytes: &[u8]) -> Option<usize>
     }
 }
 
-/// A byte that is closed stands at `end`.
+/// Returns `true` if a closed byte, any byte but `{`, is at `end`.
 pub(crate) fn is_closed(bytes: &[u8], end: usize) -> bool
     ensures { MatchBool result ((end < length bytes.now) × (slice_index bytes.now end ≢ 123))
         ((length bytes.now ≤ end) ⊎ (slice_index bytes.now end ≡ 123)) }

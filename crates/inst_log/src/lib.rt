@@ -1,6 +1,6 @@
-//! The file of the lines that a hub has read, ahead of their replies: what is acknowledged is on
-//! the disk, whatever moment a crash comes at. And a run that a crash cuts off, with another one
-//! that resumes its log.
+//! The log: a file that gets each line before its reply is written. If the disk keeps what it
+//! synced, a crash loses no line whose reply was sent. Also [`run_twice`], a run that a crash cuts
+//! off and a second one that resumes its log.
 #![tactic(auto)]
 
 mod batch;

@@ -1,5 +1,5 @@
-//! A log is opened with the settings that it begins with, or made with them. Any other file is left
-//! as it is.
+//! Opening a log that begins with the given settings, or making a new one. Any other file is left
+//! unchanged.
 ghost use Rattle.std.specs.Prelude.{◌≡◌, ◌≢◌, ◌⊎◌, ◌≤◌, ◌++◌, [], ◌∷◌, List, ℕ, length, take};
 ghost use Rattle.std.specs.Prelude.{IsTrue, IfOk, IfErr, OnOk, MatchBool, MatchResult, ⊤};
 ghost use Rattle.sqlite_disk.specs.Disk.{MoreFaults, CountsFault};
@@ -23,13 +23,17 @@ use std::alloc::{AllocError, Global};
 use std::io;
 
 impl<D: Disk> Log<D> {
-    /// Opens the file that the disk has, whatever a crash left of it, and repairs its end. The
-    /// settings are a batch: each log begins with those that it was made with, and a new file gets
-    /// them. What comes back are the file's lines, each with its newline, the settings first. It
-    /// may crash too. `OtherSettings` and `NoLog` leave the file as it is; after any other error,
-    /// open it again. Reads the whole file into memory.
+    /// Opens the disk's file, in whatever state a crash left it, and repairs its end. The settings
+    /// are a batch, the first lines of the log; a new file gets them. Returns the file's lines,
+    /// each with its newline, the settings first. Reads the whole file into memory.
+    ///
+    /// # Errors
+    ///
+    /// `OtherSettings` if the file begins with other lines, and `NoLog` if it has no line and isn't
+    /// new; the file is unchanged. `Memory` if an allocation fails, and `Disk` if the disk fails;
+    /// open it again.
     pub fn open(&mut self, alloc: Global, settings: &[u8]) -> Result<Vec<u8>, LogError>
-        // After a restart, what is read is what is on the disk.
+        // After a restart, reads return what is on the disk.
         requires ready { IsJustOpened D.Disk self.old.disk }
         requires settings { IsBatch settings.now }
         ensures log { OnOk result (HasLines D.Disk (recovered_lines settings.now
@@ -37,7 +41,7 @@ impl<D: Disk> Log<D> {
             (EndsWell (D.Disk.seen self.old.disk)) self.old self.new) }
         ensures text { IfOk result (λ text.
             IsLogText D.Disk settings.now self.old.disk self.new.disk text.items) }
-        // A crash at any moment of the call leaves the same lines, in a file that opens again.
+        // During the call a crash leaves the same lines, in a file that can be opened again.
         ensures any_moment { SparesLines D.Disk settings.now self.old.disk self.new.disk }
         ensures cause { IfErr result (λ error.
             Unopened settings.now (D.Disk.seen self.old.disk)
@@ -54,12 +58,13 @@ impl<D: Disk> Log<D> {
         Ok(lines_of(text, settings, &extent, start)?)
     }
 
-    /// Tells whether the file, whose lines go so far, is a log of these settings or a new file.
-    /// Changes nothing.
+    /// Returns what the file is by these settings: a log of theirs, or a new file. `extent` must be
+    /// the file's extent, as [`survey`](crate::survey) returns it. Nothing is written.
     ///
     /// # Errors
     ///
-    /// `OtherSettings` if it begins with other lines, `NoLog` if it has no line and isn't new.
+    /// `OtherSettings` if the file begins with other lines, `NoLog` if it has no line and isn't
+    /// new, `Memory` if an allocation fails, `Disk` if the disk fails.
     pub fn inspect(
         &mut self,
         alloc: Global,
@@ -86,8 +91,12 @@ impl<D: Disk> Log<D> {
         start_of(&front, settings, extent)
     }
 
-    /// Opens the file, whose lines go so far, as what it was found to be: repairs the end of a log,
-    /// or writes the settings to a new file. At `Err`, open it again.
+    /// Opens the file as what [`inspect`](Log::inspect) found: repairs the end of a log, or writes
+    /// the settings to a new file.
+    ///
+    /// # Errors
+    ///
+    /// `Disk` if the disk fails; open the log again.
     pub fn open_at(
         &mut self,
         settings: &[u8],
@@ -101,7 +110,7 @@ impl<D: Disk> Log<D> {
         ensures log { OnOk result (HasLines D.Disk (recovered_lines settings.now
             ++ lines_after_settings settings.now (D.Disk.seen self.old.disk))
             (EndsWell (D.Disk.seen self.old.disk)) self.old self.new) }
-        // A crash at any moment of the call leaves the same lines, in a file that opens again.
+        // During the call a crash leaves the same lines, in a file that can be opened again.
         ensures any_moment { SparesLines D.Disk settings.now self.old.disk self.new.disk }
         ensures cause { IfErr result
             (HasCause (MoreFaults (D.Disk.faults self.old.disk) (D.Disk.faults self.new.disk))
@@ -113,7 +122,7 @@ impl<D: Disk> Log<D> {
         }
     }
 
-    /// Opens a log whose lines go so far.
+    /// Opens a log of this extent.
     fn go_on(&mut self, extent: &Extent) -> Result<(), LogError>
         requires ready { IsJustOpened D.Disk self.old.disk }
         requires extent { HasKeptFaith D.Disk self.old.disk →
@@ -162,7 +171,7 @@ impl<D: Disk> Log<D> {
     }
 }
 
-/// Writes the closed byte to the beginning of a file, unless it is there.
+/// Writes the byte 0 to the beginning of a file unless it is there.
 fn blank<D: Disk>(disk: &mut D, is_blank: bool) -> io::Result<()>
     requires ready { IsJustOpened D.Disk disk.old }
     requires is_blank { HasKeptFaith D.Disk disk.old
@@ -183,7 +192,11 @@ fn blank<D: Disk>(disk: &mut D, is_blank: bool) -> io::Result<()>
     write_synced(disk, 0, &[0])
 }
 
-/// All the bytes of a file. `Disk` where the disk fails, `Memory` where there is no room for them.
+/// Returns all bytes of the disk's file.
+///
+/// # Errors
+///
+/// `Disk` if the disk fails, `Memory` if an allocation fails.
 pub fn read_file<D: Disk>(alloc: Global, disk: &mut D) -> Result<Vec<u8>, LogError>
     requires usable { IsTrue (D.Disk.is_usable disk.old) }
     ensures bytes { IfOk result (λ bytes. HasKeptFaith D.Disk disk.new →
@@ -199,7 +212,7 @@ pub fn read_file<D: Disk>(alloc: Global, disk: &mut D) -> Result<Vec<u8>, LogErr
     Ok(bytes)
 }
 
-/// The lines of a log once it is opened that had these bytes before.
+/// Returns the lines of the opened log, given the file's bytes from before the opening.
 fn lines_of(
     mut bytes: Vec<u8>,
     settings: &[u8],
@@ -224,7 +237,7 @@ fn lines_of(
     Ok(bytes)
 }
 
-/// The first bytes of a file, so many.
+/// Returns the first `len` bytes of a file.
 fn read_front<D: Disk>(alloc: Global, disk: &mut D, len: usize) -> Result<Vec<u8>, LogError>
     requires usable { IsTrue (D.Disk.is_usable disk.old) }
     requires within { HasKeptFaith D.Disk disk.old → len ≤ length (D.Disk.seen disk.old) }
@@ -240,7 +253,7 @@ fn read_front<D: Disk>(alloc: Global, disk: &mut D, len: usize) -> Result<Vec<u8
     Ok(bytes)
 }
 
-/// What a file with this beginning is by these settings, where its lines go so far.
+/// Returns what a file of this extent, with these first bytes, is by these settings.
 fn start_of(front: &[u8], settings: &[u8], extent: &Extent) -> Result<Start, LogError>
     requires settings { IsBatch settings.now }
     ensures start { IfOk result (λ start. (file : List ℕ) → IsExtent file extent.now →
@@ -263,7 +276,7 @@ fn start_of(front: &[u8], settings: &[u8], extent: &Extent) -> Result<Start, Log
     Ok(Start::New(is_blank(front)))
 }
 
-/// The first lines are the settings.
+/// Returns `true` if the first lines are the settings.
 fn begins(bytes: &[u8], settings: &[u8]) -> bool
     requires settings { IsBatch settings.now }
     ensures { MatchBool result (Begins settings.now bytes.now) (Begins settings.now bytes.now → ⊥) }
@@ -271,7 +284,8 @@ fn begins(bytes: &[u8], settings: &[u8]) -> bool
     bytes.starts_with(&settings[..settings.len() - 1])
 }
 
-/// The file is one that is to be made a log, or the making of one was cut off there.
+/// Returns `true` if the file can be made a log: it has at most one byte, or the making of this log
+/// was cut off.
 fn is_new(bytes: &[u8], settings: &[u8]) -> bool
     requires settings { IsBatch settings.now }
     ensures { MatchBool result (IsNewFile settings.now bytes.now)
@@ -286,7 +300,7 @@ fn is_new(bytes: &[u8], settings: &[u8]) -> bool
     bytes[1..] == settings[1..]
 }
 
-/// The closed byte stands at the beginning.
+/// Returns `true` if the first byte is 0.
 fn is_blank(bytes: &[u8]) -> bool
     ensures { MatchBool result (take 1 bytes.now ≡ 0 ∷ []) (take 1 bytes.now ≢ 0 ∷ []) }
 {

@@ -1,4 +1,4 @@
-//! The first lines of a file are read, and nothing of it is changed.
+//! Reading the first lines of a file. The file isn't changed.
 ghost use Rattle.std.specs.Prelude.{◌≡◌, ◌≤◌, length, take, IsTrue, IfOk, MatchResult, ⊤};
 ghost use Rattle.inst_log.specs.Disks.{HasKeptFaith, IsOnlyRead};
 ghost use Rattle.inst_log.specs.Layout.{recovered_lines, blocks};
@@ -11,8 +11,12 @@ use crate::front::first_line;
 use sqlite_disk::Disk;
 use std::alloc::Global;
 
-/// Returns the first lines of the disk's file, each with its newline: so many, or all if the file
-/// has fewer. Reads no further than the piece of 64 KiB in which they end.
+/// Returns the first `count` lines of the disk's file, each with its newline, or all lines if there
+/// are fewer. Reads in pieces of 64 KiB, up to the one in which these lines end.
+///
+/// # Errors
+///
+/// `Disk` if the disk fails, `Memory` if an allocation fails.
 pub fn read_lines<D: Disk>(alloc: Global, disk: &mut D, count: u64) -> Result<Vec<u8>, LogError>
     requires usable { IsTrue (D.Disk.is_usable disk.old) }
     ensures lines { IfOk result (λ text. HasKeptFaith D.Disk disk.new
@@ -34,7 +38,8 @@ pub fn read_lines<D: Disk>(alloc: Global, disk: &mut D, count: u64) -> Result<Ve
     Ok(text)
 }
 
-/// Returns how many bytes the first lines have, so many, or all if there are fewer.
+/// Returns the length of the first `count` lines with their newlines, or of all lines if there are
+/// fewer.
 pub fn lines_len(bytes: &[u8], count: u64) -> usize
     ensures len { result ≡ length (blocks (take count (recovered_lines bytes.now))) }
     ensures within { result ≤ length bytes.now }
@@ -49,7 +54,7 @@ pub fn lines_len(bytes: &[u8], count: u64) -> usize
     bytes.len() - rest.len()
 }
 
-/// Returns how many lines the bytes begin with.
+/// Returns the number of whole lines that the bytes begin with.
 pub fn count_lines(bytes: &[u8]) -> usize
     ensures count { result ≡ length (recovered_lines bytes.now) }
     ensures within { result ≤ length bytes.now }

@@ -1,4 +1,5 @@
-//! Lines are answered into memory, kept on the disk, and only then is a byte of a reply handed out.
+//! The recorder: it answers lines into memory, syncs them to the log, and only then writes their
+//! replies.
 ghost use Rattle.std.specs.Prelude.{◌≡◌, ◌≤◌, ◌+◌, ◌^◌, ◌++◌, [], length, IfErr, OnOk, ⊤};
 ghost use Rattle.sqlite_disk.specs.Disk.{MoreFaults};
 ghost use Rattle.inst_log.specs.Disks.{HasKeptFaith, IsJustOpened};
@@ -16,19 +17,28 @@ use crate::{Log, LogError, Responder};
 use sqlite_disk::Disk;
 use std::io::Write;
 
-/// An open log, what answers its lines, and the replies that are not written yet.
+/// A log, the responder that answers its lines, and the replies that aren't written yet.
 #[derive(Drop)]
 pub struct Recorder<D: Disk, A: Responder + Drop> {
+    /// The log.
     pub log: Log<D>,
+    /// The responder, in its state after all lines of the log.
     pub answers: A,
+    /// The buffer of the replies.
     pub out: Vec<u8>,
 }
 
 impl<D: Disk, A: Responder + Drop> Recorder<D, A> {
-    /// Opens the log with these settings, a batch, hands out the replies to its lines but for the
-    /// first `told` bytes, and then answers batch after batch. The answers are to be at their
-    /// beginning. At `Err`, open the log again; a log of other settings and a file that is none are
-    /// left as they are.
+    /// Opens the log, writes the replies to its lines except for their first `told` bytes, and then
+    /// answers batch after batch. The settings are a batch, the first lines of the log. The
+    /// responder must be in its initial state. Reads the whole file into memory.
+    ///
+    /// # Errors
+    ///
+    /// `OtherSettings`, `NoLog`: as of [`Log::open`]; the file is unchanged. `Told` if the replies
+    /// to the log's lines have fewer than `told` bytes. `Memory`, `Disk`, `Full`: a batch isn't
+    /// answered, or is in the log without its reply. `Write`: the log has the lines, and a prefix
+    /// of their replies was written. After any error, open the log again with a new responder.
     pub fn run<W: Write>(
         &mut self,
         settings: &[u8],
@@ -36,7 +46,7 @@ impl<D: Disk, A: Responder + Drop> Recorder<D, A> {
         batches: &[Vec<u8>],
         writer: &mut W,
     ) -> Result<(), LogError>
-        // After a restart, what is read is what is on the disk.
+        // After a restart, reads return what is on the disk.
         requires ready { IsJustOpened D.Disk self.old.log.disk }
         requires settings { IsBatch settings.now }
         requires batches { AllBatches batches.now }
@@ -44,7 +54,7 @@ impl<D: Disk, A: Responder + Drop> Recorder<D, A> {
         ensures ok { OnOk result (HasRunLog D.Disk A.Responder.says settings.now told
             (batch_lines batches.now) self.old self.new
             (W.Write.contents writer.old) (W.Write.contents writer.new)) }
-        // At `Ok` and at `Err`.
+        // Holds at `Ok` and at `Err`.
         ensures any_moment { KeepsRun D.Disk A.Responder.says settings.now told
             (batch_lines batches.now) self.old self.new
             (W.Write.contents writer.old) (W.Write.contents writer.new) }
@@ -68,8 +78,7 @@ impl<D: Disk, A: Responder + Drop> Recorder<D, A> {
         self.serve_all(batches, writer)
     }
 
-    /// Opens the log with these settings, and hands out the replies to its lines but for the first
-    /// `told` bytes.
+    /// Opens the log, and writes the replies to its lines except for their first `told` bytes.
     fn reopen<W: Write>(
         &mut self,
         settings: &[u8],
@@ -127,7 +136,17 @@ impl<D: Disk, A: Responder + Drop> Recorder<D, A> {
         deliver(writer, &self.out[told..])
     }
 
-    /// Answers the lines of a batch. At `Err`, open the log again.
+    /// Appends a batch to the log and writes the replies to its lines.
+    ///
+    /// # Errors
+    ///
+    /// - `Memory` if an allocation fails, `Disk` if the disk fails, `Full` if the log has 2^62
+    ///   bytes.
+    /// - `Write` if the writer fails; the log has the lines, and a prefix of their replies was
+    ///   written.
+    ///
+    /// No byte of a reply was written unless the log has its line. Open the log again with a new
+    /// responder.
     pub fn serve<W: Write>(&mut self, batch: &[u8], writer: &mut W) -> Result<(), LogError>
         requires open { IsOpenLog D.Disk self.old.log }
         requires batch { IsBatch batch.now }
@@ -135,14 +154,14 @@ impl<D: Disk, A: Responder + Drop> Recorder<D, A> {
         ensures ok { OnOk result (HasAnsweredLines D.Disk A.Responder.says
             (recovered_lines batch.now) self.old self.new
             (W.Write.contents writer.old) (W.Write.contents writer.new)) }
-        // At `Ok` and at `Err`: each file that a crash may leave has each line of whose reply a
-        // byte was handed to the writer.
+        // Holds at `Ok` and at `Err`: a line is in each file that a crash may leave if a byte of
+        // its reply was passed to the writer.
         ensures any_moment { HasKeptFaith D.Disk self.new.log.disk →
             TellsKept recovered_lines (D.Disk.may_leave self.new.log.disk)
             (A.Responder.says self.old.answers) (recovered_lines (D.Disk.seen self.old.log.disk))
             (recovered_lines batch.now)
             (W.Write.contents writer.old) (W.Write.contents writer.new) }
-        // The batch is in each file that a crash may leave whole, or not at all.
+        // A file that a crash may leave has the whole batch or none of it.
         ensures stands { StandsWhole D.Disk (recovered_lines batch.now) self.old.log.disk
             self.new.log.disk }
         ensures cause { IfErr result
@@ -160,7 +179,8 @@ impl<D: Disk, A: Responder + Drop> Recorder<D, A> {
         deliver(writer, &self.out)
     }
 
-    /// Closes a batch, and answers its lines, if it has any. At `Err`, open the log again.
+    /// Closes a batch and serves it as [`serve`](Recorder::serve) does; does nothing if the batch
+    /// is empty. Errors are those of `serve`.
     pub fn serve_lines<W: Write>(
         &mut self,
         batch: &mut Vec<u8>,
@@ -172,14 +192,14 @@ impl<D: Disk, A: Responder + Drop> Recorder<D, A> {
         ensures ok { OnOk result (HasAnsweredLines D.Disk A.Responder.says
             (recovered_lines batch.old.items) self.old self.new
             (W.Write.contents writer.old) (W.Write.contents writer.new)) }
-        // At `Ok` and at `Err`: each file that a crash may leave has each line of whose reply a
-        // byte was handed to the writer.
+        // Holds at `Ok` and at `Err`: a line is in each file that a crash may leave if a byte of
+        // its reply was passed to the writer.
         ensures any_moment { HasKeptFaith D.Disk self.new.log.disk →
             TellsKept recovered_lines (D.Disk.may_leave self.new.log.disk)
             (A.Responder.says self.old.answers) (recovered_lines (D.Disk.seen self.old.log.disk))
             (recovered_lines batch.old.items)
             (W.Write.contents writer.old) (W.Write.contents writer.new) }
-        // The batch is in each file that a crash may leave whole, or not at all.
+        // A file that a crash may leave has the whole batch or none of it.
         ensures stands { StandsWhole D.Disk (recovered_lines batch.old.items) self.old.log.disk
             self.new.log.disk }
         ensures cause { IfErr result
@@ -199,7 +219,7 @@ impl<D: Disk, A: Responder + Drop> Recorder<D, A> {
         self.serve(batch, writer)
     }
 
-    /// Answers batch after batch. At `Err`, open the log again.
+    /// Serves batch after batch as [`serve`](Recorder::serve) does, and stops at the first error.
     pub fn serve_all<W: Write>(
         &mut self,
         batches: &[Vec<u8>],
@@ -211,8 +231,8 @@ impl<D: Disk, A: Responder + Drop> Recorder<D, A> {
         ensures ok { OnOk result (HasAnsweredLines D.Disk A.Responder.says
             (batch_lines batches.now) self.old self.new
             (W.Write.contents writer.old) (W.Write.contents writer.new)) }
-        // At `Ok` and at `Err`: each file that a crash may leave has each line of whose reply a
-        // byte was handed to the writer.
+        // Holds at `Ok` and at `Err`: a line is in each file that a crash may leave if a byte of
+        // its reply was passed to the writer.
         ensures any_moment { HasKeptFaith D.Disk self.new.log.disk →
             TellsKept recovered_lines (D.Disk.may_leave self.new.log.disk)
             (A.Responder.says self.old.answers) (recovered_lines (D.Disk.seen self.old.log.disk))

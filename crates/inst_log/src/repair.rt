@@ -1,5 +1,5 @@
-//! The end of a file is repaired: closed, and nothing behind it. What the file stands for stays the
-//! same.
+//! Repairing the end of a file: the closed byte is written and what follows it is cut off. The
+//! lines stay the same.
 ghost use Rattle.std.specs.Prelude.{◌≡◌, List, ℕ, ◌<◌, ◌≤◌, ◌+◌, ◌^◌, length, IsTrue, IfOk, OnOk};
 ghost use Rattle.sqlite_disk.specs.Disk.{Only, CountsFault};
 ghost use Rattle.inst_log.specs.Layout.{HasClosedByte, IsShut};
@@ -12,7 +12,7 @@ use crate::synced::write_synced;
 use sqlite_disk::Disk;
 use std::io;
 
-/// Repairs the end of a file whose lines go so far.
+/// Writes the closed byte if it is missing, and cuts off what follows it.
 pub(crate) fn repair<D: Disk>(disk: &mut D, extent: &Extent) -> io::Result<()>
     requires usable { IsTrue (D.Disk.is_usable disk.old) }
     requires extent { IsTrue (D.Disk.is_clean disk.old) →
@@ -29,7 +29,7 @@ pub(crate) fn repair<D: Disk>(disk: &mut D, extent: &Extent) -> io::Result<()>
     cut(disk, extent)
 }
 
-/// Writes the closed byte, if it isn't there.
+/// Writes the closed byte if it is missing.
 fn close<D: Disk>(disk: &mut D, extent: &Extent) -> io::Result<()>
     requires usable { IsTrue (D.Disk.is_usable disk.old) }
     requires extent { IsTrue (D.Disk.is_clean disk.old) →
@@ -48,7 +48,7 @@ fn close<D: Disk>(disk: &mut D, extent: &Extent) -> io::Result<()>
     close_at(disk, extent.end)
 }
 
-/// Cuts what follows the closed byte, if anything does.
+/// Cuts off what follows the closed byte, if there is anything.
 fn cut<D: Disk>(disk: &mut D, extent: &Extent) -> io::Result<()>
     requires usable { IsTrue (D.Disk.is_usable disk.old) }
     requires closed { IsTrue (D.Disk.is_clean disk.old) →
@@ -81,7 +81,7 @@ fn close_at<D: Disk>(disk: &mut D, end: usize) -> io::Result<()>
     write_synced(disk, end, &[0])
 }
 
-/// Cuts what stands behind the closed byte.
+/// Cuts off what follows the closed byte.
 fn cut_behind<D: Disk>(disk: &mut D, end: usize) -> io::Result<()>
     requires usable { IsTrue (D.Disk.is_usable disk.old) }
     requires fits { end + 1 < 2 ^ 64 }

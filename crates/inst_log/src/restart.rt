@@ -1,4 +1,4 @@
-//! What the reader has of both runs are the replies of one run.
+//! Two runs of one log, with a crash between them: together they give the replies of one run.
 ghost use Rattle.std.specs.Prelude.{IfOk};
 ghost use Rattle.sqlite_disk.specs.Fuse.{inner_of};
 ghost use Rattle.inst_log.specs.Disks.{HasKeptFaith, IsJustOpened};
@@ -14,30 +14,41 @@ use crate::responder::Responder;
 use sqlite_disk::{Crash, Disk, Fuse};
 use std::alloc::Global;
 
-/// A machine that stops after so many calls of its disk.
+/// A machine that stops after a number of calls to its disk.
 #[derive(Drop)]
 pub struct Machine<D: Disk> {
+    /// The disk.
     pub disk: D,
+    /// How many calls to the disk succeed before the machine stops.
     pub calls: u64,
 }
 
-/// One run of a log: what answers, and the batches that come.
+/// One run of a log.
 #[derive(Drop)]
 pub struct LogRun<'a, A: Responder + Drop> {
+    /// The responder, in its initial state.
     pub answers: A,
+    /// The batches that the run reads.
     pub batches: &'a [Vec<u8>],
 }
 
-/// What two runs of a log leave.
+/// The result of two runs of a log.
 #[derive(Drop)]
 pub struct Twice<D: Disk> {
+    /// The replies that both runs wrote.
     pub told: Vec<u8>,
+    /// The disk after the second run.
     pub disk: D,
 }
 
-/// Runs a log over a machine that stops, and comes back with any of the files that a crash then may
-/// leave. The log is run again, and told how many bytes of replies the reader has. The settings are
-/// a batch. An error is one of the second run or of the sync before it.
+/// Runs a log on a machine that stops and leaves any of the files that a crash may leave. Then runs
+/// the log again, with the number of bytes of replies that the first run wrote. The settings are a
+/// batch. Returns the replies of both runs: those of one run that is never stopped. For tests and
+/// as a statement; a program needs [`Recorder::run`] alone.
+///
+/// # Errors
+///
+/// An error of the second run, or of the sync before it.
 pub fn run_twice<D: Crash + Drop, A: Responder + Drop>(
     alloc: Global,
     machine: Machine<D>,

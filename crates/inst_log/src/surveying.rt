@@ -1,4 +1,4 @@
-//! How far the lines of a disk's file go.
+//! Finding where the lines of a disk's file end.
 ghost use Rattle.std.specs.Prelude.{◌≡◌, IsTrue, IfOk, MatchResult, ⊤};
 ghost use Rattle.sqlite_disk.specs.Disk.{MoreFaults};
 ghost use Rattle.inst_log.specs.Disks.{HasKeptFaith, IsOnlyRead};
@@ -11,8 +11,13 @@ use crate::file_lines::FileLines;
 use sqlite_disk::Disk;
 use std::alloc::Global;
 
-/// Reads the disk's file, whatever a crash left of it, and returns how far its lines go. It takes
-/// the memory of a piece of 64 KiB and of the longest line.
+/// Returns the length of the disk's file and where its lines end, in whatever state a crash left
+/// it. Reads the file in pieces of 64 KiB, up to the end of its lines, and takes memory for one
+/// piece and for the longest line. Nothing is written.
+///
+/// # Errors
+///
+/// `Disk` if the disk fails, `Memory` if an allocation fails.
 pub fn survey<D: Disk>(alloc: Global, disk: &mut D) -> Result<Extent, LogError>
     requires usable { IsTrue (D.Disk.is_usable disk.old) }
     ensures extent { IfOk result (λ extent. HasKeptFaith D.Disk disk.new →

@@ -1,4 +1,4 @@
--- What the closing of a hub with a log gives. This hub's own choice.
+-- The result of closing a hub with a log. A choice of this hub.
 use Rattle.std.specs.Prelude.{◌≡◌, ◌++◌, ℕ, List, Option, None, IfSome, Vec}
 use Rattle.std.specs.declared.alloc.Global.{Global}
 use Rattle.sqlite_disk.specs.declared.Disk.{Ghosts}
@@ -16,8 +16,8 @@ use Rattle.inst_logged.specs.Answering.{AreBooksAfter, past_after}
 use Rattle.inst_logged.specs.Running.{file_of, HasGone, Takes}
 use Rattle.inst_logged.specs.declared.hub.LoggedHub.{LoggedHub}
 
--- the books of a hub that had gone through this, answered these lines and was closed may be opened
--- from once more
+-- The books of a hub with this past that answered these lines and was closed can be opened from
+-- once more.
 abbrev pub HaveOpeningsLeft : Mode → HubPast → List (List ℕ) → Type 0
 HaveOpeningsLeft mode past lines =
     let after = past_after mode past lines in
@@ -25,8 +25,8 @@ HaveOpeningsLeft mode past lines =
     HasOpeningsLeft (history after.settings after.opening (closing after.settings
     ++ after.steps) p)
 
--- The hub took its log, which has the lines that it had, and was closed behind them. These are its
--- books; it gives none only where a book was opened from as often as one may be.
+-- The hub took its log, whose lines stay the same, and was closed after them. These are its books;
+-- there are none only if a book has no opening left.
 pub record ClosesWith {D : Type 0} (disks : Ghosts D) (wanted : Option Digest)
     (old new : LoggedHub D) (books : Option (Vec History Global)) : Type 0 where
   pub taken : Takes disks old None wanted

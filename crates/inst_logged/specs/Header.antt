@@ -1,5 +1,5 @@
--- With which line a log begins: the settings of its hub, and what its lines stand for. This hub's
--- own choice.
+-- The first lines of a log: its hub's settings, and the books that it opened from. A choice of this
+-- hub.
 use Rattle.std.specs.Prelude.{◌≡◌, ◌⊎◌, ◌<◌, ◌^◌, ℕ, Bool, true, false, List, [], ◌∷◌, ◌++◌, length}
 use Rattle.std.specs.Prelude.{Option, None, Some, codes, decimal, if◌then◌else◌}
 use Rattle.inst_settings.specs.Settings.{HubSettings}
@@ -16,50 +16,48 @@ use Rattle.inst_chain.specs.Chain.{mark_of}
 use Rattle.inst_logged.specs.declared.version.Version.{Version}
 use Rattle.inst_logged.specs.declared.version.Version.TheVariants.{One, Two}
 
--- what the lines stand for, as a word
+-- The mode as a word.
 abbrev pub mode_word : Mode → List ℕ
 mode_word Run = codes "run"
 mode_word Play = codes "play"
 
--- a code between quotes
+-- A code in quotes.
 abbrev pub quoted : List ℕ → List ℕ
 quoted code = 34 ∷ (code ++ 34 ∷ [])
 
--- the comma before a code, unless it is the first
+-- The comma before a code, unless it is the first.
 abbrev pub comma_if : Bool → List ℕ
 comma_if later = if later then 44 ∷ [] else []
 
--- the codes, each between quotes, with commas between them, and one before the first if others
--- stand before it
+-- The codes, each in quotes, separated by commas, with one before the first if `later`.
 abbrev pub quoted_codes : Bool → List (List ℕ) → List ℕ
 quoted_codes later [] = []
 quoted_codes later (code ∷ codes) = comma_if later ++ quoted code ++ quoted_codes true codes
 
--- a name, with what stands before it, and a number
+-- A name, with what precedes it, and a number.
 abbrev pub header_field : List ℕ → ℕ → List ℕ
 header_field name number = name ++ decimal number
 
--- what the lines stand for, with its name
+-- The member with the mode.
 abbrev pub mode_field : Mode → List ℕ
 mode_field mode = codes ",\"log\":\"" ++ mode_word mode ++ codes "\""
 
--- the participants, with their name
+-- The member with the participants.
 abbrev pub participants_field : List (List ℕ) → List ℕ
 participants_field participants =
     codes ",\"participants\":[" ++ quoted_codes false participants ++ codes "]"
 
--- how many lines of books stand behind the settings, with its name, where the hub opened from books
+-- The member with the number of lines of books, if the hub opened from books.
 abbrev pub books_field : Option ℕ → List ℕ
 books_field None = []
 books_field (Some count) = header_field (codes ",\"books\":") count
 
--- the version, with its name and the end of the line
+-- The member with the version, and the end of the line.
 abbrev pub version_word : Version → List ℕ
 version_word One = codes "\"version\":1}"
 version_word Two = codes "\"version\":2}"
 
--- the settings and what the lines stand for, as a line of compact JSON, its keys in the order of
--- their bytes
+-- The settings line: compact JSON, its keys in byte order.
 abbrev pub header_line : Version → Mode → HubSettings → Option ℕ → List ℕ
 header_line version mode s books =
     header_field (codes "{\"ahead\":") s.ahead ++ header_field (codes ",\"base\":") s.base
@@ -72,22 +70,22 @@ header_line version mode s books =
     ++ header_field (codes ",\"places\":") s.places
     ++ 44 ∷ version_word version
 
--- lines, with their mark behind them where the log has marks
+-- The lines, followed by their mark if the log has marks.
 abbrev pub lines_and_mark : Version → List (List ℕ) → List (List ℕ)
 lines_and_mark One lines = lines
 lines_and_mark Two lines = lines ++ mark_of (blocks lines) ∷ []
 
--- the first batch of a log
+-- The first batch of a log whose hub opened for the first time.
 unfoldable pub header : Version → Mode → HubSettings → List ℕ
 header version mode s =
     at_rest (lines_and_mark version (raw_of (header_line version mode s None) ∷ []))
 
--- the lines of the books of these journals
+-- The lines of the books of these journals.
 abbrev pub lines_of_books : HubSettings → List History → List (List ℕ)
 lines_of_books s journals = recovered_lines (books_text s (all_events journals))
 
--- the first batch of a log of a hub that opened again from these journals: its settings, and a line
--- for each event of its books
+-- The first batch of a log whose hub opened from these journals: the settings line, and a line for
+-- each event of the books.
 unfoldable pub header_from : Version → Mode → HubSettings → List History → List ℕ
 header_from version mode s journals =
     let books =
@@ -96,13 +94,13 @@ header_from version mode s journals =
     ∷ books))
 
 -- A hub of these settings can open from the journals, and a log can have their books: each event
--- has its form, and the lines fit in memory.
+-- can be written, and there are fewer than 2^63 lines.
 pub record CanBeginFrom (s : HubSettings) (journals : List History) : Type 0 where
   pub can : CanOpenFrom s journals
   pub books : AreBooksOf s (all_events journals)
   pub few : length (lines_of_books s journals) < 2 ^ 63
 
--- The first lines of a log of a hub that can have these settings: it opened for the first time, or
+-- The first lines of a log of a hub that can have these settings, and opened for the first time or
 -- from journals.
 abbrev pub AreFirstLines : Version → Mode → HubSettings → List ℕ → Type 0
 AreFirstLines version mode s first =
@@ -110,7 +108,7 @@ AreFirstLines version mode s first =
     ⊎ ((journals : List History) × CanBeginFrom s journals
     × (first ≡ header_from version mode s journals))
 
--- logs that begin alike are of hubs with the same settings, and their lines stand for the same
+-- Logs of one version that begin alike are of hubs with the same mode and settings.
 abbrev pub HeadersTellTheirSettings : Type 0
 HeadersTellTheirSettings =
     (version : Version) (mode other : Mode) (s t : HubSettings) → AreOfAHub s → AreOfAHub t →

@@ -1,7 +1,7 @@
--- What is held of an input.
+-- The part of a line that an intake holds. A choice of this hub.
 use Rattle.std.specs.Prelude.{ℕ, List, take}
 use Rattle.inst_logged.specs.declared.intake.Intake.{Intake}
 
--- what is held of a part of a line
+-- The bytes that are held of a line.
 abbrev pub line_part : Intake → List ℕ
 line_part intake = take intake.len intake.bytes.items

@@ -1,4 +1,4 @@
--- Public contracts cite these.
+-- Cited by public contracts.
 pub mod Answering
 pub mod LineAnswers
 pub mod Header
@@ -13,5 +13,5 @@ pub mod Refused
 pub mod Running
 pub mod Closing
 pub mod Streams
--- Only inner functions and proofs cite these.
+-- Cited only by private functions and proofs.
 pub mod inner

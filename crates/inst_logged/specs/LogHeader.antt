@@ -1,4 +1,4 @@
--- The first line of a log, as it is read again. This hub's own choice.
+-- The first line of a log, as it is read. A choice of this hub.
 use Rattle.std.specs.Prelude.{◌≡◌, ◌⊎◌, ◌<◌, ◌^◌, ℕ, List, [], ◌∷◌, ◌++◌, Option, IfSome}
 use Rattle.inst_settings.specs.Settings.{HubSettings}
 use Rattle.inst_settings.specs.Lawful.{AreOfAHub}
@@ -8,8 +8,7 @@ use Rattle.inst_logged.specs.declared.version.Version.{Version}
 use Rattle.inst_logged.specs.declared.log_header.LogHeader.{LogHeader}
 use Rattle.inst_logged.specs.Header.{header_line}
 
--- The bytes are the first line of a log of a hub with these settings, with its newline or without.
--- The number of lines of books has 64 bits, if there is one.
+-- The bytes are the settings line of such a log, with or without its newline.
 pub record IsHeaderLine (version : Version) (mode : Mode) (s : HubSettings) (books : Option ℕ)
     (bytes : List ℕ) : Type 0 where
   pub settings : AreOfAHub s
@@ -17,6 +16,6 @@ pub record IsHeaderLine (version : Version) (mode : Mode) (s : HubSettings) (boo
   pub line : (bytes ≡ header_line version mode s books)
       ⊎ (bytes ≡ header_line version mode s books ++ newline ∷ [])
 
--- what such a line says
+-- The contents of such a line.
 abbrev pub beginning_with : Mode → HubSettings → Option ℕ → LogHeader
 beginning_with mode s books = record { mode = mode; settings = s; books = books }

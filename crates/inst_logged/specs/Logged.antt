@@ -1,5 +1,5 @@
--- What a hub with a log leaves on the disk and hands to the writer, whatever moment a crash comes
--- at. This hub's own choice.
+-- What a run with a log has written and leaves on the disk, and what a crash may leave of it. A
+-- choice of this hub.
 use Rattle.std.specs.Prelude.{◌≡◌, ◌⊎◌, ℕ, List, [], ◌++◌, map, length, take, drop, Option}
 use Rattle.std.specs.Io.KnownBytes.{Appends, Consumes, IsAtEnd}
 use Rattle.inst_lines.specs.declared.mode.Mode.{Mode}
@@ -25,26 +25,26 @@ use Rattle.inst_logged.specs.Intake.{line_part}
 use Rattle.inst_logged.specs.declared.line_answers.LineAnswers.{LineAnswers}
 use Rattle.inst_logged.specs.declared.intake.Intake.{Intake}
 
--- what is owed for lines behind the first ones of a log, at a hub that had gone through this before
--- the first: all replies but those to the lines that have been told
+-- The replies to `first ++ lines`, without those to the first `told` of `first`, by a hub with this
+-- past before them.
 abbrev pub unsent_replies_at : Mode → HubPast → List (List ℕ) → ℕ → Replies
 unsent_replies_at mode past first told lines =
     drop (length (replies_at mode past (take told first))) (replies_at mode past (first ++ lines))
 
--- these replies and no others
+-- Exactly these replies.
 abbrev pub AreReplies : Replies → Replies → Type 0
 AreReplies these replies = (lines : List (List ℕ)) → replies lines ≡ these lines
 
--- these may be the first lines of a log of this version, this makes its next mark, and no other
--- line was read
+-- These can be the first lines of a log of this version, the marker makes its next mark, and no
+-- further line was read.
 pub record IsUnbegun (version : Version) (header : List ℕ) (marker : Marker) (intake : Intake) :
     Type 0 where
   pub batch : IsBatch header
   pub begins : BeginsWithMarker version header marker
   pub nothing : line_part intake ≡ []
 
--- A hub of these settings began for the first time, or from journals that it can open from, and a
--- log of its lines begins so.
+-- A hub of these settings began for the first time, or from journals that it can open from, and
+-- these are the first lines of its log.
 abbrev pub HasBegun : Version → Mode → HubSettings → List ℕ → LineAnswers → Type 0
 HasBegun version mode s first answers =
     (HasOpened mode (new_past s) answers × (first ≡ header version mode s))
@@ -52,14 +52,13 @@ HasBegun version mode s first answers =
     × HasOpened mode (opened_from s journals) answers
     × (first ≡ header_from version mode s journals))
 
--- The lines of these bytes: those that end there, or all of them, where the input is at its end.
+-- The lines of these bytes: those that end there, or all of them at the end of the input.
 abbrev pub AreLinesOf : List ℕ → Option (List ℕ) → List (List ℕ) → Type 0
 AreLinesOf bytes left lines =
     (lines ≡ whole_lines_of bytes) ⊎ (IsAtEnd left × (lines ≡ lines_of bytes))
 
--- All that the reader had left is in the log, behind the lines that were there, and what was owed
--- was handed out. Lines are those without marks. headline: the run that all lines of the log stand
--- for keeps it
+-- The log has gained all lines of the input, and the replies owed were written. Marks aren't
+-- counted as lines. `headline`: the run of all lines of the log keeps the headline.
 pub record HasLogged (mode : Mode) (past : HubPast) (header : List ℕ) (told : Option ℕ)
     (old new : List ℕ) (left left' before after : Option (List ℕ)) : Type 0 where
   pub bytes : List ℕ
@@ -73,9 +72,8 @@ pub record HasLogged (mode : Mode) (past : HubPast) (header : List ℕ) (told : 
   pub headline : KeepsTheHeadline past.settings
       (run_through (past_after mode past (lines_after_settings header new)))
 
--- Some bytes were read. Each file that a crash may leave has the lines that were in the log and
--- then a front of those read, none skipped and none in part, and all that was handed to the writer
--- is a front of what is owed for these.
+-- Each file that a crash may leave has the log's lines from before and then a prefix of those read,
+-- and the bytes written are a prefix of the replies owed for these.
 pub record SurvivesACrash (mode : Mode) (past : HubPast) (header : List ℕ) (told : Option ℕ)
     (old : List ℕ) (may_leave : List ℕ → Type 0)
     (left left' before after : Option (List ℕ)) : Type 0 where

@@ -1,4 +1,4 @@
--- A hub before it has the disk of its log.
+-- A hub that doesn't have the disk of its log yet. A choice of this hub.
 use Rattle.std.specs.Prelude.{◌≡◌, ℕ, List}
 use Rattle.inst_lines.specs.declared.mode.Mode.{Mode}
 use Rattle.inst_lines.specs.Answering.{HubPast}
@@ -7,8 +7,8 @@ use Rattle.inst_logged.specs.Logged.{IsUnbegun}
 use Rattle.inst_logged.specs.declared.version.Version.{Version}
 use Rattle.inst_logged.specs.declared.hub.new_hub.NewHub.{NewHub}
 
--- a hub has gone through this, its lines stand for this, it has answered nothing, and its log of
--- this version begins so
+-- A hub of this mode and past that has answered nothing, with these first lines of its log of this
+-- version.
 pub record IsNewHub (version : Version) (mode : Mode) (past : HubPast) (first : List ℕ)
     (hub : NewHub)
     : Type 0 where

@@ -1,4 +1,4 @@
--- Which logs a hub takes, which it doesn't, and why. This hub's own choice.
+-- The logs that a hub takes, those it refuses, and why. A choice of this hub.
 use Rattle.std.specs.Prelude.{◌≡◌, ◌⊎◌, ◌<◌, ◌≤◌, ℕ, true, List, [], length, Option, None}
 use Rattle.inst_log.specs.Layout.{recovered_lines}
 use Rattle.inst_log.specs.Opening.{Begins, IsNewFile}
@@ -15,17 +15,17 @@ use Rattle.inst_logged.specs.declared.error.LoggedError.TheVariants.{OtherDigest
 use Rattle.inst_logged.specs.Answering.{told_count}
 use Rattle.inst_logged.specs.Marking.{IsIntact}
 
--- the log begins with the header, or is a new file without a line
+-- The log begins with the header, or is a new file without a line.
 abbrev pub OpensAs : List ℕ → List ℕ → Type 0
 OpensAs header file = Begins header file ⊎ ((recovered_lines file ≡ []) × IsNewFile header file)
 
--- the log has the mark that was asked for; a log of version 1 has no marks
+-- The log has the mark that was asked for, if one was. A log of version 1 has no marks.
 abbrev pub HasWanted : Version → Option Digest → List ℕ → Type 0
 HasWanted One wanted file = wanted ≡ None
 HasWanted Two wanted file = has_wanted wanted (recovered_lines file) ≡ true
 
--- The log is taken: its marks are right, it opens with the header, has as many lines behind it as
--- have been told, and the mark that was asked for.
+-- The hub takes the log: its marks are right, it begins with the header or is new, it has at least
+-- the `told` lines, and the mark that was asked for.
 pub record IsLogTaken (version : Version) (header : List ℕ) (told : Option ℕ)
     (wanted : Option Digest) (file : List ℕ) : Type 0 where
   pub intact : IsIntact version file
@@ -33,8 +33,8 @@ pub record IsLogTaken (version : Version) (header : List ℕ) (told : Option ℕ
   pub enough : told_count told (kept_said header file) ≤ length (kept_said header file)
   pub digest : HasWanted version wanted file
 
--- the log isn't taken: it is damaged, begins with other settings or with books of none, is none, or
--- has not what is asked for
+-- The errors that refuse a log: it is damaged, has other settings or books that aren't valid, isn't
+-- a log, has too few lines, or not the digest.
 abbrev pub IsRefused : LoggedError → Type 0
 IsRefused (Log OtherSettings) = Unit {0}
 IsRefused (Log NoLog) = Unit {0}
@@ -49,10 +49,8 @@ IsRefused (Damaged right) = Unit {0}
 IsRefused OtherDigest = Unit {0}
 IsRefused Changed = ⊥
 
--- why it isn't taken: its first lines are others than the header, it has none and isn't new, it has
--- fewer lines than have been told, its marks aren't right, or it has not the mark that was asked
--- for. Books that are none keep a hub from being found, not from running; and no log of a hub that
--- alone writes to it changes under it.
+-- The cause of each refusal. `Books` refuses a log when its hub is found, not in a run. `Changed`
+-- never occurs if the hub alone writes to the log.
 abbrev pub IsCause : Version → List ℕ → Option ℕ → Option Digest → List ℕ → LoggedError → Type 0
 IsCause version header told wanted file (Log OtherSettings) =
     (0 < length (recovered_lines file)) × (Begins header file → ⊥)
@@ -71,8 +69,8 @@ IsCause version header told wanted file (Damaged right) =
 IsCause version header told wanted file OtherDigest = HasWanted version wanted file → ⊥
 IsCause version header told wanted file Changed = ⊥
 
--- what must have been where a hub ends by an error of its log that is no refusal: of the disk's,
--- that it failed, of `Full`, that there was no room, and of `Write`, that the log was at rest
+-- The cause of the other errors of a log: `Disk`: the disk failed; `Full`: no space was left;
+-- `Write`: the log was at rest.
 abbrev pub HasLogFailed : Type 0 → Type 0 → Type 0 → LoggedError → Type 0
 HasLogFailed failed no_room at_rest (Log (Disk error)) = failed
 HasLogFailed failed no_room at_rest (Log Full) = no_room
@@ -87,7 +85,7 @@ HasLogFailed failed no_room at_rest (Damaged right) = Unit {0}
 HasLogFailed failed no_room at_rest OtherDigest = Unit {0}
 HasLogFailed failed no_room at_rest Changed = Unit {0}
 
--- what is refused for a cause isn't taken
+-- A log that is refused for its cause isn't one that the hub takes.
 abbrev pub ARefusedLogIsNotTaken : Type 0
 ARefusedLogIsNotTaken =
     (version : Version) (header : List ℕ) (told : Option ℕ) (wanted : Option Digest) (file : List ℕ)

@@ -1,5 +1,5 @@
--- What the opening, a run and the closing of a hub with a log leave. What is said of a log is said
--- where its disk has kept faith: no wrong answer of it was taken as true. This hub's own choice.
+-- What opening, running and closing a hub with a log leave. Claims about a log hold if its disk has
+-- kept faith: none of its wrong answers was taken as true. A choice of this hub.
 use Rattle.std.specs.Prelude.{◌≡◌, ◌⊎◌, ◌≤◌, ◌-◌, ◌^◌, ◌++◌, ℕ, List, length, Option, None, IsTrue}
 use Rattle.std.specs.Io.KnownBytes.{Consumes}
 use Rattle.sqlite_disk.specs.Disk.{Only, MoreFaults}
@@ -19,31 +19,31 @@ use Rattle.inst_logged.specs.Streams.{Streams}
 use Rattle.inst_logged.specs.declared.error.LoggedError.{LoggedError}
 use Rattle.inst_logged.specs.declared.hub.LoggedHub.{LoggedHub}
 
--- the disk of a hub's log, and what is read of it
+-- The disk of the hub's log.
 abbrev pub disk_of : {D : Type 0} → LoggedHub D → D
 disk_of hub = hub.recorder.log.disk
 
+-- The file on that disk.
 abbrev pub file_of : {D : Type 0} → Ghosts D → LoggedHub D → List ℕ
 file_of disks hub = disks.seen (disk_of hub)
 
--- a hub has gone through this
+-- The hub has this past.
 abbrev pub HasGone : {D : Type 0} → LoggedHub D → HubPast → Type 0
 HasGone hub past = IsRunnerAt hub.recorder.answers.mode past hub.recorder.answers.runner
 
--- it has answered nothing, and what is read of its disk is what is on it, as after a restart
+-- The hub has answered nothing, and reads of its disk return what is on it, as after a restart.
 pub record IsReadyHub {D : Type 0} (disks : Ghosts D) (hub : LoggedHub D) : Type 0 where
   pub unbegun : IsUnbegun hub.version hub.header.items hub.marker hub.intake
   pub usable : IsTrue (disks.is_usable (disk_of hub))
   pub known : HasKeptFaith disks (disk_of hub) →
       Only (file_of disks hub) (disks.may_leave (disk_of hub))
 
--- its log is one that it takes
+-- The hub takes its log.
 abbrev pub Takes : {D : Type 0} → Ghosts D → LoggedHub D → Option ℕ → Option Digest → Type 0
 Takes disks hub told wanted =
     IsLogTaken hub.version hub.header.items told wanted (file_of disks hub)
 
--- It took the log, and answered all that the reader had left. All is synced, and the log's marks
--- are right.
+-- The hub took the log and answered the whole input. All is synced, and the log's marks are right.
 pub record RunsThrough {D : Type 0} (disks : Ghosts D) (told : Option ℕ) (wanted : Option Digest)
     (old new : LoggedHub D) (t : Streams) : Type 0 where
   pub taken : Takes disks old told wanted
@@ -53,9 +53,9 @@ pub record RunsThrough {D : Type 0} (disks : Ghosts D) (told : Option ℕ) (want
   pub settled : IsSettled disks.seen disks.may_leave new.recorder.log
   pub intact : IsIntact old.version (file_of disks new)
 
--- What a crash may leave, at any moment: the lines that were there and a front of those read, in a
--- log that begins so if it did, and opens again. Where the disk leaves each byte of a write old or
--- new, it is never called damaged.
+-- What a crash may leave: the lines from before and a prefix of those read. The log begins with its
+-- first lines and opens if it did before. If the disk leaves each byte of a cut-off write old or
+-- new, the log isn't damaged unless it was before.
 pub record SurvivesEachCrash {D : Type 0} (disks : Ghosts D) (told : Option ℕ)
     (old new : LoggedHub D)
     (t : Streams) : Type 0 where
@@ -69,8 +69,8 @@ pub record SurvivesEachCrash {D : Type 0} (disks : Ghosts D) (told : Option ℕ)
   pub intact : ((d : D) → IsTrue (disks.is_mixing d)) → IsIntact old.version (file_of disks old)
       → (c : List ℕ) → disks.may_leave (disk_of new) c → IsIntact old.version c
 
--- What a crash may leave while a log is opened: the very lines that were there, or where there were
--- none, the first ones.
+-- What a crash may leave of an opening: the same lines, or if there were none, the first ones. The
+-- log isn't damaged unless it was before, on such a disk.
 pub record StaysAlike {D : Type 0} (disks : Ghosts D) (old new : LoggedHub D) : Type 0 where
   pub alike : (c : List ℕ) → disks.may_leave (disk_of new) c →
       OpensAlike old.header.items (file_of disks old) c
@@ -79,17 +79,16 @@ pub record StaysAlike {D : Type 0} (disks : Ghosts D) (old new : LoggedHub D) : 
   pub intact : ((d : D) → IsTrue (disks.is_mixing d)) → IsIntact old.version (file_of disks old)
       → (c : List ℕ) → disks.may_leave (disk_of new) c → IsIntact old.version c
 
--- a run has no room: the lines of its log have 2^62 bytes or more, or as many bytes were read as a
--- run has turns
+-- No space is left for a run: the log's lines have 2^62 bytes or more, or 2^64 - 1 bytes or more
+-- were read.
 abbrev pub HasNoRoom : {D : Type 0} → Ghosts D → LoggedHub D → Option (List ℕ) → Option (List ℕ) →
     Type 0
 HasNoRoom disks hub left left' = (2 ^ 62 ≤ length (blocks (recovered_lines (file_of disks hub))))
     ⊎ ((bytes : List ℕ) × Consumes left left' bytes × (2 ^ 64 - 1 ≤ length bytes))
 
--- It ended by this error. Nothing was done, or the log was one that it takes; nothing was done if
--- the log is refused. The log failed only where the disk did or there was no room; where the
--- replies could not be written it is as it was or synced. still: nothing was read, and nothing
--- handed out
+-- The call ended with this error. If the log is refused, nothing was done; else nothing was done,
+-- or the hub takes the log. `Disk` and `Full` have their causes; after `Write` the log is synced or
+-- unchanged. `still`: nothing was read or written.
 pub record StopsBy {D : Type 0} (disks : Ghosts D) (told : Option ℕ) (wanted : Option Digest)
     (old new : LoggedHub D) (still no_room : Type 0)
     (error : LoggedError) : Type 0 where
@@ -103,7 +102,7 @@ pub record StopsBy {D : Type 0} (disks : Ghosts D) (told : Option ℕ) (wanted :
       (IsSettled disks.seen disks.may_leave new.recorder.log
       ⊎ HasSameFile disks (disk_of old) (disk_of new)) error
 
--- It took the log, which has the lines that it had, and has answered these again.
+-- The hub took the log, whose lines stay the same, and has answered them.
 pub record OpensLogAgain {D : Type 0} (disks : Ghosts D) (wanted : Option Digest)
     (old new : LoggedHub D) : Type 0 where
   pub taken : Takes disks old None wanted

@@ -1,11 +1,10 @@
--- The streams of a run: the reader of its lines and the writer of its replies. This hub's own
--- choice.
+-- The reader and the writer of a run. A choice of this hub.
 use Rattle.std.specs.Prelude.{◌≡◌, ℕ, List, Option}
 use Rattle.std.specs.declared.io.Read.{Ghosts as ReadGhosts}
 use Rattle.std.specs.declared.io.Write.{Ghosts as WriteGhosts}
 
--- What the reader had left and the writer held, before and after; `None` where that isn't known.
--- unread, unwritten: the reader is as it was, and the writer
+-- What was left of the input and what the writer held, before and after; `None` if unknown.
+-- `unread` and `unwritten`: reader and writer are unchanged.
 pub record Streams : Type 1 where
   pub left : Option (List ℕ)
   pub left' : Option (List ℕ)
@@ -14,7 +13,7 @@ pub record Streams : Type 1 where
   pub unread : Type 0
   pub unwritten : Type 0
 
--- the streams of this reader and this writer, which have become those
+-- The streams of this reader and this writer, before and after.
 abbrev pub streams : {R W : Type 0} → ReadGhosts R → WriteGhosts W → R → R → W → W → Streams
 streams reads writes reader reader' writer writer' = record {
   left = reads.remaining reader;

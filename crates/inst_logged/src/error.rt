@@ -1,3 +1,4 @@
+//! The errors of a hub with a log.
 ghost use Rattle.std.specs.Prelude.{◌≡◌};
 ghost use Rattle.inst_logged.specs.declared.error.LoggedError.TheVariants.{Log};
 ghost use Rattle.inst_log.specs.declared.error.LogError.TheVariants.{Disk, Memory};
@@ -9,26 +10,26 @@ use std::alloc::AllocError;
 use std::io;
 use thiserror::Error;
 
-/// Why a hub with a log ended. Open the log again.
+/// Why a call of a hub with a log failed. Make a new hub and open the log again.
 #[derive(Clone, Copy, Debug, Error)]
 pub enum LoggedError {
-    /// What went wrong with the log or with the replies.
+    /// The log failed, or writing the replies did.
     #[error(transparent)]
     Log(LogError),
-    /// A read of the lines failed.
-    #[error("a read of the lines failed")]
+    /// Reading the input failed.
+    #[error("reading the input failed")]
     Read,
-    /// The books that stand behind the log's settings are none that a hub can open from.
-    #[error("the books behind the log's settings are none that a hub can open from")]
+    /// The books that follow the log's settings aren't books that a hub can open from.
+    #[error("a hub can't open from the books after the log's settings")]
     Books,
-    /// The log is damaged after this prefix. It was left as it is.
+    /// The log is damaged after this prefix. It is unchanged.
     #[error("the log is damaged after line {}, byte {}", .0.lines, .0.bytes)]
     Damaged(Prefix),
-    /// The log has no mark with the digest that was asked for. It was left as it is.
-    #[error("the log doesn't have the digest")]
+    /// The log has no mark with the digest that was asked for. It is unchanged.
+    #[error("the log doesn't contain the digest that was asked for")]
     OtherDigest,
-    /// The log's file hasn't the size that the hub left: another program truncated it or wrote to
-    /// it.
+    /// The log's file hasn't the size that the hub left it with: another program truncated it or
+    /// wrote to it.
     #[error("the log was changed by another program")]
     Changed,
 }

@@ -1,4 +1,4 @@
-//! The line with which a log begins.
+//! The first lines of a log: its settings, and the books that its hub opened from.
 ghost use Rattle.std.specs.Prelude.{◌≡◌, ◌<◌, ◌++◌, ◌∷◌, length, [], true, false, nat_lt, IfOk};
 ghost use Rattle.std.specs.Prelude.{OnOk, string_bytes};
 ghost use Rattle.inst_settings.specs.Settings.{is_participant};
@@ -26,15 +26,21 @@ use inst_log::{close_batch, count_lines, push_line, whole_lines};
 use inst_settings::Settings;
 use std::alloc::{AllocError, Global};
 
-/// The first lines of a log, as a batch, and what makes the mark of the next batch.
+/// The first lines of a log, with the marker for what follows.
 #[derive(Drop)]
 pub struct Heading {
+    /// The first lines, with their mark if the log has marks, as a batch.
     pub batch: Vec<u8>,
+    /// The marker that makes the next mark.
     pub marker: Marker,
 }
 
-/// Returns the first lines of a log of such a hub: one line, with its settings and what its lines
-/// stand for.
+/// Returns the first lines of the log of a hub that opens for the first time: one line with the
+/// version, the mode and the settings.
+///
+/// # Errors
+///
+/// [`AllocError`] if the lines can't be allocated.
 pub fn first_batch(
     alloc: Global,
     version: Version,
@@ -51,8 +57,14 @@ pub fn first_batch(
     close_heading(version, lines)
 }
 
-/// Returns the first lines of a log of a hub that opened again from these journals, one for each
-/// participant by number: the line of its settings, and a line for each event of its books.
+/// Returns the first lines of the log of a hub that opens from these journals, one for each
+/// participant by number: the settings line, and one line for each event of the books.
+///
+/// Requires journals from which a hub with these settings can open (`CanOpenFrom`).
+///
+/// # Errors
+///
+/// [`AllocError`] if the lines can't be allocated.
 pub fn first_batch_from(
     alloc: Global,
     version: Version,
@@ -66,7 +78,7 @@ pub fn first_batch_from(
         heading.batch.items ≡ header_from version mode settings.now journals.now) }
     ensures marker { IfOk result (λ heading.
         BeginsWithMarker version heading.batch.items heading.marker) }
-    // So a start finds the log again.
+    // Then a start finds the log by these lines.
     ensures again { IfOk result (λ _. IsSettings settings.now →
         CanBeginFrom settings.now journals.now) }
 {
@@ -83,7 +95,7 @@ pub fn first_batch_from(
     close_heading(version, lines)
 }
 
-/// Puts their mark behind the first lines of a log, if it has marks, and closes them.
+/// Appends their mark, if the log has marks, and the closed byte to the first lines of a log.
 fn close_heading(version: Version, mut lines: Vec<u8>) -> Result<Heading, AllocError>
     requires whole { AreWholeLines lines.items }
     requires some { 0 < length (recovered_lines lines.items) }
@@ -93,7 +105,7 @@ fn close_heading(version: Version, mut lines: Vec<u8>) -> Result<Heading, AllocE
     ensures marker { IfOk result (λ heading.
         BeginsWithMarker version heading.batch.items heading.marker) }
 {
-    // No line of settings or of books is a mark: this is never reached.
+    // Never true: no line of settings or books is a mark.
     if has_mark(&lines) {
         return Err(AllocError);
     }
@@ -105,7 +117,7 @@ fn close_heading(version: Version, mut lines: Vec<u8>) -> Result<Heading, AllocE
     })
 }
 
-/// Puts their mark behind the first lines of a log, if it has marks. Returns what makes the next
+/// Appends their mark to the first lines of a log, if it has marks. Returns the marker for the next
 /// one.
 fn mark_heading(version: Version, lines: &mut Vec<u8>) -> Result<Marker, AllocError>
     requires whole { AreWholeLines lines.old.items }
@@ -125,7 +137,7 @@ fn mark_heading(version: Version, lines: &mut Vec<u8>) -> Result<Marker, AllocEr
     }
 }
 
-/// The line of the settings, with its newline, as a batch that isn't closed.
+/// Returns the settings line with its newline, as a batch without a closed byte.
 fn settings_line(
     alloc: Global,
     version: Version,
@@ -141,12 +153,12 @@ fn settings_line(
     batch_of(alloc, line.as_bytes())
 }
 
-/// A batch of one line that isn't closed.
+/// Returns a batch of one line without a closed byte.
 fn batch_of(alloc: Global, line: &[u8]) -> Result<Vec<u8>, AllocError>
     ensures whole { IfOk result (λ batch. AreWholeLines batch.items) }
     ensures lines { IfOk result (λ batch. recovered_lines batch.items ≡ raw_of line.now ∷ []) }
 {
-    // No name, no number and no code has a newline: this is never reached.
+    // Never true: no name, number or code has a newline.
     if find_newline(line).is_some() {
         return Err(AllocError);
     }
@@ -155,8 +167,8 @@ fn batch_of(alloc: Global, line: &[u8]) -> Result<Vec<u8>, AllocError>
     Ok(batch)
 }
 
-/// The settings and what the lines stand for, and how many lines of books come behind, if any do,
-/// as a line of compact JSON.
+/// Returns the settings line, compact JSON with the version, the mode, the settings and, after an
+/// opening from books, the number of their lines.
 pub(crate) fn header_line(
     alloc: Global,
     version: Version,
@@ -172,8 +184,7 @@ pub(crate) fn header_line(
     Ok(text)
 }
 
-/// Puts the settings, what the lines stand for, and how many lines of books come behind into an
-/// empty text.
+/// Appends the settings line to an empty text.
 fn push_header(
     text: &mut String,
     version: Version,
@@ -198,7 +209,7 @@ fn push_header(
     text.push_str(version_word(version))
 }
 
-/// Puts a name and a number at the end of a text.
+/// Appends a name and a number.
 fn push_field(text: &mut String, name: &str, number: u64) -> Result<(), AllocError>
     ensures { OnOk result
         (string_bytes text.new ≡ string_bytes text.old ++ header_field name.now number) }
@@ -208,7 +219,7 @@ fn push_field(text: &mut String, name: &str, number: u64) -> Result<(), AllocErr
     text.push_str(&digits)
 }
 
-/// Puts how many lines of books there are at the end of a text, if there are books.
+/// Appends the number of lines of books, if there are books.
 fn push_books(text: &mut String, books: Option<u64>) -> Result<(), AllocError>
     ensures { OnOk result (string_bytes text.new ≡ string_bytes text.old ++ books_field books) }
 {
@@ -253,8 +264,7 @@ fn push_participants(text: &mut String, settings: &Settings) -> Result<(), Alloc
     text.push_str("]")
 }
 
-/// Puts the codes of the participants at the end of a text, each between quotes, with commas
-/// between them.
+/// Appends the codes of the participants, each in quotes, separated by commas.
 fn push_codes(text: &mut String, settings: &Settings) -> Result<(), AllocError>
     ensures { OnOk result (string_bytes text.new
         ≡ string_bytes text.old ++ quoted_codes false settings.now.codes) }
@@ -265,8 +275,7 @@ fn push_codes(text: &mut String, settings: &Settings) -> Result<(), AllocError>
     Ok(())
 }
 
-/// Puts a participant's code at the end of a text, between quotes, with a comma before it unless it
-/// is the first.
+/// Appends a participant's code in quotes, with a comma before it unless it is the first.
 fn push_code(text: &mut String, settings: &Settings, number: u8) -> Result<(), AllocError>
     requires { is_participant settings.now number ≡ true }
     ensures { OnOk result (string_bytes text.new

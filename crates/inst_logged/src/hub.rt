@@ -1,4 +1,4 @@
-//! A hub with a log: its opening, and whole runs of lines.
+//! A hub with a log, and its whole runs.
 ghost use Rattle.std.specs.Prelude.{◌≡◌, ◌≤◌, ◌^◌, [], List, ℕ, length, IsTrue, IfOk, IfErr, OnOk};
 ghost use Rattle.std.specs.Prelude.{MatchBool};
 ghost use Rattle.std.specs.Io.KnownBytes.{IsAtEnd};
@@ -45,30 +45,31 @@ use replaying::start_again;
 use sqlite_disk::Disk;
 use std::io::{Read, Write};
 
-/// A hub in one thread that keeps each line before it hands out a byte of its reply.
+/// A hub in one thread that syncs each line to its log before it writes a byte of the line's reply.
 #[derive(Drop)]
 pub struct LoggedHub<D: Disk> {
     recorder: Recorder<D, LineAnswers>,
     intake: Intake,
     batch: Vec<u8>,
     version: Version,
-    /// The first lines of its log.
+    /// The first lines of the log, as a batch.
     header: Vec<u8>,
-    /// Makes the next mark of its log.
+    /// The marker that makes the log's next mark.
     marker: Marker,
-    /// The size of its log's file, in bytes, after the last write.
+    /// The size of the log's file in bytes after the last write.
     size: usize,
 }
 
 impl<D: Disk + Drop> LoggedHub<D> {
-    /// Returns the settings of the hub.
+    /// Returns the hub's settings.
     pub fn settings(&self) -> &Settings
         ensures { result.now ≡ world_settings self.now.recorder.answers.runner.world }
     {
         self.recorder.answers.runner.settings()
     }
 
-    /// Returns the hub without its log, and the disk of that.
+    /// Returns the hub's runner and the disk of its log. Also after an error, to take the disk
+    /// back.
     pub fn into_parts(self) -> (Runner, D)
         ensures runner { result.0 ≡ self.recorder.answers.runner }
         ensures disk { result.1 ≡ self.recorder.log.disk }
@@ -80,17 +81,41 @@ impl<D: Disk + Drop> LoggedHub<D> {
         (runner, disk)
     }
 
-    /// Opens the log, or makes it if the disk is empty, and answers its lines again. Of these
-    /// replies the reader has those to the first `told` lines, or all: the others are handed out.
-    /// Then each line that the reader gives is answered, once it is on the disk. The log is read
-    /// twice, in pieces: its marks are verified before anything else is done.
+    /// Opens the log, or makes it in a new file, and answers its lines again; then answers each
+    /// line of the input after it is synced.
+    ///
+    /// Of the replies to the log's lines those to the first `told` lines aren't written again;
+    /// `None` writes none of them. The log's marks are verified before anything else is done. The
+    /// log is read twice, in pieces. Blocks on the reader and the writer.
+    ///
+    /// Requires a hub that has run nothing, over a disk whose file was just opened.
     ///
     /// # Errors
     ///
-    /// `Damaged`, `OtherSettings`, `NoLog`, `Told` if it has fewer lines, and `OtherDigest` if it
-    /// hasn't the mark with the `wanted` digest: nothing is read of the input, nothing handed out,
-    /// and the log stays as it is. `Changed` if another program truncated the log's file or wrote
-    /// to it since the last write. After any other error, open the log again by another hub.
+    /// The log is refused; nothing was read of the input, no reply was written, and the log is
+    /// unchanged:
+    ///
+    /// - `Damaged` if a mark or the end of the log is wrong.
+    /// - `Log(OtherSettings)` if the log begins with other lines than this hub's: another version
+    ///   or mode, other settings or books.
+    /// - `Log(NoLog)` if the file has no line, and isn't new or what a crash may leave of a new
+    ///   log.
+    /// - `Log(Told)` if the log has fewer than `told` lines.
+    /// - `OtherDigest` if the log has no mark with the `wanted` digest.
+    ///
+    /// The run stops. The log has every line of which a reply byte was written, if the disk gave no
+    /// wrong answer:
+    ///
+    /// - `Changed` if the log's file has another size than after the last write: another program
+    ///   changed it.
+    /// - `Read` if the reader fails.
+    /// - `Log(Write)` if the writer fails; the log has the lines, and a prefix of their replies was
+    ///   written.
+    /// - `Log(Disk)` if the disk fails, `Log(Full)` if the log has 2^62 bytes or the input 2^64 -
+    ///   1, `Log(Memory)` if an allocation fails.
+    ///
+    /// After any error take the disk back with [`into_parts`](LoggedHub::into_parts), open its file
+    /// again, and make a new hub.
     pub fn run<R: Read, W: Write>(
         &mut self,
         told: Option<u64>,
@@ -103,7 +128,7 @@ impl<D: Disk + Drop> LoggedHub<D> {
         ensures ok { OnOk result (HasKeptFaith D.Disk (disk_of self.new) →
             RunsThrough D.Disk told wanted self.old self.new
             (streams R.Read W.Write reader.old reader.new writer.old writer.new)) }
-        // At `Ok` and at `Err`, whatever moment the machine stops at.
+        // Holds at `Ok` and at `Err`. docs/promises.md argues for a crash within the call.
         ensures any_moment { HasKeptFaith D.Disk (disk_of self.new) →
             SurvivesEachCrash D.Disk told self.old self.new
             (streams R.Read W.Write reader.old reader.new writer.old writer.new) }
@@ -117,8 +142,8 @@ impl<D: Disk + Drop> LoggedHub<D> {
         self.serve_all(reader, writer)
     }
 
-    /// Opens the log with its first lines, and hands out the replies to its lines but for those to
-    /// the first `told`.
+    /// Opens the log with its first lines, and writes the replies to its lines after the first
+    /// `told`.
     fn reopen<W: Write>(
         &mut self,
         told: Option<u64>,
@@ -163,7 +188,7 @@ impl<D: Disk + Drop> LoggedHub<D> {
         }
     }
 
-    /// Answers each line that the reader gives, once it is on the disk.
+    /// Answers each line of the input after it is synced.
     fn serve_all<R: Read, W: Write>(
         &mut self,
         reader: &mut R,
@@ -201,8 +226,8 @@ impl<D: Disk + Drop> LoggedHub<D> {
         Err(LoggedError::Log(LogError::Full))
     }
 
-    /// Reads once, and answers the lines that end there, once they are on the disk; at the end of
-    /// the input, the last line too. Says whether the input may go on.
+    /// Reads once and answers the lines that end there, and at the end of the input the last line
+    /// too. Returns `true` if the input may have more.
     fn turn<R: Read, W: Write>(
         &mut self,
         reader: &mut R,

@@ -1,4 +1,4 @@
-//! Bytes that were read, on their way into a log.
+//! Cutting the input into lines for the log.
 ghost use Rattle.std.specs.Prelude.{◌≡◌, ◌+◌, ◌≤◌, ◌++◌, [], map, take, vec_len, List, ℕ, IfOk};
 ghost use Rattle.std.specs.Prelude.{IfErr, OnOk, OnErr, IsOkUnless, MatchBool};
 ghost use Rattle.std.specs.Io.{ReadsAtMost};
@@ -21,8 +21,8 @@ use std::io::Read;
 /// The most bytes that are held of a line: one more than a line may have.
 const MOST_HELD: usize = MOST_LINE_BYTES + 1;
 
-/// The part of a line that was read and is in no log yet: of a line that is too long its first
-/// 4,097 bytes.
+/// The beginning of a line whose end hasn't been read; of a line that is too long, its first 4,097
+/// bytes.
 #[derive(Drop)]
 pub struct Intake {
     bytes: Vec<u8>,
@@ -37,7 +37,7 @@ impl Intake {
     ghost use Rattle.inst_logged.specs.Refused.{IsRefused};
     ghost use Rattle.inst_logged.specs.inner.Failing.{FailsAtLog};
 
-    /// Nothing was read yet.
+    /// Returns the state before the first read.
     pub(crate) fn new(alloc: Global) -> Result<Intake, AllocError>
         ensures { IfOk result (λ intake. line_part intake ≡ []) }
     {
@@ -45,9 +45,9 @@ impl Intake {
         Ok(Intake { bytes, len: 0 })
     }
 
-    /// Reads once, and adds the lines that end there to a batch that is not closed; at the end of
-    /// the input, the last line too, if it lacks its newline. Says whether the input may go on.
-    /// After an error let the batch go.
+    /// Reads once and appends the lines that end there to a batch; at the end of the input also a
+    /// last line without a newline. Returns `true` if the input may have more. Drop the batch after
+    /// an error.
     pub(crate) fn read<R: Read>(
         &mut self,
         reader: &mut R,
@@ -78,7 +78,7 @@ impl Intake {
         Ok(true)
     }
 
-    /// Adds what is held to a batch as a line, if it isn't empty.
+    /// Appends the bytes that are held to a batch as a line, unless there are none.
     fn take_last(&mut self, batch: &mut Vec<u8>) -> Result<(), AllocError>
         requires part { NoNewline (line_part self.old) }
         requires whole { AreWholeLines batch.old.items }
@@ -94,7 +94,8 @@ impl Intake {
         Ok(())
     }
 
-    /// Adds the lines that end among the first bytes to a batch, and holds what stands behind them.
+    /// Appends the lines that end in the first `end` bytes to a batch, and holds the bytes after
+    /// them.
     fn take_lines(&mut self, end: usize, batch: &mut Vec<u8>) -> Result<(), AllocError>
         requires within { end ≤ buffer_bytes }
         requires whole { AreWholeLines batch.old.items }
@@ -113,8 +114,7 @@ impl Intake {
     }
 }
 
-/// Adds the lines that end among these bytes to a batch that is not closed, and tells where the
-/// last one ends.
+/// Appends the lines that end in these bytes to a batch, and returns where the last one ends.
 fn push_lines(bytes: &[u8], batch: &mut Vec<u8>) -> Result<usize, AllocError>
     requires { AreWholeLines batch.old.items }
     ensures { IfOk result (λ start. CutsLines bytes.now start batch.old.items batch.new.items) }
@@ -127,7 +127,7 @@ fn push_lines(bytes: &[u8], batch: &mut Vec<u8>) -> Result<usize, AllocError>
     Ok(bytes.len() - rest.len())
 }
 
-/// Reads into `buf`, and says how many bytes.
+/// Reads into `buf` and returns the number of bytes.
 fn read_bytes<R: Read>(reader: &mut R, buf: &mut [u8]) -> Result<usize, LoggedError>
     ensures bound { ReadsAtMost result buf.new }
     ensures bytes { ReadConsumes (R.remaining reader.old) (R.remaining reader.new) result buf.new }

@@ -1,4 +1,4 @@
-//! What a log has of lines. Each law is a function without a body whose contract says it.
+//! Laws of logs, as functions whose contracts state them.
 ghost use Rattle.std.specs.Prelude.{◌≡◌, List, ℕ, map};
 ghost use Rattle.inst_lines.specs.declared.mode.Mode.{Mode};
 ghost use Rattle.inst_lines.specs.Answers.{output};
@@ -8,19 +8,20 @@ ghost use Rattle.inst_logged.specs.Refused.{ARefusedLogIsNotTaken};
 ghost use Rattle.inst_logged.specs.Input.{logged_line};
 ghost use Rattle.inst_logged.specs.Answering.{replies_at};
 
-/// Lines are answered as what stands for them in a log, whatever a hub has gone through.
+/// Law: a line and its form in a log get the same reply, whatever the hub has answered before.
 pub fn lines_answer_alike()
     ensures { (mode : Mode) (past : HubPast) (lines : List (List ℕ)) →
         replies_at mode past (map logged_line lines) ≡ output (hub_answerer mode) past lines }
 {}
 
-/// Two logs begin alike only where their hubs have the same settings and their lines stand for the
-/// same.
+/// Law: two logs of one version that begin alike, without books, are of hubs with the same mode and
+/// settings.
 pub fn headers_tell_their_settings()
     ensures { HeadersTellTheirSettings }
 {}
 
-/// No log that a hub refuses is one that it takes: a good log is never refused.
+/// Law: if an error refuses a log, and its cause is true of the file, the hub doesn't take that
+/// log.
 pub fn a_refused_log_is_not_taken()
     ensures { ARefusedLogIsNotTaken }
 {}

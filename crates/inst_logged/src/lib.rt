@@ -1,5 +1,5 @@
-//! A hub in one thread with a log: each line is on the disk before a byte of its reply is handed
-//! out, and a hub that was cut off at any moment goes on where its log ends.
+//! A hub in one thread with a log: each line is synced to the disk before a byte of its reply is
+//! written, and a hub that was stopped at any moment resumes after the last line of its log.
 #![tactic(auto)]
 
 mod error;

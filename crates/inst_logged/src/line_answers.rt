@@ -1,4 +1,4 @@
-//! A hub in one thread answers the lines of a log.
+//! The responder of a hub's log: a hub in one thread that answers lines.
 ghost use Rattle.std.specs.Prelude.{◌≡◌, ◌≤◌, [], ◌∷◌, length, IfOk, OnOk};
 ghost use Rattle.inst_log.specs.Layout.{recovered_lines};
 ghost use Rattle.inst_chain.specs.Chain.{said};
@@ -15,13 +15,13 @@ use inst_settings::Settings;
 use inst_world::World;
 use std::alloc::{AllocError, Global};
 
-/// A hub that answers lines, each as a log has it.
+/// A hub that answers the lines of a log.
 #[derive(Drop)]
 pub struct LineAnswers {
     reader: LineReader,
-    /// What a line stands for.
+    /// The form of the lines: commands or steps.
     pub mode: Mode,
-    /// What the lines so far have left.
+    /// The hub after the lines so far.
     pub runner: Runner,
 }
 
@@ -31,7 +31,11 @@ impl LineAnswers {
     ghost use Rattle.inst_logged.specs.LineAnswers.{HasOpened};
     ghost use Rattle.inst_logged.specs.Answering.{opened_from};
 
-    /// A hub that opens for the first time.
+    /// Returns a hub that opens for the first time.
+    ///
+    /// # Errors
+    ///
+    /// [`AllocError`] if the hub can't be allocated.
     pub fn open(alloc: Global, mode: Mode, settings: &Settings) -> Result<LineAnswers, AllocError>
         ensures opened { IfOk result (λ answers. HasOpened mode (new_past settings.now) answers) }
     {
@@ -43,8 +47,13 @@ impl LineAnswers {
         })
     }
 
-    /// A hub that opens again from these journals, one for each participant by number. It has a
-    /// copy of them.
+    /// Returns a hub that opens from a copy of these journals, one for each participant by number.
+    ///
+    /// Requires journals from which a hub with these settings can open (`CanOpenFrom`).
+    ///
+    /// # Errors
+    ///
+    /// [`AllocError`] if the hub or the copies can't be allocated.
     pub fn open_from(
         alloc: Global,
         mode: Mode,
@@ -64,8 +73,8 @@ impl LineAnswers {
         })
     }
 
-    /// Answers the first lines of a log, so many without marks, or all. Returns where the others
-    /// begin, and how many are missing.
+    /// Answers the first `count` lines of these, marks not counted, or all. Returns where the
+    /// others begin, and how many are missing.
     pub(crate) fn answer_first(
         &mut self,
         lines: &[u8],
@@ -102,8 +111,7 @@ impl LineAnswers {
         Ok(())
     }
 
-    /// Answers a line as a log has it, if it isn't a mark. Returns how many replies that are, 1 or
-    /// 0.
+    /// Answers a line in its form in the log. Returns the number of replies: 0 for a mark, else 1.
     fn answer_raw(&mut self, raw: &[u8], out: &mut Vec<u8>) -> Result<u64, AllocError>
         ensures ok { OnOk result (AnswersLines self.old.mode self.old.runner self.new.runner
             out.old.items out.new.items (raw.now ∷ [])) }

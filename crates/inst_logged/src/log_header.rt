@@ -1,4 +1,4 @@
-//! What the first line of a log says, read again.
+//! Reading the first line of a log.
 ghost use Rattle.std.specs.Prelude.{◌≡◌, ◌⊎◌, ◌<◌, ◌^◌, ◌++◌, [], ◌∷◌, List, ℕ, Option, Some, None};
 ghost use Rattle.std.specs.Prelude.{true, map, codes, IfOk, option_map, ok_or};
 ghost use Rattle.std.specs.List.{list_all};
@@ -25,19 +25,23 @@ use inst_settings::{HubParameters, Settings};
 use serde_json::Value;
 use std::alloc::{AllocError, Global};
 
-/// What the first line of a log says.
+/// The contents of a log's first line.
 #[derive(Drop)]
 pub struct LogHeader {
-    /// What its lines stand for.
+    /// The mode: the log's lines are commands or steps.
     pub mode: Mode,
-    /// The settings of its hub.
+    /// The settings of the hub.
     pub settings: Settings,
-    /// How many lines of books stand behind it, where the hub opened from books.
+    /// The number of lines of books that follow; `None` if the hub opened for the first time.
     pub books: Option<u64>,
 }
 
-/// Returns what the first line of a log says, given with its newline or without, or `None` if no
-/// log begins so.
+/// Returns the contents of a log's first line, given with or without its newline, or `None` if it
+/// can't be one.
+///
+/// # Errors
+///
+/// [`AllocError`] if the settings or the line's JSON value can't be allocated.
 pub fn read_beginning(alloc: Global, line: &[u8]) -> Result<Option<LogHeader>, AllocError>
     ensures { (version : Version) (mode : Mode) (s : HubSettings) (books : Option ℕ) →
         IsHeaderLine version mode s books line.now
@@ -49,7 +53,7 @@ pub fn read_beginning(alloc: Global, line: &[u8]) -> Result<Option<LogHeader>, A
     }
 }
 
-/// Returns a line without its newline.
+/// Returns the line without its newline.
 fn without_newline(line: &[u8]) -> &[u8]
     ensures { (text : List ℕ) → NoNewline text →
         (line.now ≡ text) ⊎ (line.now ≡ text ++ newline ∷ []) → result.now ≡ text }
@@ -57,7 +61,7 @@ fn without_newline(line: &[u8]) -> &[u8]
     line.strip_suffix(b"\n").unwrap_or(line)
 }
 
-/// Returns the JSON value of a line, or `None` if the line is not JSON.
+/// Returns the JSON value of a line, or `None` if it isn't JSON.
 fn value_of(alloc: Global, line: &[u8]) -> Result<Option<Value>, AllocError>
     ensures { IfOk result (λ value. ok_or (option_map view value) NotJson ≡ json_of line.now) }
 {
@@ -68,7 +72,7 @@ fn value_of(alloc: Global, line: &[u8]) -> Result<Option<Value>, AllocError>
     }
 }
 
-/// Returns what a first line says that is this JSON, or `None` if no log begins so.
+/// Returns the contents of a first line with this JSON value, or `None` if it can't be one.
 fn beginning_in(alloc: Global, value: &Value) -> Result<Option<LogHeader>, AllocError>
     ensures { (version : Version) (mode : Mode) (s : HubSettings) (books : Option ℕ) → AreOfAHub s →
         HeaderSays version mode s books (view value.now)
@@ -124,7 +128,7 @@ fn codes_of(alloc: Global, value: &Value) -> Result<Option<Vec<Code>>, AllocErro
     }
 }
 
-/// Returns the codes that are listed, or `None` if one is no code.
+/// Returns the listed codes, or `None` if one isn't a code.
 fn codes_in(alloc: Global, listed: &[Value]) -> Result<Option<Vec<Code>>, AllocError>
     ensures { (named : List (List ℕ)) → list_all is_code named ≡ true →
         items_view listed.now ≡ items (map string named)
@@ -140,7 +144,7 @@ fn codes_in(alloc: Global, listed: &[Value]) -> Result<Option<Vec<Code>>, AllocE
     Ok(Some(codes))
 }
 
-/// Returns the code that a value is.
+/// Returns the code in this value.
 fn code_of(value: &Value) -> Option<Code>
     ensures { (code : List ℕ) → is_code code ≡ true → view value.now ≡ string code →
         result ≡ Some code }
@@ -148,7 +152,7 @@ fn code_of(value: &Value) -> Option<Code>
     Code::new(value.as_str()?).ok()
 }
 
-/// Returns the numbers among the settings.
+/// Returns the numbers of the settings.
 fn numbers_of(value: &Value) -> Option<HubParameters>
     ensures { (s : HubSettings) → IsSettings s → SaysSettings s (view value.now) →
         result ≡ Some (numbers_of s) }
@@ -184,9 +188,14 @@ fn medium(value: &Value, name: &str) -> Option<u32>
     u32::try_from(number(value, name)?).ok()
 }
 
-/// Returns the version that a log's first line tells, given with its newline or without: the
-/// latest, unless it tells an earlier one. `None` if no log begins so: the line is JSON that has
-/// none of the members by which a log is known.
+/// Returns the version in a log's first line, given with or without its newline.
+///
+/// Returns `One` for `"version":1`, else `Two`, also for an empty line or no JSON. Returns `None`
+/// for JSON without `log` and `version`.
+///
+/// # Errors
+///
+/// [`AllocError`] if the line's JSON value can't be allocated.
 pub fn version_of(alloc: Global, line: &[u8]) -> Result<Option<Version>, AllocError>
     ensures none { line.now ≡ [] → IfOk result (λ version. version ≡ Some Two) }
     ensures back { (version : Version) (mode : Mode) (s : HubSettings) (books : Option ℕ) →
@@ -202,7 +211,7 @@ pub fn version_of(alloc: Global, line: &[u8]) -> Result<Option<Version>, AllocEr
     }
 }
 
-/// Returns the version that a first line tells that is this JSON, or `None` if no log begins so.
+/// Returns the version in a first line with this JSON value, or `None` if it can't be one.
 fn version_in(value: &Value) -> Option<Version>
     ensures { (version : Version) →
         number_in (codes "version") (view value.now) ≡ Some (version_number version) →
@@ -217,9 +226,8 @@ fn version_in(value: &Value) -> Option<Version>
     }
 }
 
-/// Returns how many lines of books follow the first line of a log, given with its newline, or
-/// `None` if it begins otherwise: with other settings than these, or for a hub that opens for the
-/// first time.
+/// Returns the number of lines of books after the first line of a log, given with its newline.
+/// Returns `None` if the line has other settings, or is of a hub that opened for the first time.
 pub(crate) fn books_behind(
     alloc: Global,
     version: Version,
@@ -245,7 +253,7 @@ pub(crate) fn books_behind(
     Ok(Some(count))
 }
 
-/// Returns how many lines of books a first line tells of.
+/// Returns the number of lines of books that a first line has.
 fn books_of(alloc: Global, line: &[u8]) -> Result<Option<u64>, AllocError>
     ensures { (version : Version) (mode : Mode) (s : HubSettings) (books : Option ℕ) →
         IsHeaderLine version mode s books line.now

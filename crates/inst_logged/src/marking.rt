@@ -1,4 +1,4 @@
-//! A batch gets its mark, if its log has marks.
+//! Appending marks to batches.
 ghost use Rattle.std.specs.Prelude.{◌≡◌, ◌++◌, List, ℕ, OnOk};
 ghost use Rattle.inst_log.specs.Layout.{recovered_lines, AreWholeLines, IsShut};
 ghost use Rattle.inst_chain.specs.Chain.{HasNoMark, said};
@@ -9,8 +9,8 @@ use crate::Version;
 use inst_chain::{Marker, mark_lines};
 use std::alloc::AllocError;
 
-/// Adds its mark to a batch that isn't closed, if it has lines and the log has marks. At `Err`,
-/// drop both.
+/// Appends its mark to a batch without a closed byte, if it has lines and the log has marks. After
+/// an error drop marker and batch.
 pub(crate) fn mark_batch(
     version: Version,
     marker: &mut Marker,
@@ -20,7 +20,7 @@ pub(crate) fn mark_batch(
     ensures whole { OnOk result (AreWholeLines batch.new.items) }
     ensures said { OnOk result (said (recovered_lines batch.new.items)
         ≡ said (recovered_lines batch.old.items)) }
-    // Behind a log whose marks are right, the batch leaves one whose marks are right.
+    // If the log's marks were right, they are right with the batch too.
     ensures intact { OnOk result (HasNoMark (recovered_lines batch.old.items) →
         (file new : List ℕ) →
         IsIntactBy version file marker.old
@@ -34,7 +34,7 @@ pub(crate) fn mark_batch(
     }
 }
 
-/// Adds its mark to a batch that isn't closed, if it has lines.
+/// Appends its mark to a batch, if it has lines.
 fn mark_some(marker: &mut Marker, batch: &mut Vec<u8>) -> Result<(), AllocError>
     requires { AreWholeLines batch.old.items }
     ensures whole { OnOk result (AreWholeLines batch.new.items) }

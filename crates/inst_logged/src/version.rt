@@ -1,10 +1,10 @@
-//! Versions of a log's format.
+//! The versions of a log's format.
 
 /// A version of a log's format.
 #[derive(Clone, Copy, Debug, PartialEq, Eq)]
 pub enum Version {
-    /// Batches without marks. Such logs are read and resumed, and no longer made.
+    /// Without marks. Such logs are read and resumed; the program makes none any more.
     One,
-    /// Each batch ends with a mark, whose digest shows damage.
+    /// With a mark at the end of each batch, so damage is found.
     Two,
 }

@@ -1,4 +1,4 @@
--- The files of the machine, as the disks of the logs that were closed have them.
+-- The files of the machine, by the disks of the logs that were closed. A choice of this hub.
 use Rattle.std.specs.Prelude.{◌≡◌, ℕ, Bool, ◌&&◌, List, [], Option, IsTrue, IfSome, option_map}
 use Rattle.std.specs.Prelude.{bytes_eq, string_bytes}
 use Rattle.std.specs.Option.{option_map_or}
@@ -8,13 +8,13 @@ use Rattle.sqlite_disk.specs.declared.Disk.{Ghosts}
 use Rattle.inst_main.specs.declared.host_logs.ClosedLog.{ClosedLog}
 use Rattle.inst_program.specs.Files.{Files}
 
--- the log of this name that was closed last
+-- The disk of the log of this name that was closed last.
 abbrev pub last_closed : {D : Type 0} → List (ClosedLog D) → List ℕ → Option D
 last_closed closed name =
     option_map (λ one. one.log) (find (λ one. bytes_eq (string_bytes one.name) name) closed)
 
--- A file has what the disk of its log had when that was closed. One whose log wasn't closed has
--- nothing, and a crash may leave anything of it.
+-- A file has what the disk of its log had when that was closed. A file of which no log was closed
+-- has no bytes, and a crash may leave anything of it.
 abbrev pub host_files : {D : Type 0} → Ghosts D → List (ClosedLog D) → Option (List ℕ) → Bool →
     Files
 host_files {D} disks closed out is_known =
@@ -27,7 +27,8 @@ host_files {D} disks closed out is_known =
       is_clean = is_known && list_all (λ one. disks.is_clean one.log) closed;
     }
 
--- a file as it was opened, when no byte of it is known: what is read of it is on the disk
+-- A file that was just opened, whose bytes are unknown and count as none: reads return what is on
+-- the disk.
 pub record IsFileAsOpened {D : Type 0} (disks : Ghosts D) (log : D) : Type 0 where
   pub usable : IsTrue (disks.is_usable log)
   pub empty : disks.seen log ≡ []

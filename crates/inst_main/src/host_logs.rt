@@ -1,4 +1,4 @@
-//! Logs in the files of the machine.
+//! Logs in the machine's files.
 ghost use Rattle.std.specs.Prelude.{◌≡◌, None, is_some, option_map, string_bytes, IfErr, IfOk};
 ghost use Rattle.inst_program.specs.Logs.{IsLogsError};
 ghost use Rattle.inst_main.specs.HostLogs.{IsFileAsOpened, host_files, last_closed};
@@ -29,22 +29,22 @@ fn was_closed<D: Disk>(closed: &[ClosedLog<D>], name: &str) -> bool
     false
 }
 
-/// The files of the machine. It keeps each log that was closed, and with it the lock on its file:
-/// the file has what the disk of the log has.
+/// The files of the machine. Keeps the disk of each log that was closed, and with it the lock on
+/// its file, until the program ends. The file has what that disk has.
 #[derive(Drop)]
 pub(crate) struct HostLogs<'a> {
     rt: &'a HostRuntime,
     /// The name of the log that is open.
     out: Option<String>,
-    /// The logs that were closed, the last one first.
+    /// The closed logs, the last one first.
     closed: Vec<ClosedLog<FileFrom<Unknown>>>,
     /// `false` once a file was read without its disk, the file of a closed log was missing, or a
-    /// closed log wasn't kept.
+    /// closed log couldn't be stored: no claim about files holds then.
     is_known: bool,
 }
 
 impl<'a> HostLogs<'a> {
-    /// Returns the files of the machine. No log is open.
+    /// Returns the machine's files; no log is open.
     pub(crate) fn new(rt: &'a HostRuntime) -> HostLogs<'a>
         ensures { result.out ≡ None }
     {
@@ -93,7 +93,7 @@ impl<'a> Logs for HostLogs<'a> {
     fn read(&mut self, path: &str) -> Result<File, LogsError> {
         match File::open(self.rt, path) {
             Ok(file) => {
-                // No clause says what the file has.
+                // No clause says what the file contains.
                 self.is_known = false;
                 Ok(file)
             }
@@ -135,7 +135,7 @@ fn open_file(rt: &HostRuntime, path: &str) -> Result<FileFrom<Unknown>, LogsErro
     }
 }
 
-/// An allocation failed, or the disk did.
+/// Returns the error for a failed allocation or disk.
 fn logs_error(error: &Error) -> LogsError
     ensures { IsLogsError ⊥ ⊥ result }
 {
@@ -145,7 +145,7 @@ fn logs_error(error: &Error) -> LogsError
     }
 }
 
-/// The file isn't there, an allocation failed, or the disk did.
+/// Returns the error for a missing file, or for a failed allocation or disk.
 fn read_error(error: &Error) -> LogsError
     ensures { IsLogsError ⊥ (Unit {0}) result }
 {

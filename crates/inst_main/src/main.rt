@@ -1,5 +1,5 @@
-//! The program: lines on standard input, one answer for each on standard output, with a log or
-//! without; or a drill, which reads nothing.
+//! The program: passes the words of its command line, the standard streams and the machine's files
+//! to `inst_program`, and exits with the status that it returns.
 #![tactic(auto)]
 
 mod host_logs;

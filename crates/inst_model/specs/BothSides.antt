@@ -1,8 +1,7 @@
--- The live transfers on both sides. What is live at its beneficiary is live at its originator, with
--- the same identifier, amount and deadline, each on either side once; and at an opening each live
--- transfer is there on both sides, and pending. So at an opening an originator's live transfers to
--- a beneficiary and those that the beneficiary has live from it correspond one to one. This hub's
--- own promise.
+-- The live transfers on both sides. A transfer that is live at its beneficiary is live at its
+-- originator, with the same identifier, amount and deadline, once on either side. At an opening
+-- each live transfer is on both sides and pending, so the live transfers of an originator to a
+-- beneficiary and those of the beneficiary from it correspond one to one. A promise of this hub.
 use Rattle.std.specs.Prelude.{◌≡◌, ℕ, ◌≤◌, true, List, [], None, count_by, Contains}
 use Rattle.inst_base.specs.TimeLimit.{deadline_of}
 use Rattle.inst_settings.specs.Settings.{HubSettings}
@@ -15,7 +14,8 @@ use Rattle.inst_model.specs.Interleaving.{IsInterleaving}
 use Rattle.inst_model.specs.Opening.{Opening, IsOpening, beginning}
 use Rattle.inst_model.specs.Hub.{outcome, history}
 
--- the live transfers of `from` in the histories J of the originator `from` and the beneficiary `to`
+-- The live transfers of `from` in the histories J of the originator `from` and the beneficiary
+-- `to`.
 pub record IsLiveOnBothSides (s : HubSettings) (J : ℕ → List Event) (from to : ℕ) : Type 0 where
   pub what_came_was_sent : (id : List ℕ) (cents deadline : ℕ) →
       Contains (J to) (Forwarded from id cents deadline) →
@@ -31,12 +31,13 @@ pub record IsLiveOnBothSides (s : HubSettings) (J : ℕ → List Event) (from to
   pub sent_once : (id : List ℕ) → count_by (takes id) (J from) ≤ 1
   pub came_once : (id : List ℕ) → count_by (forwards from id) (J to) ≤ 1
 
+-- The law: `IsLiveOnBothSides` after any interleaving.
 abbrev pub TheLiveAreTheSameOnBothSides : Type 0
 TheLiveAreTheSameOnBothSides =
     (s : HubSettings) (O : Opening) → IsOpening s O → (L : List Step) → IsInterleaving s L →
     (from to : ℕ) → IsLiveOnBothSides s (history s O L) from to
 
--- at an opening each live transfer has come to its beneficiary and has no outcome
+-- At an opening each live transfer is forwarded to its beneficiary and has no outcome.
 abbrev pub AtAnOpeningTheLiveHaveCome : Type 0
 AtAnOpeningTheLiveHaveCome = (s : HubSettings) (O : Opening) → IsOpening s O →
     (from to : ℕ) (id : List ℕ) (cents stamp : ℕ) →

@@ -1,5 +1,5 @@
--- Books that are sound and closed, however they came about, sum to the net funding: this hub's own
--- promise for the books of a hub that was closed.
+-- The positions of books that are sound and closed, however they came about, sum to the net
+-- funding. A promise of this hub for the books of a closed hub.
 use Rattle.std.specs.Prelude.{◌≡◌, ℕ, pos, List}
 use Rattle.inst_settings.specs.Settings.{HubSettings}
 use Rattle.inst_journal.specs.declared.event.Event.{Event}

@@ -1,7 +1,7 @@
--- How a hub is closed: each participant learns what is decided, and what is pending comes to its
--- beneficiary (EPC004-16, chapter 4: both participants are told one outcome). Nothing is asked and
--- nothing expires, for no reading is given. That a closing goes over all places is this hub's own
--- choice; in which order, and how often, is left open.
+-- Closing a hub: each participant learns the decided outcomes, and pending transfers are delivered
+-- (EPC004-16, chapter 4: both participants are told one outcome). There is no command and no
+-- expiry, since there is no clock reading. A closing covers all places, in any order and any number
+-- of times. The last is a choice of this hub.
 use Rattle.std.specs.Prelude.{◌≡◌, ℕ, pos, zero, suc, ◌<◌, Bool, true, false, List, [], ◌∷◌, ◌++◌}
 use Rattle.std.specs.Prelude.{Contains}
 use Rattle.std.specs.List.{AllByRecursion}
@@ -21,14 +21,14 @@ use Rattle.inst_model.specs.Fit.{BooksAreClosed}
 use Rattle.inst_model.specs.Hub.{outcome, history}
 use Rattle.inst_model.specs.Untold.{sum_over_participants, signed_total, untold}
 
--- whether the step tells a participant of a transfer, without a reading
+-- True if the step is a delivery or a learning, which have no clock reading.
 abbrev pub is_telling : Step → Bool
 is_telling (Ask ask) = false
 is_telling (Deliver from index to) = true
 is_telling (Learn who from index) = true
 is_telling (Expire who index at) = false
 
--- the steps tell, and each participant is told of each place
+-- All steps are deliveries and learnings, and each participant has both for each place.
 pub record IsClosing (s : HubSettings) (M : List Step) : Type 0 where
   pub fits : IsInterleaving s M
   pub only_tells : AllByRecursion (λ step. is_telling step ≡ true) M
@@ -39,37 +39,39 @@ pub record IsClosing (s : HubSettings) (M : List Step) : Type 0 where
       index < s.places →
       Contains M (Learn who from index)
 
--- the participant `who` is told of the first places of the originator `from`
+-- Deliveries and learnings for `who` of the first places of the originator `from`.
 abbrev pub of_places : ℕ → ℕ → ℕ → List Step
 of_places who from zero = []
 of_places who from (suc index) =
     Deliver from index who ∷ (Learn who from index ∷ of_places who from index)
 
--- the participant `who` is told of so many places of each of the first originators
+-- Deliveries and learnings for `who` of this number of places of each of the first originators.
 abbrev pub of_originators : ℕ → ℕ → ℕ → List Step
 of_originators who places zero = []
 of_originators who places (suc from) = of_places who from places ++ of_originators who places from
 
--- the first participants, by number, are told of so many places of each of so many originators
+-- Deliveries and learnings for the first participants, of this number of places of each of this
+-- number of originators.
 abbrev pub of_participants : ℕ → ℕ → ℕ → List Step
 of_participants originators places zero = []
 of_participants originators places (suc who) =
     of_originators who places originators ++ of_participants originators places who
 
--- a closing: each participant by number is told of each place
+-- A closing: deliveries and learnings for each participant of each place.
 abbrev pub closing : HubSettings → List Step
 closing s = of_participants (participants s) s.places (participants s)
 
+-- `closing` is a closing.
 abbrev pub ThereIsAClosing : Type 0
 ThereIsAClosing = (s : HubSettings) → IsClosing s (closing s)
 
--- a closing decides nothing
+-- A closing decides nothing.
 abbrev pub ClosingDecidesNothing : Type 0
 ClosingDecidesNothing =
     (s : HubSettings) (O : Opening) (L M : List Step) → IsClosing s M → (p : ℕ) (id : List ℕ) →
     outcome s O (M ++ L) p id ≡ outcome s O L p id
 
--- the event is a booking or a forwarding
+-- True if the event is a booking or a forwarding.
 abbrev pub is_told : Event → Bool
 is_told (Forwarded from id cents deadline) = true
 is_told (Booked from id outcome) = true
@@ -79,55 +81,59 @@ is_told (Taken id to cents stamp) = false
 is_told (Fetched count) = false
 is_told Opened = false
 
--- the history K is J and bookings and forwardings after it
+-- The history K extends J by bookings and forwardings.
 pub record OnlyTold (J K : List Event) : Type 0 where
   pub events : List Event
   pub appended : K ≡ J ++ events
   pub told : AllByRecursion (λ event. is_told event ≡ true) events
 
+-- A closing adds only bookings and forwardings.
 abbrev pub ClosingOnlyTells : Type 0
 ClosingOnlyTells = (s : HubSettings) (O : Opening) (L M : List Step) → IsClosing s M → (p : ℕ) →
     OnlyTold (history s O L p) (history s O (M ++ L) p)
 
--- after a closing each history is one that a participant can have, and together they are closed
+-- Each history is sound, and together they are closed.
 pub record AreClosed (s : HubSettings) (J : ℕ → List Event) : Type 0 where
   pub sound : (p : ℕ) → IsSound s p (J p)
   pub closed : BooksAreClosed s J
 
+-- After a closing the histories are sound and closed.
 abbrev pub ClosingCloses : Type 0
 ClosingCloses =
     (s : HubSettings) (O : Opening) → IsOpening s O → (L M : List Step) → IsInterleaving s L →
     IsClosing s M → AreClosed s (history s O (M ++ L))
 
--- no step that tells adds anything any more
+-- No further delivery or learning adds anything.
 abbrev pub NothingIsLeftToTell : HubSettings → Opening → List Step → Type 0
 NothingIsLeftToTell s O L =
     (step : Step) → is_telling step ≡ true → step_fits s step ≡ true → (p : ℕ) →
     history s O (step ∷ L) p ≡ history s O L p
 
+-- After a closing nothing is left to deliver or to learn.
 abbrev pub ClosingLeavesNothingToTell : Type 0
 ClosingLeavesNothingToTell =
     (s : HubSettings) (O : Opening) → IsOpening s O → (L M : List Step) → IsInterleaving s L →
     IsClosing s M → NothingIsLeftToTell s O (M ++ L)
 
--- wherever nothing is left to tell the books are closed, whatever steps led there
+-- If no delivery or learning would add anything, the books are closed, whatever steps led there.
 abbrev pub NothingLeftIsClosed : Type 0
 NothingLeftIsClosed =
     (s : HubSettings) (O : Opening) → IsOpening s O → (L : List Step) → IsInterleaving s L →
     NothingIsLeftToTell s O L → AreClosed s (history s O L)
 
--- after a closing nothing is untold, and the positions sum to the net funding
+-- Nothing is untold, and the positions sum to the net funding.
 pub record IsSettledUp (s : HubSettings) (O : Opening) (L : List Step) : Type 0 where
   pub all_told : untold s O L ≡ 0
   pub sum : pos (sum_over_participants s (λ p. position (history s O L p)))
       ≡ signed_total s (λ p. net (history s O L p))
 
+-- After a closing `IsSettledUp` holds.
 abbrev pub ClosingSettlesUp : Type 0
 ClosingSettlesUp =
     (s : HubSettings) (O : Opening) → IsOpening s O → (L M : List Step) → IsInterleaving s L →
     IsClosing s M → IsSettledUp s O (M ++ L)
 
--- whoever closes once more finds nothing to do
+-- A second closing adds nothing.
 abbrev pub ClosingAgainAddsNothing : Type 0
 ClosingAgainAddsNothing =
     (s : HubSettings) (O : Opening) → IsOpening s O → (L M N : List Step) → IsInterleaving s L →

@@ -1,6 +1,6 @@
--- No money is made or lost: positions sum to the net funding and what is untold, which is still
--- reserved at its originators; and where each decided transfer is booked by its originator, to the
--- net funding alone. Nobody is ever overdrawn. This hub's own promise.
+-- No money is made or lost. Positions sum to the net funding plus what is untold, which is still
+-- reserved at its originators; once each originator has booked its decided transfers, they sum to
+-- the net funding alone. No participant is ever overdrawn. A promise of this hub.
 use Rattle.std.specs.Prelude.{◌≡◌, ℕ, ◌+◌, ◌≤◌, pos, ◌+ℤ◌, true, List, Some, is_some, Contains}
 use Rattle.inst_settings.specs.Settings.{HubSettings}
 use Rattle.inst_command.specs.declared.outcome.Outcome.{Outcome}
@@ -16,14 +16,15 @@ use Rattle.inst_model.specs.Hub.{outcome, history}
 use Rattle.inst_model.specs.Untold.{sum_over_participants, signed_total, if_untold, untold_by}
 use Rattle.inst_model.specs.Untold.{untold}
 
--- the originator of each decided transfer has booked it
+-- The originator of each decided transfer has booked it.
 abbrev pub AllTold : HubSettings → Opening → List Step → Type 0
 AllTold s O L =
     (p : ℕ) (id : List ℕ) (o : Outcome) → outcome s O L p id ≡ Some o →
     is_some (booked p id (history s O L p)) ≡ true
 
+-- The sums after these steps, and what they say of each participant.
 pub record IsConserved (s : HubSettings) (O : Opening) (L : List Step) : Type 0 where
-  -- without a subtraction
+  -- The sum without a subtraction.
   pub sum : sum_over_participants s (λ p. position (history s O L p))
       + sum_over_participants s (λ p. defunded (history s O L p))
       ≡ sum_over_participants s (λ p. funded (history s O L p)) + untold s O L
@@ -39,6 +40,7 @@ pub record IsConserved (s : HubSettings) (O : Opening) (L : List Step) : Type 0 
       ≤ reservation (history s O L p) (Taken id to cents stamp)
   pub never_overdrawn : (p : ℕ) → IsNeverOverdrawn (history s O L p)
 
+-- The law: `IsConserved` after any interleaving.
 abbrev pub MoneyIsConserved : Type 0
 MoneyIsConserved =
     (s : HubSettings) (O : Opening) → IsOpening s O → (L : List Step) → IsInterleaving s L →

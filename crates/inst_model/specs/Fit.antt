@@ -1,7 +1,7 @@
--- When the books of all participants agree with one another: what is forwarded was taken, both
--- sides book the same, and nobody pays what wasn't received (EPC004-16, chapter 4: both
--- participants are told one outcome). They are closed once all that is decided is booked by both
--- sides. This hub's own choice.
+-- The books of all participants fit: a forwarded transfer was taken, no two books have different
+-- outcomes of a transfer, and nobody pays what wasn't received (EPC004-16, chapter 4: both
+-- participants are told one outcome). They are closed if also each side that has the transfer has
+-- booked its outcome, and each pending transfer is forwarded. The last is a choice of this hub.
 use Rattle.std.specs.Prelude.{◌≡◌, ℕ, List, Contains}
 use Rattle.inst_base.specs.TimeLimit.{deadline_of}
 use Rattle.inst_settings.specs.Settings.{HubSettings}
@@ -10,7 +10,7 @@ use Rattle.inst_command.specs.declared.outcome.Outcome.TheVariants.{Accepted}
 use Rattle.inst_journal.specs.declared.event.Event.{Event}
 use Rattle.inst_journal.specs.declared.event.Event.TheVariants.{Taken, Forwarded, Booked}
 
--- J p is the history of p
+-- The histories J p of the participants p fit.
 pub record BooksFit (s : HubSettings) (J : ℕ → List Event) : Type 0 where
   pub forwarded_is_taken : (p from : ℕ) (id : List ℕ) (cents deadline : ℕ) →
       Contains (J p) (Forwarded from id cents deadline) →
@@ -22,6 +22,8 @@ pub record BooksFit (s : HubSettings) (J : ℕ → List Event) : Type 0 where
       Contains (J from) (Taken id to cents stamp) → Contains (J from) (Booked from id Accepted) →
       Contains (J to) (Booked from id Accepted)
 
+-- The histories fit; of each outcome that a book has, the originator has booked it, and the
+-- beneficiary if the transfer was forwarded to it; and each pending transfer is forwarded.
 pub record BooksAreClosed (s : HubSettings) (J : ℕ → List Event) : Type 0 where
   pub fit : BooksFit s J
   pub originator_booked : (from : ℕ) (id : List ℕ) (to cents stamp p : ℕ) (outcome : Outcome) →

@@ -1,6 +1,6 @@
--- What an ask finds of a transfer: the outcome after the ask, for a confirmation or rejection of a
--- transfer that was forwarded to the asker, and for an investigation of one that the asker has
--- taken (EPC004-16, chapter 4: processing flow). Else it finds none.
+-- The outcome that an ask finds of a transfer: the one after the ask, for a confirmation or
+-- rejection of a transfer that was forwarded to the asker, and for an investigation of one that the
+-- asker has taken (EPC004-16, chapter 4: processing flow). Otherwise it finds none.
 use Rattle.std.specs.Prelude.{ℕ, if◌then◌else◌, List, Option, None}
 use Rattle.inst_command.specs.declared.command.Command.{Command}
 use Rattle.inst_command.specs.declared.command.Command.TheVariants.{Fund, Defund, Submit, Confirm}
@@ -10,7 +10,7 @@ use Rattle.inst_command.specs.declared.outcome.Outcome.{Outcome}
 use Rattle.inst_journal.specs.declared.event.Event.{Event}
 use Rattle.inst_journal.specs.Booked.{is_forwarded, is_taken}
 
--- what a command of `who`, whose history is J, finds among the outcomes after it
+-- The outcome that a command of `who`, whose history is J, finds among the outcomes after it.
 abbrev pub found : (ℕ → List ℕ → Option Outcome) → ℕ → List Event → Command → Option Outcome
 found after who J (Confirm from id) = if is_forwarded from id J then after from id else None
 found after who J (Reject from id reason) = if is_forwarded from id J then after from id else None

@@ -1,7 +1,7 @@
--- The whole hub over a list of steps, the newest in front: what each participant sees, its history,
--- and the outcome of each transfer, which is what the first step wants that wants something. One
--- outcome for both sides is the scheme's (EPC004-16, chapters 3 and 4); the steps, and that the
--- first one decides, are this hub's own choice.
+-- The whole hub over a list of steps, newest first: the view of each participant, its history, and
+-- the outcome of each transfer, which the first step that gives one decides. One outcome for both
+-- sides is the scheme's (EPC004-16, chapters 3 and 4); the steps, and that the first one decides,
+-- are a choice of this hub.
 use Rattle.std.specs.Prelude.{ℕ, List, [], ◌∷◌, ◌++◌, Option, Some, None}
 use Rattle.inst_settings.specs.Settings.{HubSettings}
 use Rattle.inst_command.specs.declared.outcome.Outcome.{Outcome}
@@ -14,13 +14,13 @@ use Rattle.inst_model.specs.Wants.{wants}
 use Rattle.inst_model.specs.View.{Seen, sees}
 use Rattle.inst_model.specs.Kept.{history_of}
 
--- the outcome of a transfer after a step
+-- The outcome of a transfer after a step.
 abbrev pub decided : HubSettings → (ℕ → List Event) → (ℕ → List ℕ → Option Outcome) → Step → ℕ →
     List ℕ → Option Outcome
 decided s J before step p id = or_else (before p id) (wants s J step p id)
 
 abbrev mutual
-  -- what the participant p sees
+  -- The view of the participant p: the entries that it sees.
   pub view : HubSettings → Opening → List Step → ℕ → List Seen
   view s O [] p = []
   view s O (step ∷ past) p =
@@ -28,20 +28,21 @@ abbrev mutual
       ++ sees s (λ q. history_of s O q (view s O past q)) (outcome s O past)
       (decided s (λ q. history_of s O q (view s O past q)) (outcome s O past) step) step p
 
-  -- the outcome of the transfer with this identifier of the originator p
+  -- The outcome of the transfer with this identifier of the originator p.
   pub outcome : HubSettings → Opening → List Step → ℕ → List ℕ → Option Outcome
   outcome s O [] p id = booked p id (beginning O p)
   outcome s O (step ∷ past) p id =
       decided s (λ q. history_of s O q (view s O past q)) (outcome s O past) step p id
 
--- the history of the participant p
+-- The history of the participant p.
 abbrev pub history : HubSettings → Opening → List Step → ℕ → List Event
 history s O L p = history_of s O p (view s O L p)
 
+-- The outcome of the transfer, if there is one.
 abbrev pub outcome_of : HubSettings → Opening → List Step → ℕ → Option Transfer → Option Outcome
 outcome_of s O L p None = None
 outcome_of s O L p (Some x) = outcome s O L p x.id
 
--- the outcome of the transfer at this place of the originator p
+-- The outcome of the transfer at this place of the originator p.
 abbrev pub outcome_at : HubSettings → Opening → List Step → ℕ → ℕ → Option Outcome
 outcome_at s O L p index = outcome_of s O L p (at_place p (history s O L p) index)

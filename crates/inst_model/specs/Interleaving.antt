@@ -1,5 +1,6 @@
--- An interleaving: any list of steps of a hub with these settings, the newest in front. Readings
--- needn't rise, and nobody needs to ask, deliver or learn in any order: this hub's own choice.
+-- An interleaving: any list of steps that fit the settings, newest first; `World::run` and
+-- `Books::interleaving` have steps oldest first. Clock readings needn't rise, and commands,
+-- deliveries and learnings may come in any order. A choice of this hub.
 use Rattle.std.specs.Prelude.{◌≡◌, true, List}
 use Rattle.std.specs.List.{AllByRecursion}
 use Rattle.inst_settings.specs.Settings.{HubSettings}

@@ -1,6 +1,6 @@
--- What a participant can tell of the others: nothing but what it sees. Two lists of steps, of any
--- lengths, in which a participant sees the same in the same order give it the same replies,
--- history, money and statement: this hub's own promise.
+-- Isolation: a participant gets nothing from other traffic beyond what it sees. Two lists of steps,
+-- of any lengths, in which a participant begins with the same history and sees the same in the same
+-- order give it the same replies, history, money and statement. A promise of this hub.
 use Rattle.std.specs.Prelude.{◌≡◌, ℕ, List}
 use Rattle.inst_settings.specs.Settings.{HubSettings}
 use Rattle.inst_model.specs.Opening.{Opening, beginning}
@@ -10,7 +10,7 @@ use Rattle.inst_journal.specs.Statement.{statement}
 use Rattle.inst_model.specs.Hub.{view, history}
 use Rattle.inst_model.specs.Trace.{replies}
 
--- p gets the same of both lists of steps
+-- The participant p gets the same of both lists of steps.
 pub record SameFor (s : HubSettings) (O P : Opening) (L M : List Step) (p : ℕ) : Type 0 where
   pub same_replies : replies s O L p ≡ replies s P M p
   pub same_history : history s O L p ≡ history s P M p
@@ -19,6 +19,7 @@ pub record SameFor (s : HubSettings) (O P : Opening) (L M : List Step) (p : ℕ)
   pub same_available : available (history s O L p) ≡ available (history s P M p)
   pub same_statement : statement (history s O L p) ≡ statement (history s P M p)
 
+-- The law: equal beginnings and equal views give the same.
 abbrev pub EqualViewsGiveEqualReplies : Type 0
 EqualViewsGiveEqualReplies = (s : HubSettings) (O P : Opening) (L M : List Step) (p : ℕ) →
     beginning O p ≡ beginning P p → view s O L p ≡ view s P M p → SameFor s O P L M p

@@ -1,7 +1,7 @@
--- What each side is told (EPC004-16, chapter 4: both participants are told one outcome): a party
--- that learns of a decided transfer or asks after it has it booked, an originator whose transfer
--- expires has it booked, and what is pending comes to its beneficiary, which nothing does that is
--- decided. That each is a step of its own is this hub's own choice.
+-- The outcomes that each side books (EPC004-16, chapter 4: both participants are told one outcome).
+-- A party that learns of a decided transfer or asks for it books the outcome, as does an originator
+-- whose transfer expires. A pending transfer that is delivered comes to its beneficiary; a decided
+-- one is not delivered. Making each a separate step is a choice of this hub.
 use Rattle.std.specs.Prelude.{◌≡◌, ◌⊎◌, ℕ, true, false, List, ◌∷◌, Some, None}
 use Rattle.inst_settings.specs.Settings.{HubSettings}
 use Rattle.inst_command.specs.declared.ask.Ask.{Ask as AskValue}
@@ -19,7 +19,7 @@ use Rattle.inst_model.specs.Transfer.{Transfer, at_place}
 use Rattle.inst_model.specs.Hub.{outcome, history}
 use Rattle.inst_model.specs.Trace.{answer, is_seen}
 
--- a party that learns of a decided transfer has its outcome booked
+-- A party that learns of a decided transfer has its outcome booked.
 abbrev pub LearningBooks : Type 0
 LearningBooks =
     (s : HubSettings) (O : Opening) → IsOpening s O →
@@ -28,7 +28,7 @@ LearningBooks =
     (who ≡ p) ⊎ (is_forwarded p x.id (history s O past who) ≡ true) →
     booked p x.id (history s O (Learn who p index ∷ past) who) ≡ Some o
 
--- an originator whose transfer is decided by its expiry, or was before, has the outcome booked
+-- An originator whose transfer is decided by its expiry, or was before, has the outcome booked.
 abbrev pub ExpiryBooks : Type 0
 ExpiryBooks =
     (s : HubSettings) (O : Opening) → IsOpening s O →
@@ -37,14 +37,14 @@ ExpiryBooks =
     outcome s O (Expire p index at ∷ past) p x.id ≡ Some o →
     booked p x.id (history s O (Expire p index at ∷ past) p) ≡ Some o
 
--- a pending transfer that is delivered has come to its beneficiary
+-- A pending transfer that is delivered has come to its beneficiary.
 abbrev pub DeliveryForwards : Type 0
 DeliveryForwards =
     (s : HubSettings) (O : Opening) (past : List Step) (p index : ℕ) (x : Transfer) →
     at_place p (history s O past p) index ≡ Some x → outcome s O past p x.id ≡ None →
     is_forwarded p x.id (history s O (Deliver p index x.to ∷ past) x.to) ≡ true
 
--- nothing decided is delivered
+-- A decided transfer is not delivered.
 abbrev pub NothingDecidedIsDelivered : Type 0
 NothingDecidedIsDelivered =
     (s : HubSettings) (O : Opening) (past : List Step) (p index q : ℕ) (x : Transfer) (o : Outcome)
@@ -52,8 +52,7 @@ NothingDecidedIsDelivered =
     at_place p (history s O past p) index ≡ Some x → outcome s O past p x.id ≡ Some o →
     is_seen s O past (Deliver p index q) q ≡ false
 
--- once the ask is answered the transfer has this outcome, and then the asker is answered it and has
--- it booked
+-- If the transfer has this outcome after the ask, the asker gets it in the reply and has it booked.
 abbrev pub IsTold : HubSettings → Opening → List Step → ℕ → Command → ℕ → ℕ → List ℕ → Outcome →
     Type 0
 IsTold s O past who command at from id o =
@@ -62,8 +61,8 @@ IsTold s O past who command at from id o =
     (answer s O past (Ask ask) ≡ Reply (State from id (Decided o)))
     × (booked from id (history s O (Ask ask ∷ past) who) ≡ Some o)
 
--- a beneficiary that confirms or rejects what has come to it, and an originator that investigates
--- what it has taken
+-- `IsTold` for a beneficiary that confirms or rejects a forwarded transfer, and for an originator
+-- that investigates a taken one.
 pub record EachPartyIsTold (s : HubSettings) (O : Opening) (past : List Step) (who at : ℕ)
     (o : Outcome) : Type 0 where
   pub confirmed : (from : ℕ) (id : List ℕ) → is_forwarded from id (history s O past who) ≡ true →
@@ -74,6 +73,7 @@ pub record EachPartyIsTold (s : HubSettings) (O : Opening) (past : List Step) (w
   pub investigated : (id : List ℕ) → is_taken id (history s O past who) ≡ true →
       IsTold s O past who (Investigate id) at who id o
 
+-- The law: `EachPartyIsTold` after any steps.
 abbrev pub AskingTells : Type 0
 AskingTells =
     (s : HubSettings) (O : Opening) → IsOpening s O →

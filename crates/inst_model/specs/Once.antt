@@ -1,6 +1,6 @@
--- Money is settled or released at most once (EPC004-16, chapter 4: one settlement a transfer): no
--- history books a transfer twice; the originator's amount is reserved until it has booked, then
--- debited or free; the beneficiary is credited exactly if it has booked accepted.
+-- Money is settled or released at most once (EPC004-16, chapter 4: one settlement a transfer). No
+-- history books a transfer twice; the originator's amount is reserved until it has booked the
+-- outcome, then debited or free; the beneficiary is credited exactly if it has booked `Accepted`.
 use Rattle.std.specs.Prelude.{◌≡◌, ◌≢◌, ℕ, ◌≤◌, List, Some, None, count_by, is_some, Contains}
 use Rattle.inst_settings.specs.Settings.{HubSettings}
 use Rattle.inst_command.specs.declared.outcome.Outcome.{Outcome}
@@ -15,7 +15,7 @@ use Rattle.inst_model.specs.Interleaving.{IsInterleaving}
 use Rattle.inst_model.specs.Opening.{Opening, IsOpening}
 use Rattle.inst_model.specs.Hub.{history}
 
--- J is the history of p
+-- The history J of p settles each transfer at most once.
 pub record IsSettledOnce (p : ℕ) (J : List Event) : Type 0 where
   pub booked_once : (from : ℕ) (id : List ℕ) →
       count_by (λ event. is_some (books from id event)) J ≤ 1
@@ -39,6 +39,7 @@ pub record IsSettledOnce (p : ℕ) (J : List Event) : Type 0 where
       Contains J (Forwarded from id cents deadline) →
       booked from id J ≢ Some Accepted → credit J (Forwarded from id cents deadline) ≡ 0
 
+-- The law: `IsSettledOnce` after any interleaving.
 abbrev pub MoneyIsSettledOnce : Type 0
 MoneyIsSettledOnce =
     (s : HubSettings) (O : Opening) → IsOpening s O → (L : List Step) → IsInterleaving s L →

@@ -14,7 +14,7 @@ use Rattle.inst_journal.specs.declared.event.Event.TheVariants.{Booked}
 use Rattle.inst_model.specs.Hub.{outcome, history}
 use Rattle.inst_model.specs.Trace.{answer}
 
--- an ask that is answered an outcome is answered the transfer's
+-- An outcome in the reply to an ask is the transfer's.
 abbrev pub AnsweredIsTheOutcome : Type 0
 AnsweredIsTheOutcome =
     (s : HubSettings) (O : Opening) → IsOpening s O →
@@ -22,14 +22,14 @@ AnsweredIsTheOutcome =
     answer s O past (Ask ask) ≡ Reply (State from id (Decided o)) →
     outcome s O (Ask ask ∷ past) from id ≡ Some o
 
--- each outcome that a side has booked is the transfer's
+-- An outcome that a side has booked is the transfer's.
 abbrev pub BookedIsTheOutcome : Type 0
 BookedIsTheOutcome =
     (s : HubSettings) (O : Opening) → IsOpening s O →
     (L : List Step) (p from : ℕ) (id : List ℕ) (o : Outcome) →
     Contains (history s O L p) (Booked from id o) → outcome s O L from id ≡ Some o
 
--- an outcome is the same after every longer list of steps, the newest in front
+-- An outcome is the same after every longer list of steps, newest first.
 abbrev pub OutcomeStays : Type 0
 OutcomeStays =
     (s : HubSettings) (O : Opening) (later past : List Step) (from : ℕ) (id : List ℕ) (o : Outcome)

@@ -1,6 +1,6 @@
--- The scripts of the worked rows and their short forms: steps in the order in which they happen, at
--- a hub of three participants with two places and four fundings each, a time limit of ten seconds,
--- and time stamps at most one second ahead. This hub's own choice.
+-- The scripts of the worked rows and short forms of them: steps in the order in which they happen,
+-- at a hub of three participants with two places and four fundings each, a time limit of ten
+-- seconds, and time stamps at most one second ahead. A choice of this hub.
 use Rattle.std.specs.Prelude.{ℕ, Bool, List, [], ◌∷◌, ◌++◌, reverse, codes}
 use Rattle.inst_base.specs.declared.fault.Fault.{Fault}
 use Rattle.inst_settings.specs.Settings.{HubSettings}
@@ -41,7 +41,7 @@ investigate_step who id at = asks who (Investigate id) at
 abbrev pub position_step : ℕ → ℕ → Step
 position_step who at = asks who (Query Position) at
 
--- who sees it, the originator, the place
+-- The participant that sees it, the originator, and the place.
 abbrev pub deliver : ℕ → ℕ → ℕ → Step
 deliver to from index = Deliver from index to
 
@@ -70,29 +70,29 @@ answer_of_fault fault = Reply (Refused fault)
 abbrev pub is_new : Bool → Answer
 is_new new = New new
 
--- the answers to a script
+-- The answers to a script.
 abbrev pub script_answers : List Step → List Answer
 script_answers script = trace settings First (reverse script)
 
--- the same hub with a margin of two seconds, and the answers there
+-- The same hub with a margin of two seconds, and the answers there.
 abbrev pub settings_with_margin : HubSettings
 settings_with_margin = record settings { margin = 2000 }
 
 abbrev pub answers_with_margin : List Step → List Answer
 answers_with_margin script = trace settings_with_margin First (reverse script)
 
--- A is funded and submits a transfer to B
+-- A is funded and submits a transfer to B.
 abbrev pub submitted_steps : List Step
 submitted_steps =
     fund_step A (codes "F1") 50000 0
     ∷ submit_step A (codes "T1") B 20000 1000 1000
     ∷ []
 
--- and the transfer comes to B
+-- Then the transfer is delivered to B.
 abbrev pub delivered : List Step
 delivered = submitted_steps ++ deliver B A 0 ∷ []
 
--- the positions of A and B
+-- The positions of A and B.
 abbrev pub positions : ℕ → List Step
 positions at = position_step A at ∷ position_step B at ∷ []
 
@@ -105,7 +105,7 @@ abbrev pub expire_before_confirm : List Step
 expire_before_confirm =
     delivered ++ expire A 0 11000 ∷ confirm_step B A (codes "T1") 10999 ∷ positions 11000
 
--- B has confirmed, and A doesn't know yet
+-- B has confirmed, and A hasn't learnt of it yet.
 abbrev pub untold_yet : List Step
 untold_yet = delivered ++ confirm_step B A (codes "T1") 2000 ∷ []
 
@@ -114,7 +114,7 @@ untold_then_learnt =
     untold_yet ++ position_step A 2000 ∷ position_step B 2000 ∷ learn A A 0 ∷ position_step A 2000
     ∷ []
 
--- what B asks beside other traffic
+-- A fetch of B with other traffic.
 abbrev pub fetch_B : Step
 fetch_B = asks B (Fetch 10) 1500
 
@@ -212,7 +212,7 @@ learnt_twice =
     ∷ position_step A 2000
     ∷ []
 
--- an expiry and a rejection one millisecond before the deadline, and at it
+-- An expiry and a rejection one millisecond before the deadline, and at it.
 abbrev pub on_either_side : List Step
 on_either_side =
     delivered
@@ -224,7 +224,7 @@ on_either_side =
     ∷ expire A 1 11000
     ∷ []
 
--- four fundings, and then a reference that is kept with other cents, and one that isn't
+-- Four fundings, then a kept reference with another amount, and a new one.
 abbrev pub fundings_full : List Step
 fundings_full =
     fund_step A (codes "F1") 1 0
@@ -236,7 +236,7 @@ fundings_full =
     ∷ fund_step A (codes "F4") 1 0
     ∷ []
 
--- two transfers come to B, in another order than they were taken
+-- Two transfers are delivered to B, in another order than they were taken.
 abbrev pub a_page_of_two : List Step
 a_page_of_two =
     submitted_steps
@@ -247,7 +247,7 @@ a_page_of_two =
     ∷ asks B (Fetch 2) 1500
     ∷ []
 
--- confirmations at a margin of two seconds
+-- Confirmations with a margin of two seconds.
 abbrev pub margin_confirmed_before : List Step
 margin_confirmed_before = delivered ++ confirm_step B A (codes "T1") 8999 ∷ []
 
@@ -267,14 +267,14 @@ margin_then_timed_out =
 abbrev pub margin_after_expire : List Step
 margin_after_expire = delivered ++ expire A 0 11000 ∷ confirm_step B A (codes "T1") 9500 ∷ []
 
--- the books that a script leaves, and the answers at the next opening
+-- The books that a script leaves, and the answers at the next opening.
 abbrev pub books_after : List Step → ℕ → List Event
 books_after script p = history settings First (reverse script) p
 
 abbrev pub answers_from : List Step → List Step → List Answer
 answers_from before script = trace settings (FromBooks (books_after before)) (reverse script)
 
--- A's transfer is pending when the hub closes, and goes on at the next opening
+-- A's transfer is pending when the hub closes, and is confirmed at the next opening.
 abbrev pub carried_over_an_opening : List Step
 carried_over_an_opening =
     position_step A 1002
@@ -286,7 +286,7 @@ carried_over_an_opening =
     ∷ asks A (Query (Statement 0 10)) 2000
     ∷ []
 
--- A has an accepted and a pending transfer when the hub closes, and two places
+-- A has an accepted and a pending transfer when the hub closes, and two places.
 abbrev pub one_settled : List Step
 one_settled =
     fund_step A (codes "F1") 50000 0

@@ -1,5 +1,5 @@
--- After any interleaving each history is one that a participant can have, and the histories fit one
--- another: this hub's own promise.
+-- After any interleaving each history is sound, and the histories fit each other. A promise of this
+-- hub.
 use Rattle.std.specs.Prelude.{ℕ, List}
 use Rattle.inst_settings.specs.Settings.{HubSettings}
 use Rattle.inst_command.specs.declared.step.Step.{Step}

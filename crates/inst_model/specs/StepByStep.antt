@@ -1,6 +1,6 @@
--- The whole hub step by step: the first step that wants something decides; a participant sees at
--- most one entry of a step, made of what was before it and of the outcomes after it. This hub's own
--- choice.
+-- The whole hub step by step: the first step that gives an outcome decides; a participant sees at
+-- most one entry of a step, made of the state before it and the outcomes after it. A choice of this
+-- hub.
 use Rattle.std.specs.Prelude.{◌≡◌, ℕ, ◌≤◌, List, ◌∷◌, ◌++◌, length, reverse}
 use Rattle.inst_settings.specs.Settings.{HubSettings}
 use Rattle.inst_model.specs.Opening.{Opening}
@@ -27,7 +27,7 @@ abbrev pub AtMostOneEntryIsSeen : Type 0
 AtMostOneEntryIsSeen = (s : HubSettings) (O : Opening) (step : Step) (past : List Step) (p : ℕ) →
     length (sees s (history s O past) (outcome s O past) (outcome s O (step ∷ past)) step p) ≤ 1
 
--- each step has one answer, and the replies to p are those to its asks
+-- Each step has one answer, and the replies to p are the answers to its asks.
 abbrev pub RepliesAreInTheTrace : Type 0
 RepliesAreInTheTrace = (s : HubSettings) (O : Opening) (L : List Step) (p : ℕ) →
     (length (trace s O L) ≡ length L) × (own_answers p (reverse L) (trace s O L) ≡ replies s O L p)

@@ -1,4 +1,5 @@
 //! The laws of all participants together, over every list of steps, of any length and in any order.
+//! Each is a function without a body whose contract is the law.
 ghost use Rattle.inst_model.specs.Isolation.{EqualViewsGiveEqualReplies};
 ghost use Rattle.inst_model.specs.OneOutcome.{AnsweredIsTheOutcome, BookedIsTheOutcome};
 ghost use Rattle.inst_model.specs.OneOutcome.{OutcomeStays};
@@ -27,7 +28,8 @@ ghost use Rattle.inst_model.specs.NextOpening.{AnOutcomeStaysForGood};
 ghost use Rattle.inst_model.specs.StepByStep.{TheFirstThatWantsDecides, AViewGrowsByWhatIsSeen};
 ghost use Rattle.inst_model.specs.StepByStep.{AtMostOneEntryIsSeen, RepliesAreInTheTrace};
 
-/// The first step that wants something decides, and a participant sees at most one entry of a step.
+/// The first step that gives a transfer an outcome decides it. A participant sees at most one entry
+/// of a step. Each step has one answer.
 pub fn the_hub_goes_step_by_step()
     ensures outcome { TheFirstThatWantsDecides }
     ensures view { AViewGrowsByWhatIsSeen }
@@ -35,33 +37,34 @@ pub fn the_hub_goes_step_by_step()
     ensures replies { RepliesAreInTheTrace }
 {}
 
-/// A participant that sees the same in two interleavings gets the same replies, history, money and
-/// statement.
+/// A participant that begins with the same history and sees the same in two interleavings gets the
+/// same replies, history, money and statement.
 pub fn equal_views_give_equal_replies()
     ensures { EqualViewsGiveEqualReplies }
 {}
 
-/// Whatever a participant is answered or has booked of a transfer is its outcome, which never
-/// changes.
+/// An outcome that a participant gets in a reply or has booked is the transfer's outcome, which
+/// never changes.
 pub fn a_transfer_has_one_outcome()
     ensures answered { AnsweredIsTheOutcome }
     ensures booked { BookedIsTheOutcome }
     ensures stays { OutcomeStays }
 {}
 
-/// An outcome is in time for the reading that decided it.
+/// An outcome is in time for the clock reading that decided it.
 pub fn each_outcome_is_in_time()
     ensures { EachOutcomeIsInTime }
 {}
 
-/// A transfer is accepted by its beneficiary's confirmation alone, rejected by its beneficiary's
-/// rejection alone, and timed out at a step of one of its parties.
+/// Only the beneficiary's confirmation accepts a transfer, and only its rejection rejects it. A
+/// transfer times out at a step of one of its parties.
 pub fn each_outcome_is_a_partys()
     ensures { EachOutcomeIsAPartys }
 {}
 
-/// Who learns has it booked, who asks is told it and has it booked, and what is pending comes to
-/// its beneficiary.
+/// A party that learns of a decided transfer, asks for it or lets it expire has the outcome booked;
+/// one that asks also gets it in the reply. A pending transfer that is delivered has come to its
+/// beneficiary, and a decided one is not delivered.
 pub fn what_is_decided_is_learnt()
     ensures learnt { LearningBooks }
     ensures expired { ExpiryBooks }
@@ -75,35 +78,37 @@ pub fn money_is_settled_once()
     ensures { MoneyIsSettledOnce }
 {}
 
-/// Positions sum to the net funding and what is untold, and nobody is overdrawn.
+/// Positions sum to the net funding plus what is untold, and no participant is overdrawn.
 pub fn money_is_conserved()
     ensures { MoneyIsConserved }
 {}
 
-/// Each history is sound, and they fit one another.
+/// Each history is sound, and the histories fit each other.
 pub fn histories_are_sound_and_fit()
     ensures sound { HistoriesAreSound }
     ensures fit { HistoriesFit }
 {}
 
-/// The outcome of a transfer depends on the steps on it alone, whatever its place.
+/// The outcome of a transfer depends only on the steps on it, whatever its place.
 pub fn an_outcome_is_local()
     ensures { OutcomeIsLocal }
 {}
 
-/// A place and an identifier name a transfer alike, and for good.
+/// A place and an identifier name the same live transfer, and a place keeps its transfer as long as
+/// the hub is open.
 pub fn a_name_is_for_good()
     ensures places { PlacesName }
     ensures identifiers { IdentifiersName }
 {}
 
-/// Books that are sound and closed, however they came about, sum to the net funding.
+/// The positions of books that are sound and closed, however they came about, sum to the net
+/// funding.
 pub fn closed_books_sum_to_the_net()
     ensures { ClosedBooksSumToTheNet }
 {}
 
-/// A hub begins from its books: nothing is untold, each statement is empty, and the money is the
-/// books'.
+/// A hub that is opened begins from its books: nothing is untold, each statement is empty, and the
+/// money is that of the books.
 pub fn an_opening_begins_from_its_books()
     ensures { AnOpeningBeginsFromItsBooks }
 {}
@@ -113,14 +118,15 @@ pub fn the_live_have_their_places()
     ensures { TheLiveHaveTheirPlaces }
 {}
 
-/// What is live is the same on both sides; at an opening all that is live has come, and is pending.
+/// A forwarded transfer is live on both sides or on neither. At an opening each live transfer is
+/// forwarded and pending.
 pub fn the_live_are_the_same_on_both_sides()
     ensures both { TheLiveAreTheSameOnBothSides }
     ensures at_an_opening { AtAnOpeningTheLiveHaveCome }
 {}
 
-/// A closing tells everyone what there is to be told and decides nothing; the books are then sound
-/// and closed.
+/// A closing forwards and books all that is left, and decides nothing. Afterwards the books are
+/// sound and closed.
 pub fn a_closing_closes_the_books()
     ensures there_is_one { ThereIsAClosing }
     ensures closes { ClosingCloses }

@@ -1,4 +1,4 @@
-//! Worked rows, computed from the definitions.
+//! Worked scripts, computed from the definitions.
 ghost use Rattle.std.specs.Prelude.{◌≡◌, pos, true, false, [], ◌∷◌, Some, reverse, codes};
 ghost use Rattle.inst_base.specs.declared.fault.Fault.{Fault};
 ghost use Rattle.inst_command.specs.declared.line.LineKind.{LineKind};
@@ -32,7 +32,7 @@ ghost use Rattle.inst_model.specs.Rows.{margin_then_timed_out, margin_after_expi
 ghost use Rattle.inst_model.specs.Rows.{carried_over_an_opening, delivered};
 ghost use Rattle.inst_model.specs.Rows.{one_settled, places_given_back};
 
-/// A confirmation just in time stands, though the deadline passes before the originator learns of
+/// A confirmation just in time counts, though the deadline passes before the originator learns of
 /// it.
 pub fn confirm_before_expire()
     ensures { script_answers confirm_before_expire ≡
@@ -41,7 +41,8 @@ pub fn confirm_before_expire()
         ∷ is_position 30000 0 30000 ∷ is_position 20000 0 20000 ∷ [] }
 {}
 
-/// A time-out that comes first stands against a confirmation with an earlier reading.
+/// A time-out that comes first counts, and a later confirmation with an earlier clock reading
+/// doesn't.
 pub fn expire_before_confirm()
     ensures answers { script_answers expire_before_confirm ≡
         is_done (codes "F1") ∷ answer_of_taken (codes "T1") 11000 ∷ is_new true ∷ is_new true
@@ -68,7 +69,7 @@ pub fn untold_then_learnt()
     ensures learnt { untold settings First (reverse untold_then_learnt) ≡ 0 }
 {}
 
-/// What B is answered is the same beside the traffic of others.
+/// The replies to B are the same with and without the traffic of others.
 pub fn other_traffic_unseen()
     ensures alone { replies settings First (reverse alone) B ≡
         Answer.Reply (Reply.Inbox (record {
@@ -92,8 +93,8 @@ pub fn other_traffic_unseen()
         ≡ replies settings First (reverse alone) B }
 {}
 
-/// A transfer comes once, to its beneficiary; a time stamp may lie one second after the reading and
-/// no more.
+/// A transfer is delivered once, to its beneficiary. A time stamp may be one second after the clock
+/// reading and no more.
 pub fn wrong_deliveries_and_stamp_ahead()
     ensures { script_answers wrong_deliveries_and_stamp_ahead ≡
         is_done (codes "F1") ∷ answer_of_taken (codes "T1") 11000 ∷ is_new true
@@ -101,7 +102,7 @@ pub fn wrong_deliveries_and_stamp_ahead()
         ∷ answer_of_fault Fault.StampAhead ∷ answer_of_taken (codes "T2") 12000 ∷ [] }
 {}
 
-/// A transfer that timed out isn't forwarded any more.
+/// A transfer that has timed out is no longer forwarded.
 pub fn expired_before_delivery()
     ensures { script_answers expired_before_delivery ≡
         is_done (codes "F1") ∷ answer_of_taken (codes "T1") 11000 ∷ is_new true ∷ is_new false
@@ -116,21 +117,21 @@ pub fn confirmed_late()
         ∷ is_position 50000 0 50000 ∷ is_position 0 0 0 ∷ [] }
 {}
 
-/// A beneficiary can't confirm what hasn't come to it, and the transfer goes on as if it hadn't
-/// tried.
+/// A beneficiary can't confirm a transfer that wasn't forwarded to it, and the attempt has no
+/// effect.
 pub fn confirmed_before_delivery()
     ensures { script_answers confirmed_before_delivery ≡
         is_done (codes "F1") ∷ answer_of_taken (codes "T1") 11000 ∷ answer_of_fault Fault.UnknownTransfer
         ∷ is_state A (codes "T1") State.Pending ∷ is_new true ∷ [] }
 {}
 
-/// An expiry of a place that is taken later wants nothing.
+/// An expiry of a place before its submission has no effect.
 pub fn expired_before_taken()
     ensures { script_answers expired_before_taken ≡
         is_done (codes "F1") ∷ is_new false ∷ answer_of_taken (codes "T1") 11000 ∷ is_new true ∷ [] }
 {}
 
-/// An expiry times out the transfer at its place and no other.
+/// An expiry times out only the transfer at its place.
 pub fn one_of_two_expired()
     ensures { script_answers one_of_two_expired ≡
         is_done (codes "F1") ∷ answer_of_taken (codes "T1") 11000 ∷ answer_of_taken (codes "T2") 11000
@@ -139,7 +140,7 @@ pub fn one_of_two_expired()
         ∷ is_state A (codes "T2") State.Pending ∷ [] }
 {}
 
-/// A rejection stands, with its reason, and frees the amount.
+/// A rejection decides, with its reason, and frees the amount.
 pub fn rejected_with_reason()
     ensures answers { script_answers rejected_with_reason ≡
         is_done (codes "F1") ∷ answer_of_taken (codes "T1") 11000 ∷ is_new true
@@ -152,7 +153,7 @@ pub fn rejected_with_reason()
         ∷ Event.Booked A (codes "T1") (Outcome.Rejected (codes "AC04")) ∷ [] }
 {}
 
-/// An investigation before the deadline leaves the transfer pending, one at the deadline times it
+/// An investigation before the deadline leaves the transfer pending; one at the deadline times it
 /// out.
 pub fn investigate_at_the_deadline()
     ensures { script_answers investigate_at_the_deadline ≡
@@ -162,7 +163,7 @@ pub fn investigate_at_the_deadline()
         ∷ is_position 50000 0 50000 ∷ [] }
 {}
 
-/// A party that the transfer wasn't forwarded to can't confirm it, nor can its originator.
+/// Neither a participant to which the transfer wasn't forwarded nor its originator can confirm it.
 pub fn confirmed_by_another()
     ensures { script_answers confirmed_by_another ≡
         is_done (codes "F1") ∷ answer_of_taken (codes "T1") 11000 ∷ is_new true
@@ -170,7 +171,7 @@ pub fn confirmed_by_another()
         ∷ is_state A (codes "T1") State.Pending ∷ [] }
 {}
 
-/// A second learning changes nothing, nor does that of the beneficiary, who knows.
+/// A second learning changes nothing, nor does one of the beneficiary, which has the outcome.
 pub fn learnt_twice()
     ensures answers { script_answers learnt_twice ≡
         is_done (codes "F1") ∷ answer_of_taken (codes "T1") 11000 ∷ is_new true
@@ -182,8 +183,8 @@ pub fn learnt_twice()
         ∷ Event.Booked A (codes "T1") Outcome.Accepted ∷ [] }
 {}
 
-/// One millisecond before the deadline an expiry does nothing and a rejection stands; at the
-/// deadline a rejection comes too late, and the expiry finds the time-out that it made.
+/// One millisecond before the deadline an expiry does nothing and a rejection counts. At the
+/// deadline a rejection is too late and times the transfer out, and the expiry books that.
 pub fn on_either_side()
     ensures { script_answers on_either_side ≡
         is_done (codes "F1") ∷ answer_of_taken (codes "T1") 11000 ∷ is_new true
@@ -192,15 +193,15 @@ pub fn on_either_side()
         ∷ is_state A (codes "T2") (State.Decided Outcome.TimedOut) ∷ is_new true ∷ [] }
 {}
 
-/// Where all fundings are used, a kept reference with other cents is a duplicate still, a new one
-/// finds no room, and a repeat is answered.
+/// With all fundings used, a kept reference with another amount is still a duplicate, a new one is
+/// refused as full, and a repeat gets its reply.
 pub fn fundings_full()
     ensures { script_answers fundings_full ≡
         is_done (codes "F1") ∷ is_done (codes "F2") ∷ is_done (codes "F3") ∷ is_done (codes "F4")
         ∷ answer_of_fault Fault.Duplicate ∷ answer_of_fault Fault.Full ∷ is_done (codes "F4") ∷ [] }
 {}
 
-/// A page has the transfers in the order in which they came, and the next page goes on from there.
+/// A page has the transfers in order of arrival, and the next page follows it.
 pub fn a_page_of_two()
     ensures { script_answers a_page_of_two ≡
         is_done (codes "F1") ∷ answer_of_taken (codes "T1") 11000 ∷ answer_of_taken (codes "T2") 11000
@@ -216,15 +217,15 @@ pub fn a_page_of_two()
         ∷ Answer.Reply (Reply.Inbox []) ∷ [] }
 {}
 
-/// The last millisecond before the margin still accepts.
+/// A confirmation in the last millisecond before the margin is accepted.
 pub fn margin_confirmed_before()
     ensures { answers_with_margin margin_confirmed_before ≡
         is_done (codes "F1") ∷ answer_of_taken (codes "T1") 11000 ∷ is_new true
         ∷ is_state A (codes "T1") (State.Decided Outcome.Accepted) ∷ [] }
 {}
 
-/// In the margin a confirmation comes too late and decides nothing; a rejection still stands, and
-/// then the confirmation is answered with it.
+/// In the margin a confirmation is refused and decides nothing. A rejection still counts, and the
+/// next confirmation gets it in the reply.
 pub fn margin_confirmation_refused()
     ensures { answers_with_margin margin_confirmation_refused ≡
         is_done (codes "F1") ∷ answer_of_taken (codes "T1") 11000 ∷ is_new true
@@ -240,15 +241,16 @@ pub fn margin_then_timed_out()
         ∷ answer_of_fault Fault.Expired ∷ is_state A (codes "T1") (State.Decided Outcome.TimedOut) ∷ [] }
 {}
 
-/// A transfer that has timed out is answered so, also at an earlier reading in the margin.
+/// A command on a transfer that has timed out gets that reply, even at an earlier clock reading in
+/// the margin.
 pub fn margin_after_expire()
     ensures { answers_with_margin margin_after_expire ≡
         is_done (codes "F1") ∷ answer_of_taken (codes "T1") 11000 ∷ is_new true ∷ is_new true
         ∷ is_state A (codes "T1") (State.Decided Outcome.TimedOut) ∷ [] }
 {}
 
-/// At the next opening a pending transfer is still reserved, its repeat and its duplicate are told
-/// apart, the statement begins anew, and the transfer can be confirmed.
+/// At the next opening a pending transfer is still reserved, its repeat and its duplicate are
+/// distinguished, the statement begins anew, and the transfer can be confirmed.
 pub fn carried_over_an_opening()
     ensures { answers_from delivered carried_over_an_opening ≡
         is_position 50000 20000 30000 ∷ answer_of_taken (codes "T1") 11000 ∷ answer_of_fault Fault.Duplicate
@@ -264,8 +266,8 @@ pub fn carried_over_an_opening()
         } ∷ [])) ∷ [] }
 {}
 
-/// At the next opening a settled transfer's place is free again, a pending one's isn't; the settled
-/// one keeps its name and its outcome, and the pending one is at the first place.
+/// At the next opening the place of a settled transfer is free, but not that of a pending one. The
+/// settled one keeps its identifier and its outcome; the pending one has the first place.
 pub fn places_given_back()
     ensures { answers_from one_settled places_given_back ≡
         answer_of_taken (codes "T3") 13000 ∷ answer_of_fault Fault.Full

@@ -1,11 +1,11 @@
--- The command line of the program. Its words are this hub's own choice.
+-- The program's command line. Its words are a choice of this hub.
 use Rattle.std.specs.Prelude.{◌-◌, ◌^◌, ℕ, true, List, ◌∷◌, [], ◌++◌, Some, codes}
 use Rattle.clap.specs.Words.{App, Rule, Shape, new_app, new_rule, with_rule, with_subcommand}
 use Rattle.clap.specs.Simple.{on_top}
 use Rattle.clap.specs.declared.builder.action.ArgAction.TheVariants.{Set, SetTrue}
 use Rattle.clap.specs.declared.builder.value_parser.ValueParser.TheVariants.{Unsigned}
 
--- the participants' codes, which must be given
+-- The participants' codes; required.
 abbrev pub participants_rule : Rule
 participants_rule =
     record (new_rule (codes "participants")) {
@@ -16,7 +16,7 @@ participants_rule =
       value_names = 1;
     }
 
--- a whole number of 64 bits, and what it is where it isn't given
+-- A whole number of 64 bits, with its default.
 abbrev pub number_rule : List ℕ → List ℕ → Rule
 number_rule name value =
     record (new_rule name) {
@@ -28,11 +28,11 @@ number_rule name value =
       value_names = 1;
     }
 
--- the file of a log, which the subcommand `log` must name
+-- The file of a log, as the positional word of `log`; required.
 abbrev pub file_rule : Rule
 file_rule = record (new_rule (codes "file")) { required = true; action = Some Set; value_names = 1 }
 
--- the file of a run's log
+-- The file of a run's log.
 abbrev pub log_rule : Rule
 log_rule =
     record (new_rule (codes "log")) {
@@ -42,12 +42,12 @@ log_rule =
           1;
     }
 
--- the file of a log, which the subcommand `next` must name by this option
+-- The file of a log, as an option of `next`; required.
 abbrev pub named_rule : List ℕ → Rule
 named_rule name =
     record (new_rule name) { long = Some name; required = true; action = Some Set; value_names = 1 }
 
--- how many replies are there already, as a whole number of 64 bits
+-- The number of replies that the client has, of 64 bits.
 abbrev pub told_rule : Rule
 told_rule =
     record (new_rule (codes "told")) {
@@ -58,12 +58,12 @@ told_rule =
       value_names = 1;
     }
 
--- the log must be there already
+-- The log must exist.
 abbrev pub resume_rule : Rule
 resume_rule =
     record (new_rule (codes "resume")) { long = Some (codes "resume"); action = Some SetTrue }
 
--- a digest that the log must contain
+-- A digest that the log must contain.
 abbrev pub digest_rule : Rule
 digest_rule =
     record (new_rule (codes "digest")) {
@@ -73,18 +73,17 @@ digest_rule =
       value_names = 1;
     }
 
--- whether the money of each participant is told at the end of a run
+-- A summary is printed at the end of a run.
 abbrev pub summary_rule : Rule
 summary_rule =
     record (new_rule (codes "summary")) { long = Some (codes "summary"); action = Some SetTrue }
 
--- the number or the name of a fault, which the subcommand `explain` must name
+-- The number or name of a fault, as the positional word of `explain`; required.
 abbrev pub fault_rule : Rule
 fault_rule =
     record (new_rule (codes "fault")) { required = true; action = Some Set; value_names = 1 }
 
--- the settings of a hub: its participants, what each has room for, its times, the largest amount,
--- the first moment
+-- The settings of a hub: participants, capacities, times, maximum amount and base.
 abbrev pub hub_rules : List Rule
 hub_rules =
     participants_rule
@@ -97,11 +96,11 @@ hub_rules =
     ∷ number_rule (codes "base") (codes "0")
     ∷ []
 
--- what else a run has: its log, and a summary
+-- The further options of a run: its log, and a summary.
 abbrev pub run_rules : List Rule
 run_rules = log_rule ∷ told_rule ∷ resume_rule ∷ digest_rule ∷ summary_rule ∷ []
 
--- the file for the script of a drill
+-- The file for the script of a drill.
 abbrev pub script_rule : Rule
 script_rule =
     record (new_rule (codes "script")) {
@@ -111,26 +110,27 @@ script_rule =
       value_names = 1;
     }
 
--- what else a drill has: how many transfers and openings, and the file for its script
+-- The further options of a drill: the numbers of transfers and openings, and the file for its
+-- script.
 abbrev pub drill_rules : List Rule
 drill_rules =
     number_rule (codes "transfers") (codes "200") ∷ number_rule (codes "openings") (codes "1")
     ∷ script_rule ∷ []
 
--- the two logs that the subcommand `next` names, and a digest that the first one must contain
+-- The two logs of `next`, and a digest that the first one must contain.
 abbrev pub next_rules : List Rule
 next_rules = named_rule (codes "log") ∷ named_rule (codes "to") ∷ digest_rule ∷ []
 
--- with these options, in their order
+-- The command line with these options, in order.
 abbrev pub with_rules : App → List Rule → App
 with_rules app [] = app
 with_rules app (rule ∷ more) = with_rules (with_rule app rule) more
 
--- a subcommand of this name, with these options
+-- A subcommand of this name with these options.
 abbrev pub subcommand : List ℕ → List Rule → Shape
 subcommand name rules = (with_rules (new_app name) rules).top
 
--- all subcommands, in their order
+-- All subcommands, in order.
 abbrev pub subcommands : List Shape
 subcommands =
     subcommand (codes "run") (hub_rules ++ run_rules)
@@ -142,17 +142,17 @@ subcommands =
     ∷ subcommand (codes "explain") (fault_rule ∷ [])
     ∷ []
 
--- with these subcommands
+-- The command line with these subcommands.
 abbrev pub with_subcommands : App → List Shape → App
 with_subcommands app [] = app
 with_subcommands app (sub ∷ more) = with_subcommands (with_subcommand app sub) more
 
--- the program without its subcommands, of which it needs one; it tells its version
+-- The program without its subcommands. One of them is required, and `--version` prints the version.
 abbrev pub bare_command_line : App
 bare_command_line =
     on_top (λ top.
     record top { has_version = true; subcommand_required = true }) (new_app (codes "inst_main"))
 
--- the whole command line
+-- The whole command line.
 abbrev pub command_line : App
 command_line = with_subcommands bare_command_line subcommands

@@ -1,4 +1,4 @@
--- Public contracts cite these.
+-- Cited by public contracts.
 pub mod CommandLine
 pub mod Options
 pub mod BadOptions
@@ -7,5 +7,5 @@ pub mod Rows
 pub mod LogFault
 pub mod AnyFault
 pub mod Excerpt
--- Only inner functions and proofs cite these.
+-- Cited only by private functions and proofs.
 pub mod inner

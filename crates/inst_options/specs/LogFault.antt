@@ -1,4 +1,4 @@
--- The faults of a run's log, and the exit status of each. They are this hub's own choice.
+-- The faults of a run's log and their exit statuses. A choice of this hub.
 use Rattle.std.specs.Prelude.{ℕ, List, codes}
 use Rattle.inst_options.specs.declared.log_fault.LogFault.{LogFault}
 use Rattle.inst_options.specs.declared.log_fault.LogFault.TheVariants.{DiskFault, OtherSettings}
@@ -7,6 +7,7 @@ use Rattle.inst_options.specs.declared.log_fault.LogFault.TheVariants.{BadBooks,
 use Rattle.inst_options.specs.declared.log_fault.LogFault.TheVariants.{DamagedLog, OtherDigest}
 use Rattle.inst_options.specs.declared.log_fault.LogFault.TheVariants.{ChangedLog}
 
+-- The number of a fault.
 abbrev pub log_fault_number : LogFault → ℕ
 log_fault_number DiskFault = 19
 log_fault_number OtherSettings = 20
@@ -19,6 +20,7 @@ log_fault_number DamagedLog = 26
 log_fault_number OtherDigest = 27
 log_fault_number ChangedLog = 28
 
+-- The name of a fault.
 abbrev pub log_fault_name : LogFault → List ℕ
 log_fault_name DiskFault = codes "DiskFault"
 log_fault_name OtherSettings = codes "OtherSettings"
@@ -31,7 +33,7 @@ log_fault_name DamagedLog = codes "DamagedLog"
 log_fault_name OtherDigest = codes "OtherDigest"
 log_fault_name ChangedLog = codes "ChangedLog"
 
--- 3: the disk failed, or the log changed during the run; 2: the log was refused
+-- 3 if the disk failed or the log changed during the run; else 2, since the log was refused.
 abbrev pub status_of_log : LogFault → ℕ
 status_of_log DiskFault = 3
 status_of_log OtherSettings = 2

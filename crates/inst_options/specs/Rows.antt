@@ -1,4 +1,4 @@
--- Worked command lines, computed from the definitions. This hub's own choice.
+-- Worked command lines, computed from the definitions. A choice of this hub.
 use Rattle.std.specs.Prelude.{◌≡◌, ℕ, true, false, List, [], ◌∷◌, ◌++◌, Some, None, codes}
 use Rattle.clap.specs.declared.error.kind.ErrorKind.TheVariants.{DisplayHelp, DisplayVersion}
 use Rattle.clap.specs.declared.error.kind.ErrorKind.TheVariants.{MissingRequiredArgument}
@@ -16,12 +16,12 @@ small_hub =
     codes "inst_main" ∷ codes "run" ∷ codes "--participants" ∷ codes "AAAADEFF,BBBBFRPP"
     ∷ codes "--places" ∷ codes "2" ∷ []
 
--- its settings: what was given, and the others as they are where they aren't
+-- Its settings: the given values, and the defaults.
 abbrev pub small_settings : HubSettings
 small_settings =
     settings_with (codes "AAAADEFF" ∷ codes "BBBBFRPP" ∷ []) 2 256 10000 0 1000 99999999999 0
 
--- the same words with `play` in the place of `run`
+-- The same words with `play` instead of `run`.
 abbrev pub small_script : List (List ℕ)
 small_script =
     codes "inst_main" ∷ codes "play" ∷ codes "--participants" ∷ codes "AAAADEFF,BBBBFRPP"
@@ -33,6 +33,7 @@ small_drill =
     codes "inst_main" ∷ codes "drill" ∷ codes "--participants" ∷ codes "AAAADEFF,BBBBFRPP"
     ∷ codes "--places" ∷ codes "2" ∷ codes "--transfers" ∷ codes "2" ∷ []
 
+-- These words are whole command lines and choose these settings.
 pub record SmallHub : Type 0 where
   pub whole : AreWhole small_hub
   pub chosen : AreChosen small_hub Run small_settings
@@ -42,8 +43,7 @@ pub record SmallHub : Type 0 where
   pub drill_chosen : AreChosen small_drill (Drill 2 1) small_settings
   pub good : AreOfAHub small_settings
 
--- `inst_main run --participants AAAADEFF,BBBBFRPP`: what isn't given is as the library's own
--- default has it
+-- `inst_main run --participants AAAADEFF,BBBBFRPP` has the library's defaults.
 pub record DefaultHub : Type 0 where
   pub chosen : AreChosen (codes "inst_main" ∷ codes "run" ∷ codes "--participants"
       ∷ codes "AAAADEFF,BBBBFRPP" ∷ []) Run
@@ -51,14 +51,12 @@ pub record DefaultHub : Type 0 where
       ∷ []) DEFAULT.places DEFAULT.fundings DEFAULT.limit DEFAULT.margin
       DEFAULT.ahead DEFAULT.ceiling DEFAULT.base)
 
--- SHA-256 of no bytes
+-- The SHA-256 value of no bytes.
 abbrev pub empty_digest : List ℕ
 empty_digest = codes "e3b0c44298fc1c149afbf4c8996fb92427ae41e4649b934ca495991b7852b855"
 
--- the words of a run with `--log hub.log`, of a play with `--told 3 --log hub.log`, which must find
--- a log, of runs with `--resume` or `--digest` beside it, and of a run with none of these; and
--- those that are of logs alone, `inst_main log hub.log` and `inst_main next --log hub.log --to
--- next.log`, without and with a digest
+-- Words with `--log`; with `--log` and `--told`, `--resume` or `--digest`; with none of these;
+-- `inst_main log hub.log`; `inst_main next --log hub.log --to next.log`, without and with a digest.
 pub record KeptHub : Type 0 where
   pub whole : AreWhole (small_hub ++ codes "--log" ∷ codes "hub.log" ∷ [])
   pub all_told : NameTheLog (small_hub ++ codes "--log" ∷ codes "hub.log"
@@ -80,8 +78,8 @@ pub record KeptHub : Type 0 where
       ∷ codes "hub.log" ∷ codes "--to" ∷ codes "next.log" ∷ codes "--digest" ∷ empty_digest
       ∷ []) (codes "hub.log") (codes "next.log") (Some empty_digest)
 
--- words that are no whole command line: `inst_main run`, `inst_main play`, `inst_main drill`,
--- `inst_main`, `inst_main --help` and `inst_main --version`
+-- Words that aren't a whole command line: `inst_main run`, `inst_main play`, `inst_main drill`,
+-- `inst_main`, `inst_main --help` and `inst_main --version`.
 pub record NoHub : Type 0 where
   pub participants : faults_of (codes "inst_main" ∷ codes "run" ∷ []) ≡ MissingRequiredArgument ∷ []
   pub script : faults_of (codes "inst_main" ∷ codes "play" ∷ []) ≡ MissingRequiredArgument ∷ []
@@ -90,7 +88,7 @@ pub record NoHub : Type 0 where
   pub help : faults_of (codes "inst_main" ∷ codes "--help" ∷ []) ≡ DisplayHelp ∷ []
   pub version : faults_of (codes "inst_main" ∷ codes "--version" ∷ []) ≡ DisplayVersion ∷ []
 
--- `inst_main explain 13`, and with no fault
+-- `inst_main explain 13`, and `inst_main explain`.
 pub record Explained : Type 0 where
   pub asked : AskToExplain (codes "inst_main" ∷ codes "explain" ∷ codes "13" ∷ []) (codes "13")
   pub lacking : faults_of (codes "inst_main" ∷ codes "explain" ∷ []) ≡ MissingRequiredArgument ∷ []

@@ -1,22 +1,22 @@
-//! What each refusal and each fault usually means, and what to do. docs/FORMATS.md has the same
-//! words.
+//! The usual meaning of each refusal and fault, and what to do. docs/formats.md has the same words.
 use crate::any_fault::AnyFault;
 use crate::log_fault::LogFault;
 use inst_base::Fault;
 
 impl AnyFault {
-    /// What it usually means.
+    /// Returns what the fault usually means.
     pub fn meaning(self) -> &'static str {
         match self {
             AnyFault::Hub(fault) => meaning_of(fault),
             AnyFault::Log(fault) => meaning_of_log(fault),
             AnyFault::NoInterleaving => {
-                "no run in one thread was found that leaves a drill's books: the hub may be broken"
+                "\
+                no single-threaded run was found that leaves a drill's books; the hub may be broken"
             }
         }
     }
 
-    /// What to do.
+    /// Returns what to do.
     pub fn advice(self) -> &'static str {
         match self {
             AnyFault::Hub(fault) => advice_of(fault),
@@ -32,73 +32,77 @@ fn meaning_of(fault: Fault) -> &'static str {
     match fault {
         Fault::NotJson => {
             "\
-            a quote or a bracket is missing; two objects or none on the line; a byte order mark; \
-            a text in another encoding than UTF-8"
+            a quote or a bracket is missing; the line has two objects or none; it begins with a \
+            byte order mark; a text isn't UTF-8"
         }
         Fault::BadField => {
             "\
             a name is misspelt or missing; an amount is a text, or has a fraction; a code isn't 8 \
-            or 11 capital letters and digits, or a reason not 4; `max` or `count` is 0 or above \
+            or 11 capital letters and digits, or a reason isn't 4; `max` or `count` is 0 or above \
             100"
         }
         Fault::BadIdentifier => {
             "\
-            an identifier or a reference is empty, has more than 35 characters, or one outside \
-            the set, as `_`, `#` or a letter with an accent"
+            an identifier or a reference is empty, has more than 35 characters, or has one outside \
+            the set, such as `_`, `#` or a letter with an accent"
         }
-        Fault::BadAmount => { "0 cents, or more than `--ceiling`" }
+        Fault::BadAmount => { "the amount is 0 cents, or more than `--ceiling`" }
         Fault::BadMoment => {
             "\
-            a reading or a time stamp is before `--base`, or is in microseconds; or the deadline \
-            would be past the last moment"
+            a clock reading or a time stamp is before `--base`, or is in microseconds; or the \
+            deadline would be past the last moment"
         }
         Fault::UnknownParticipant => {
-            "a code isn't among `--participants`; the forms of 8 and of 11 characters are two codes"
+            "\
+            a code isn't among `--participants`; the forms of 8 and of 11 characters are different \
+            codes"
         }
         Fault::SelfTransfer => { "`to` is `who`" }
         Fault::UnknownTransfer => {
             "\
-            confirming, rejecting: `from` or `id` is another, the transfer is for somebody else, \
-            or it never came because its submission was refused, or in `play` because it wasn't \
-            delivered; investigating: `who` isn't the originator"
+            `confirm`, `reject`: `from` or `id` is wrong, the transfer is for another participant, \
+            its submission was refused, or in `play` it wasn't delivered; `investigate`: `who` \
+            isn't the originator"
         }
         Fault::Duplicate => {
             "\
-            the identifier was taken with another beneficiary, amount or stamp; the reference is \
-            kept with another amount, or for the other of `fund` and `defund`"
+            the identifier is taken with another beneficiary, amount or time stamp; the reference \
+            is taken with another amount, or by the other of `fund` and `defund`"
         }
         Fault::StampAhead => {
             "\
-            the originator's clock is before the hub's by more than `--ahead`, or the two have \
+            the originator's clock is ahead of the hub's by more than `--ahead`, or the two have \
             different units"
         }
         Fault::Expired => {
             "\
-            submitting: the line came at its deadline or later, so the stamp is old or wrong; \
-            confirming: too late to accept, not yet timed out"
+            `submit`: the line arrived at its deadline or later, so the time stamp is old or \
+            wrong; `confirm`: too late to accept, but not timed out yet"
         }
         Fault::Full => {
             "\
-            `submit`: the originator's places are used, by settled transfers too; `fund`, \
-            `defund`: the fundings are used"
+            `submit`: all places of the originator are used, also by decided transfers; `fund`, \
+            `defund`: all fundings of the participant are used"
         }
-        Fault::Shortage => { "more than what is available: what is reserved can't be spent again" }
-        Fault::Memory => { "the process may not have more memory" }
-        Fault::BadSettings => { "an option is out of its range; nothing was read" }
+        Fault::Shortage => {
+            "the amount is more than what is available; reserved money can't be spent"
+        }
+        Fault::Memory => { "an allocation failed: the process may not use more memory" }
+        Fault::BadSettings => { "an option's value isn't allowed; nothing was read" }
         Fault::LineTooLong => {
             "\
-            no newline between objects (as when lines end by a carriage return alone), or large \
-            fields that the hub doesn't know"
+            there is no newline between objects (lines may end with a carriage return alone), or \
+            the line has large fields that the hub doesn't know"
         }
         Fault::ReadFault => {
             "\
-            standard input is a directory or is closed, or a read fails; or the input has more \
-            than 1,000,000 lines or 4,294,967,296 bytes"
+            standard input is a directory or is closed, or a read failed; or, without `--log`, the \
+            input has more than 1,000,000 lines or 4,294,967,296 bytes"
         }
         Fault::WriteFault => {
             "\
-            whoever reads the replies has gone (a closed pipe), standard output is closed, or the \
-            disk is full"
+            the reader of the replies has exited (a closed pipe), standard output is closed, or \
+            the disk is full"
         }
     }
 }
@@ -107,39 +111,42 @@ fn meaning_of_log(fault: LogFault) -> &'static str {
     match fault {
         LogFault::DiskFault => {
             "\
-            the log's folder isn't there, its disk is full or fails, or the file may not be \
-            written or grow"
+            the log's folder doesn't exist, its disk is full or fails, the file may not be written \
+            or grow, or it isn't a regular file with one name"
         }
         LogFault::OtherSettings => {
             "\
-            an option has changed, or `play` was given a log of `run`; the two lines before it \
-            show the log's settings and those of the options; where only `books` differs, lines \
-            of books are gone or have another form"
+            an option has changed, or `play` was given a log of `run`; the two lines before the \
+            fault show the log's settings and those of the options; if only `books` differs, lines \
+            of books are missing or have another form"
         }
         LogFault::NoLog => {
             "\
-            `--log` names some other file, or no file where `--resume`, `--digest` or `--told` \
-            says that there is a log"
+            the file isn't a log; or there is no log, and `--resume`, `--digest`, `--told`, `log` \
+            or `next` requires one"
         }
         LogFault::ToldAhead => {
-            "replies of another log were counted too, or the log is an old copy"
+            "\
+            `--told` is more than the lines of the log: replies of another log were counted too, \
+            or the log is an old copy"
         }
-        LogFault::LogInUse => { "a hub still runs on this log" }
+        LogFault::LogInUse => {
+            "another program has the log open, or `next` was given one file twice"
+        }
         LogFault::BadBooks => {
             "\
-            lines of books behind the log's settings were changed, or are gone with other lines \
-            in their place"
+            lines of books after the log's settings were changed, or replaced by other lines"
         }
-        LogFault::LastOpening => { "`next` was run on the five hundredth log after another" }
+        LogFault::LastOpening => { "`next` was run on the 501st log in a row" }
         LogFault::DamagedLog => {
             "\
-            bytes of the log were changed by something other than the hub, as an editor, a disk \
-            or a bad copy; nothing was read or written, and the file is unchanged"
+            bytes of the log were changed by something other than the hub, such as an editor, a \
+            disk or a bad copy; no input was read, no reply written, and the file is unchanged"
         }
         LogFault::OtherDigest => {
             "\
-            the log doesn't contain the digest that `--digest` gives: it is an older copy, or \
-            another log, or was rolled back"
+            the log doesn't contain the digest that `--digest` gives: it is an older copy or \
+            another log, or it was rolled back"
         }
         LogFault::ChangedLog => {
             "another program truncated or wrote to the log while the hub ran"
@@ -155,43 +162,56 @@ fn advice_of(fault: Fault) -> &'static str {
             compare the line with the table of commands; amounts and moments are whole numbers \
             without quotes"
         }
-        Fault::BadIdentifier => { "shorten it, or put other characters" }
-        Fault::BadAmount => { "give cents; raise the ceiling if it was lowered" }
-        Fault::BadMoment => { "give milliseconds, and a base that isn't after them" }
-        Fault::UnknownParticipant => { "name participants by the code that the hub was given" }
+        Fault::BadIdentifier => { "shorten it, or use other characters" }
+        Fault::BadAmount => {
+            "give the amount in cents; for a higher `--ceiling` start a new hub, with a new log"
+        }
+        Fault::BadMoment => {
+            "give moments in milliseconds; for another `--base` start a new hub, with a new log"
+        }
+        Fault::UnknownParticipant => { "use a code that `--participants` has" }
         Fault::SelfTransfer => { "nothing: such a payment needs no hub" }
-        Fault::UnknownTransfer => {
-            "look at the reply to the submission, and at what `fetch` gave"
-        }
+        Fault::UnknownTransfer => { "check the reply to the submission, and what `fetch` returned" }
         Fault::Duplicate => {
-            "take a new identifier; to repeat a line whose reply was lost, send its fields unchanged"
+            "\
+            use a new identifier or reference; to repeat a line whose reply was lost, send its \
+            fields unchanged"
         }
-        Fault::StampAhead => { "set the clocks, or raise `--ahead`" }
+        Fault::StampAhead => {
+            "set the clocks; for a larger `--ahead` start a new hub, with a new log"
+        }
         Fault::Expired => {
             "\
-            submit with a new stamp, under the same identifier if you like; the beneficiary may \
+            submit with a new time stamp, and the same identifier if you like; the beneficiary may \
             still reject before the deadline"
         }
-        Fault::Full => { "start the hub with more `--places` or `--fundings`, at most 1,024" }
+        Fault::Full => {
+            "\
+            on a log, run `next`; for more `--places` or `--fundings`, at most 1,024, start a new \
+            hub, with a new log"
+        }
         Fault::Shortage => { "ask for the `position`; fund, or wait for outcomes" }
         Fault::Memory => {
-            "raise its limit; a front of the replies stands on standard output, whole lines or not"
+            "\
+            raise the process's memory limit; standard output holds a prefix of the replies, which \
+            may end in mid-line"
         }
         Fault::BadSettings => {
-            "set the option that the next line names, within the range that it tells"
+            "set the option that the next line names to a value that it allows"
         }
         Fault::LineTooLong => {
-            "end each line by byte 10; leave out what the command doesn't need"
+            "\
+            end each line with a newline (byte 10); leave out fields that the command doesn't need"
         }
         Fault::ReadFault => {
             "\
-            each line that ended within the limits is answered; give the input anew; for a longer \
-            input give a log too, with which there are no such limits"
+            each line that ended within the limits has its reply; give the input again; a longer \
+            input needs `--log`, which has no such limits"
         }
         Fault::WriteFault => {
             "\
-            a front of the replies is written; read all of them, or make room, and begin again, \
-            with a log by `--told`"
+            a prefix of the replies was written; read all of them, or free disk space, and start \
+            again; with a log, give `--told`"
         }
     }
 }
@@ -200,26 +220,25 @@ fn advice_of_log(fault: LogFault) -> &'static str {
     match fault {
         LogFault::DiskFault => {
             "\
-            no reply to the lines of the last read is written; set right what failed, and go on \
-            from the log by `--told`"
+            no reply to the lines of the last read was written; fix the disk or the file, and \
+            resume the log with `--told`"
         }
         LogFault::OtherSettings => {
             "\
-            give the options that the log began with; other settings want a new log; for the \
-            books, as for 24"
+            give the options that the log began with, or use a new log; for the books, see fault 24"
         }
-        LogFault::NoLog => { "name another file; this one was left as it is, and none was made" }
+        LogFault::NoLog => { "name another file; this one is unchanged, and none was made" }
         LogFault::ToldAhead => {
-            "count whole lines, over the runs of this log alone; go on with the latest log"
+            "count only whole reply lines of the runs of this log; use the latest log"
         }
-        LogFault::LogInUse => { "end that one first, or give this one another log" }
-        LogFault::BadBooks => { "go on with a copy of the log as `next` made it" }
-        LogFault::LastOpening => { "begin with a new hub, whose positions are funded anew" }
+        LogFault::LogInUse => { "stop the other program first, or name another log" }
+        LogFault::BadBooks => { "restore the log from a copy as `next` made it" }
+        LogFault::LastOpening => { "start a new hub, and fund its positions again" }
         LogFault::DamagedLog => {
             "\
-            restore the log from a copy, and compare its digest; or take the log of another replica"
+            restore the log from a copy, and compare its digest; or use the log of another replica"
         }
         LogFault::OtherDigest => { "use the latest log" }
-        LogFault::ChangedLog => { "stop whatever writes to it, and resume by `--told`" }
+        LogFault::ChangedLog => { "stop the other program, and resume the log with `--told`" }
     }
 }

@@ -1,3 +1,4 @@
+//! All faults of the program, numbered 1 to 29.
 ghost use Rattle.std.specs.Prelude.{◌≡◌, ◌↔◌, IfSome, None, true};
 ghost use Rattle.inst_options.specs.AnyFault.{any_fault_number, any_fault_name, IsNamed};
 ghost use Rattle.inst_options.specs.declared.any_fault.AnyFault.{AnyFault as SomeFault};
@@ -5,18 +6,18 @@ ghost use Rattle.inst_options.specs.declared.any_fault.AnyFault.{AnyFault as Som
 use crate::log_fault::LogFault;
 use inst_base::Fault;
 
-/// What a line is refused by, or a program ends by.
+/// A reason to refuse a line or to end the program.
 #[derive(Clone, Copy, Debug, PartialEq, Eq)]
 pub enum AnyFault {
-    /// Of a line, a command or a run, from 1 to 18.
+    /// A refusal of a line or command, or a fault of a run: 1 to 18.
     Hub(Fault),
-    /// Of the log of a run, from 19 to 28.
+    /// A fault of a run's log: 19 to 28.
     Log(LogFault),
-    /// No run of the hub in one thread was found that leaves the books of a drill's opening: 29.
+    /// No run in one thread was found that leaves the books of a drill's opening: 29.
     NoInterleaving,
 }
 
-/// All there are, by their numbers.
+/// All faults, ordered by number.
 const ALL: &'static [AnyFault] = &[
     AnyFault::Hub(Fault::NotJson),
     AnyFault::Hub(Fault::BadField),
@@ -50,7 +51,7 @@ const ALL: &'static [AnyFault] = &[
 ];
 
 impl AnyFault {
-    /// The number that the reply or the fault line shows.
+    /// Returns the number, as replies and fault lines show it.
     pub fn number(self) -> u8
         ensures { result ≡ any_fault_number self }
     {
@@ -61,7 +62,7 @@ impl AnyFault {
         }
     }
 
-    /// The name that the reply or the fault line shows.
+    /// Returns the name, as replies and fault lines show it.
     pub fn name(self) -> &'static str
         ensures { result.now ≡ any_fault_name self }
     {
@@ -73,8 +74,8 @@ impl AnyFault {
     }
 }
 
-/// The fault that this word names, by its number in digits, which may follow a plus, or by its
-/// name.
+/// Returns the fault with this name or number, or `None` if there is none. A number is decimal
+/// digits, which may follow a plus sign.
 ///
 /// ```text
 /// fault_of("13")       // Some(AnyFault::Hub(Fault::Shortage))
@@ -93,7 +94,7 @@ pub fn fault_of(word: &str) -> Option<AnyFault>
     None
 }
 
-/// Whether this word names the fault.
+/// Returns `true` if this word is the fault's name or number.
 fn is_named(word: &str, fault: AnyFault) -> bool
     ensures { (result ≡ true) ↔ IsNamed word.now fault }
 {

@@ -1,4 +1,4 @@
-//! Which option no hub can have.
+//! Naming the option for which settings are refused.
 ghost use Rattle.std.specs.Prelude.{◌≡◌, IfSome, MatchOption, Some, None, codes, false, map};
 ghost use Rattle.clap.specs.Words.{first_of, found_of, rows_of};
 ghost use Rattle.inst_options.specs.Options.{NamesNoLog, is_digest};
@@ -12,14 +12,14 @@ use crate::texts;
 use clap::ArgMatches;
 use inst_settings::{MOST_AHEAD, MOST_BASE, MOST_CEILING, MOST_FUNDINGS, MOST_LIMIT, MOST_PLACES};
 
-/// An option whose value no hub can have beside the others.
+/// An option whose value, together with the others, no hub can have.
 #[derive(Clone, Copy)]
 pub struct BadOption<'a> {
-    /// Its name, without the dashes.
+    /// The option's name, without the dashes.
     pub name: &'static str,
-    /// Its value.
+    /// The value that was given.
     pub value: &'a str,
-    /// What it may be.
+    /// The values that are allowed, in words.
     pub range: &'static str,
 }
 
@@ -72,7 +72,7 @@ const BOUNDS: &'static [Bound] = &[
         name: "transfers",
         least: 1,
         most: MOST_PLACES as u64,
-        range: "1 to 1024 and at most the places",
+        range: "1 to 1024 and at most --places",
     },
     Bound {
         name: "openings",
@@ -82,16 +82,15 @@ const BOUNDS: &'static [Bound] = &[
     },
 ];
 
-/// The table of ranges. What goes over it calls this, so that the constant is in no proof about
-/// options.
+/// Returns the table of ranges. Code visits the table through this call, so that the constant is in
+/// no proof about options.
 fn bounds() -> &'static [Bound]
     ensures { map range_of result.now ≡ ranges }
 {
     BOUNDS
 }
 
-/// Returns an option that the settings were refused for. If no number is out of its range, it is
-/// the participants.
+/// Returns an option for which settings were refused: the participants if all numbers are in range.
 pub(crate) fn bad_option<'a>(options: &ArgMatches<'a>) -> Option<BadOption<'a>>
     ensures { IfSome result (IsBadOption (rows_of (found_of options.now))) }
 {
@@ -147,7 +146,7 @@ fn outside<'a>(options: &ArgMatches<'a>, bound: &Bound) -> Option<&'a str>
     }
 }
 
-/// Returns the margin, if it isn't below the limit.
+/// Returns the margin, unless it is below the limit.
 fn bad_margin<'a>(options: &ArgMatches<'a>) -> Option<BadOption<'a>>
     ensures { IfSome result (IsBadOption (rows_of (found_of options.now))) }
 {
@@ -161,13 +160,13 @@ fn bad_margin<'a>(options: &ArgMatches<'a>) -> Option<BadOption<'a>>
         Ok(value) if limit <= margin => Some(BadOption {
             name: "margin",
             value,
-            range: "0 to one less than the limit",
+            range: "less than --limit",
         }),
         _ => None,
     }
 }
 
-/// Returns an option of a log that has another form, or that is given without `--log`.
+/// Returns an option about a log that is malformed, or that is given without `--log`.
 fn bad_log_option<'a>(options: &ArgMatches<'a>) -> Option<BadOption<'a>>
     ensures { IfSome result (IsBadOption (rows_of (found_of options.now))) }
 {
@@ -189,11 +188,11 @@ fn bad_log_option<'a>(options: &ArgMatches<'a>) -> Option<BadOption<'a>>
     Some(BadOption {
         name,
         value,
-        range: "given beside --log alone",
+        range: "given together with --log",
     })
 }
 
-/// Returns the text that is given as a digest, if it is none.
+/// Returns the text that is given as a digest, if it isn't one.
 fn malformed_digest<'a>(options: &ArgMatches<'a>) -> Option<&'a str>
     ensures value { IfSome result (λ value.
         first_of (codes "digest") (rows_of (found_of options.now)) ≡ Some value.now) }

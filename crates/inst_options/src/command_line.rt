@@ -1,3 +1,4 @@
+//! The program's command line, for `clap`.
 ghost use Rattle.std.specs.Prelude.{◌≡◌, IfOk, false};
 ghost use Rattle.clap.specs.Words.{app_of, rule_of};
 ghost use Rattle.inst_options.specs.CommandLine.{bare_command_line};
@@ -10,11 +11,11 @@ use crate::texts;
 use clap::{Arg, Command};
 use std::alloc::{AllocError, Global};
 
-/// What `--version` says: the first number changes where lines, replies, faults, options or exit
-/// statuses do.
+/// The version that `--version` prints. Its first number changes with the lines, replies, faults,
+/// options or exit statuses.
 const VERSION: &str = "1.1.0";
 
-/// The command line of the program.
+/// Returns the program's command line.
 pub(crate) fn command_line<'a>(alloc: Global) -> Result<Command<'a>, AllocError>
     ensures { IfOk result (λ command. app_of command ≡ the_command_line) }
 {
@@ -25,7 +26,7 @@ pub(crate) fn command_line<'a>(alloc: Global) -> Result<Command<'a>, AllocError>
     Ok(program)
 }
 
-/// The program without its subcommands.
+/// Returns the program without its subcommands.
 fn bare_command_line<'a>(alloc: Global) -> Command<'a>
     ensures { app_of result ≡ bare_command_line }
 {
@@ -36,7 +37,7 @@ fn bare_command_line<'a>(alloc: Global) -> Command<'a>
         .subcommand_required(true)
 }
 
-/// The subcommand of a row.
+/// Returns the subcommand of a row.
 fn subcommand<'a>(alloc: Global, row: &Subcommand) -> Result<Command<'a>, AllocError>
     ensures shape { IfOk result (λ command. app_of command ≡ app_of_row row.now) }
     ensures local { IfOk result (λ command. HasOwnOptions command) }
@@ -55,7 +56,7 @@ fn subcommand<'a>(alloc: Global, row: &Subcommand) -> Result<Command<'a>, AllocE
     }
 }
 
-/// The argument of a row.
+/// Returns the argument of a row.
 fn argument<'a>(alloc: Global, choice: &OptionRow) -> Arg<'a>
     ensures rule { rule_of result ≡ rule_of_choice choice.now }
     ensures local { result.global ≡ false }

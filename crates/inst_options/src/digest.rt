@@ -1,12 +1,12 @@
-//! Digests of logs, as an option gives them.
+//! The form of a log's digest in an option.
 ghost use Rattle.std.specs.Prelude.{◌≡◌};
 ghost use Rattle.std.specs.List.{list_all};
 ghost use Rattle.inst_options.specs.Options.{is_digest, is_digest_character};
 
-/// The hexadecimal digits of a SHA-256 digest.
+/// The number of hexadecimal digits of a SHA-256 value.
 const DIGEST_LENGTH: usize = 64;
 
-/// Returns `true` if the text is 64 hexadecimal digits in lower case.
+/// Returns `true` if the text is 64 lower-case hexadecimal digits.
 pub(crate) fn is_digest(text: &str) -> bool
     ensures { result ≡ is_digest text.now }
 {

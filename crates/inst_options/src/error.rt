@@ -1,3 +1,4 @@
+//! The errors of a command line.
 ghost use Rattle.std.specs.Prelude.{◌≡◌};
 
 use crate::bad_option::BadOption;
@@ -5,14 +6,14 @@ use clap::Error;
 use inst_base::Fault;
 use std::alloc::AllocError;
 
-/// Why the words of a command line ask for nothing.
+/// Why the words of a command line ask for no task.
 #[derive(Drop)]
 pub enum WordsError<'a> {
-    /// They ask for help or are wrong; the text says so.
+    /// They are wrong, or ask for help or the version; the error has the text to print.
     Words(Error),
-    /// No hub can have the settings that they choose, which this option shows: `BadSettings`.
+    /// This option's value, with the others, isn't allowed: `BadSettings`.
     Option(BadOption<'a>),
-    /// `Memory`, and `BadSettings` where no option shows it.
+    /// `Memory` if an allocation fails; `BadSettings` if no single option shows why.
     Fault(Fault),
 }
 

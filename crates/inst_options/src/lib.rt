@@ -1,6 +1,6 @@
-//! What the words of the program's command line ask for: a task, with the settings of its hub, or
-//! something about a log or a fault; or why they ask for nothing. And what each fault means, and
-//! how a line shows a text from outside.
+//! The program's command line: its words as a task with the settings of a hub, or the reason why
+//! they can't be one. Also the meaning of each fault, and the escaping of texts from outside on
+//! standard error.
 #![tactic(auto)]
 
 mod advice;

@@ -1,4 +1,4 @@
-//! What the options of a subcommand ask for.
+//! Reading the options of a subcommand.
 ghost use Rattle.std.specs.Prelude.{◌≡◌, ◌^◌, ◌⊎◌, ◌↔◌, IfOk, IfErr, OnErr, IsOkUnless, Some, None};
 ghost use Rattle.std.specs.Prelude.{true};
 ghost use Rattle.std.specs.Prelude.{codes, option_map};
@@ -18,8 +18,8 @@ use inst_base::Fault;
 use inst_settings::{HubParameters, Settings, parse_codes};
 use std::alloc::Global;
 
-/// What the subcommand of this name and its options ask for. `BadSettings` as from `hub_wish`, and
-/// for a digest of another form.
+/// Returns what a subcommand and its options ask for. Fails with `BadSettings` as [`hub_wish`]
+/// does, and for a malformed digest.
 pub(crate) fn wish<'a>(
     alloc: Global,
     name: &str,
@@ -44,10 +44,10 @@ pub(crate) fn wish<'a>(
     hub_wish(alloc, name, options)
 }
 
-/// What the subcommand of this name, if it is one with a hub, and its options ask for. The one that
-/// is none of `play`, `drill` and `check` is `run`. `BadSettings` where a number of a drill is too
-/// large for any hub, as from `log_options`, and then as from `settings`, which come last: nothing
-/// fails that would let them go.
+/// Returns what a subcommand with a hub and its options ask for; any name but `play`, `drill` and
+/// `check` means `run`. Fails with `BadSettings` if a number of a drill is too large, then as
+/// [`log_options`] does, and then as [`settings`] does; these come last, so no later failure drops
+/// them.
 fn hub_wish<'a>(
     alloc: Global,
     name: &str,
@@ -77,18 +77,17 @@ fn hub_wish<'a>(
     Ok(Invocation::Run(settings, log, sums))
 }
 
-/// Whether an option that has no value is there.
+/// Returns `true` if this option without a value is given.
 pub(crate) fn flag(options: &ArgMatches<'_>, name: &str) -> bool
     ensures { IsFlag name.now (rows_of (found_of options.now)) result }
 {
     options.get_flag(name)
 }
 
-/// Returns the log that the options name, if they name one.
+/// Returns the log that the options name, if any.
 ///
 /// # Errors
-///
-/// `BadSettings` if a digest has another form, or if an option describes a log and none is named.
+/// `BadSettings` if the digest is malformed, or if an option is about a log and none is named.
 fn log_options<'a>(options: &ArgMatches<'a>) -> Result<Option<LogOptions<'a>>, Fault>
     ensures log { IfOk result (GivesLog (rows_of (found_of options.now))) }
     ensures none { OnErr result (AreOfNoLog (rows_of (found_of options.now))) }
@@ -110,7 +109,7 @@ fn log_options<'a>(options: &ArgMatches<'a>) -> Result<Option<LogOptions<'a>>, F
     }
 }
 
-/// Returns `true` if an option says something of a log, other than its name.
+/// Returns `true` if an option is about a log, other than its name.
 fn describe_a_log(options: &ArgMatches<'_>) -> bool
     ensures { (result ≡ true) → DescribesALog (rows_of (found_of options.now)) }
 {
@@ -123,19 +122,18 @@ fn is_given(options: &ArgMatches<'_>, name: &str) -> bool
     options.get_str(name).is_some()
 }
 
-/// Returns `true` if a log must be there already: it is asked for, or a digest is given, or replies
-/// are there.
+/// Returns `true` if the log must exist: this is asked for, or a digest or a number of replies
+/// above 0 is given.
 fn must_resume(asked: bool, told: Option<u64>, digest: Option<&str>) -> bool
     ensures { result ≡ must_resume asked told (option_map (λ d. d.now) digest.entry) }
 {
     asked || digest.is_some() || told.unwrap_or(0) > 0
 }
 
-/// Returns the digest that the options give, if they give one.
+/// Returns the digest that the options give, if any.
 ///
 /// # Errors
-///
-/// `BadSettings` if it has another form.
+/// `BadSettings` if it is malformed.
 fn digest<'a>(options: &ArgMatches<'a>) -> Result<Option<&'a str>, Fault>
     ensures digest { IfOk result (λ r.
         GivesDigest (rows_of (found_of options.now)) (option_map (λ d. d.now) r)) }
@@ -149,7 +147,7 @@ fn digest<'a>(options: &ArgMatches<'a>) -> Result<Option<&'a str>, Fault>
     }
 }
 
-/// How many transfers and openings a drill has, as the options say.
+/// Returns the numbers of transfers and openings of a drill.
 fn drill_options(options: &ArgMatches<'_>) -> Result<(u16, u8), Fault>
     ensures drill { IfOk result (λ r. IsDrill (rows_of (found_of options.now)) r.0 r.1) }
     ensures none { OnErr result
@@ -162,8 +160,8 @@ fn drill_options(options: &ArgMatches<'_>) -> Result<(u16, u8), Fault>
     Ok((transfers, openings))
 }
 
-/// The settings that the options give. `BadSettings` where a code has the wrong form or a number is
-/// outside its range. The codes come last, so that nothing fails that would let them go.
+/// Returns the settings that the options give. Fails with `BadSettings` if a code is malformed or a
+/// number out of its range. The codes come last, so no later failure drops them.
 fn settings(alloc: Global, options: &ArgMatches<'_>) -> Result<Settings, Fault>
     ensures lawful { IfOk result (λ settings. IsSettings settings) }
     ensures fault { IfErr result (IsBeginRefusal (ChooseNone (rows_of (found_of options.now)))) }
@@ -190,7 +188,7 @@ fn settings(alloc: Global, options: &ArgMatches<'_>) -> Result<Settings, Fault>
     Settings::check(codes, numbers)
 }
 
-/// The text of an option.
+/// Returns the text of an option.
 pub(crate) fn text<'a>(options: &ArgMatches<'a>, name: &str) -> Result<&'a str, Fault>
     ensures text { IfOk result (λ text.
         first_of name.now (rows_of (found_of options.now)) ≡ Some text.now) }
@@ -200,7 +198,7 @@ pub(crate) fn text<'a>(options: &ArgMatches<'a>, name: &str) -> Result<&'a str, 
     options.get_str(name).ok_or(Fault::BadSettings)
 }
 
-/// The text of an option, if it has one.
+/// Returns the text of an option, if it has one.
 fn text_given<'a>(options: &ArgMatches<'a>, name: &str) -> Option<&'a str>
     ensures { option_map (λ text. text.now) result
         ≡ first_of name.now (rows_of (found_of options.now)) }
@@ -208,14 +206,14 @@ fn text_given<'a>(options: &ArgMatches<'a>, name: &str) -> Option<&'a str>
     options.get_str(name)
 }
 
-/// The text of an option, or an empty one.
+/// Returns the text of an option, or an empty one.
 fn text_if_any<'a>(options: &ArgMatches<'a>, name: &str) -> &'a str
     ensures { IsText name.now (rows_of (found_of options.now)) result.now }
 {
     options.get_str(name).unwrap_or("")
 }
 
-/// The number of an option. The command line has read it as a whole number.
+/// Returns the number of an option, which the command line has parsed as a whole number.
 pub(crate) fn whole(options: &ArgMatches<'_>, name: &str) -> Result<u64, Fault>
     ensures number { IfOk result (Gives (rows_of (found_of options.now)) name.now) }
     ensures none { OnErr result

@@ -1,28 +1,27 @@
-//! Worked command lines, computed from the definitions. Each is a function without a body whose
-//! contract is the row, so that the check computes it.
+//! Worked command lines. Each is a function without a body; the check computes its contract.
 ghost use Rattle.inst_options.specs.Rows.{SmallHub, DefaultHub, KeptHub, NoHub, Explained};
 
-/// Options that are given and options that aren't, and the settings that they choose.
+/// Checks options that are given, the defaults of others, and the settings they give.
 pub fn small_hub()
     ensures { SmallHub }
 {}
 
-/// Options of which none is given but the participants.
+/// Checks a command line with the participants alone.
 pub fn default_hub()
     ensures { DefaultHub }
 {}
 
-/// Words that name logs, with what is told of them.
+/// Checks words that name logs.
 pub fn kept_hub()
     ensures { KeptHub }
 {}
 
-/// Words that are no whole command line, and what is wrong with them.
+/// Checks words that aren't a whole command line, and why.
 pub fn no_hub()
     ensures { NoHub }
 {}
 
-/// Words that ask for a fault's explanation, and such that don't name it.
+/// Checks words that ask for a fault's explanation, with and without the fault.
 pub fn explained()
     ensures { Explained }
 {}

@@ -1,20 +1,23 @@
-//! How lines on standard error show texts from outside.
+//! Escaping texts from outside for standard error.
 ghost use Rattle.std.specs.Prelude.{◌≡◌, ◌<◌, ◌++◌, IfOk, OnOk, string_bytes, take};
 ghost use Rattle.inst_options.specs.Excerpt.{excerpt, hex_digit, is_shown_as_is, shown_byte};
 
 use std::alloc::{AllocError, Global};
 
-/// The bytes of a text that an excerpt shows.
+/// The number of bytes of a text that an excerpt shows.
 const MOST_SHOWN: usize = 200;
 
-/// Returns the first 200 bytes of a text, followed by `..` if it has more.
+/// Returns the first 200 bytes of a text, escaped, followed by `..` if it has more.
 ///
-/// A backslash, and each byte that isn't printable ASCII, is escaped as `\x1b`, say, so the excerpt
-/// can be written to a terminal or to a log of lines.
+/// A backslash and each byte that isn't printable ASCII is written as `\x1b`, say, so an excerpt
+/// moves no cursor and begins no line.
 ///
 /// ```text
 /// excerpt(alloc, b"hub\x1b[2J") // hub\x1b[2J, with no control character
 /// ```
+///
+/// # Errors
+/// [`AllocError`].
 pub fn excerpt(alloc: Global, bytes: &[u8]) -> Result<String, AllocError>
     ensures { IfOk result (λ text. string_bytes text ≡ excerpt bytes.now) }
 {
@@ -40,7 +43,7 @@ fn first_bytes(bytes: &[u8]) -> &[u8]
     }
 }
 
-/// Appends a byte, or its escape.
+/// Appends a byte or its escape.
 fn push_byte(text: &mut String, byte: u8) -> Result<(), AllocError>
     ensures { OnOk result (string_bytes text.new ≡ string_bytes text.old ++ shown_byte byte) }
 {

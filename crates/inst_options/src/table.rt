@@ -1,4 +1,4 @@
-//! The subcommands of the program and their options, as tables.
+//! The tables of subcommands and their options.
 ghost use Rattle.std.specs.Prelude.{◌≡◌, map};
 ghost use Rattle.inst_options.specs.CommandLine.{bare_command_line, command_line};
 ghost use Rattle.inst_options.specs.inner.Table.{action_of, rule_of_choice, rules_of, with_rows};
@@ -9,36 +9,36 @@ use clap::ArgAction;
 /// A subcommand of the program.
 pub(crate) struct Subcommand {
     pub(crate) name: &'static str,
-    /// What it does, in a line.
+    /// Its description in one line.
     pub(crate) about: &'static str,
-    /// What it does, at length.
+    /// Its long description.
     pub(crate) long_about: &'static str,
-    /// What stands at the end of its help, if anything.
+    /// The end of its help, if any.
     pub(crate) after_help: Option<&'static str>,
-    /// The groups of its options, in the order in which help lists them.
+    /// The groups of its options, in the order of the help.
     pub(crate) groups: &'static [Group],
 }
 
-/// Options that stand together in each subcommand that has them. A row names its groups and doesn't
-/// hold their lists: one constant with all lists in all rows is too large to be checked.
+/// A group of options that subcommands share. A row names its groups instead of holding their
+/// lists: one constant with all lists is too large to be checked.
 #[derive(Clone, Copy)]
 pub(crate) enum Group {
     /// The settings of a hub.
     Hub,
     /// The log of a run, and its summary.
     Run,
-    /// The numbers of a drill.
+    /// The numbers and the script of a drill.
     Drill,
-    /// The file that `log` names.
+    /// The file for `log`.
     Log,
-    /// The files that `next` names.
+    /// The files for `next`.
     Next,
-    /// The fault that `explain` names.
+    /// The fault for `explain`.
     Explain,
 }
 
 impl Group {
-    /// Its options.
+    /// Returns the options of the group.
     pub(crate) fn choices(self) -> &'static [OptionRow]
         ensures { map rule_of_choice result.now ≡ rules_of self }
     {
@@ -53,36 +53,36 @@ impl Group {
     }
 }
 
-/// An option of a subcommand, or a word that it takes.
+/// An option of a subcommand, or a positional word.
 pub(crate) struct OptionRow {
-    /// The name by which its value is read, and an option is given, as `--limit`.
+    /// Its name, without the dashes.
     pub(crate) name: &'static str,
     pub(crate) kind: Kind,
-    /// Whether it must be given.
+    /// `true` if it must be given.
     pub(crate) required: bool,
-    /// What help calls its value, if it has one.
+    /// The name of its value in the help, if it has one.
     pub(crate) value_names: &'static [&'static str],
-    /// What its value is where it isn't given, if it then has one.
+    /// Its default, if it has one.
     pub(crate) defaults: &'static [&'static str],
-    /// What help says of it.
+    /// Its description in the help.
     pub(crate) help: &'static str,
 }
 
-/// How a choice is given.
+/// The kind of an option.
 #[derive(Clone, Copy)]
 pub(crate) enum Kind {
-    /// By an option that has no value.
+    /// An option without a value.
     Flag,
-    /// By a word with no name before it.
+    /// A positional word.
     Word,
-    /// By an option with a text.
+    /// An option with a text.
     Text,
-    /// By an option with a whole number of 64 bits.
+    /// An option with a whole number of 64 bits.
     Number,
 }
 
 impl Kind {
-    /// What `clap` does where it is given.
+    /// Returns what `clap` does with it.
     pub(crate) fn action(self) -> ArgAction
         ensures { result ≡ action_of self }
     {
@@ -93,71 +93,72 @@ impl Kind {
     }
 }
 
-/// The table of all subcommands. What goes over it calls this, so that the constant stands in no
-/// proof about commands.
+/// Returns the table of subcommands. Code visits the table through this call, so that the constant
+/// is in no proof about commands.
 pub(crate) fn subcommands() -> &'static [Subcommand]
     ensures { with_rows bare_command_line result.now ≡ command_line }
 {
     SUBCOMMANDS
 }
 
-/// All subcommands, in the order in which help lists them.
+/// All subcommands, in the order of the help.
 const SUBCOMMANDS: &'static [Subcommand] = &[
     Subcommand {
         name: "run",
-        about: "Answers each command line of standard input by one line on standard output",
+        about: "Answers each command on standard input with one line on standard output",
         long_about: texts::RUN,
         after_help: Some(texts::MOMENTS),
         groups: &[Group::Hub, Group::Run],
     },
     Subcommand {
         name: "play",
-        about: "The same for a script of steps: each line is one step, and nothing happens by \
-            itself",
+        about: "Answers each line of a script on standard input with one line on standard output, \
+            without follow-ups",
         long_about: texts::PLAY,
         after_help: Some(texts::MOMENTS),
         groups: &[Group::Hub, Group::Run],
     },
     Subcommand {
         name: "check",
-        about: "Tells which command lines of standard input no hub takes, and by which field",
+        about: "Checks the commands on standard input without answering them, and reports the \
+            invalid ones",
         long_about: texts::CHECK,
         after_help: Some(texts::MOMENTS),
         groups: &[Group::Hub],
     },
     Subcommand {
         name: "drill",
-        about: "Drills a hub by threads that race at a deadline, and tells by four lines how each \
-            opening ended",
+        about: "Drills a hub with threads that race at a deadline, and prints four lines for each \
+            opening",
         long_about: texts::DRILL,
         after_help: Some(texts::MOMENTS),
         groups: &[Group::Hub, Group::Drill],
     },
     Subcommand {
         name: "log",
-        about: "Tells with which settings a log begins, and how many lines it has",
+        about: "Prints a log's settings, its number of lines and its last digest",
         long_about: texts::LOG,
         after_help: None,
         groups: &[Group::Log],
     },
     Subcommand {
         name: "next",
-        about: "Closes the hub of a log, and begins another log with its books: the next opening",
+        about: "Closes the hub of a log, and makes the log of the next opening, which begins with \
+            its books",
         long_about: texts::NEXT,
         after_help: None,
         groups: &[Group::Next],
     },
     Subcommand {
         name: "explain",
-        about: "Tells what a refusal or a fault usually means, and what to do",
+        about: "Prints what a refusal or a fault usually means, and what to do",
         long_about: texts::EXPLAIN,
         after_help: None,
         groups: &[Group::Explain],
     },
 ];
 
-/// The settings of a hub: its participants, for what each has room, its times, its largest amount,
-/// its first moment.
+/// The settings of a hub: participants, capacities, times, maximum amount and base.
 const HUB: &'static [OptionRow] = &[
     OptionRow {
         name: "participants",
@@ -173,7 +174,7 @@ const HUB: &'static [OptionRow] = &[
         required: false,
         value_names: &["COUNT"],
         defaults: &["256"],
-        help: "Submissions of each originator that have places, 1 to 1024",
+        help: "Transfers that each originator can have in one opening, 1 to 1024",
     },
     OptionRow {
         name: "fundings",
@@ -181,7 +182,7 @@ const HUB: &'static [OptionRow] = &[
         required: false,
         value_names: &["COUNT"],
         defaults: &["256"],
-        help: "Fund and defund commands of each participant, 1 to 1024",
+        help: "Fund and defund commands of each participant in one opening, 1 to 1024",
     },
     OptionRow {
         name: "limit",
@@ -189,7 +190,7 @@ const HUB: &'static [OptionRow] = &[
         required: false,
         value_names: &["MS"],
         defaults: &["10000"],
-        help: "From time stamp to deadline, in milliseconds, 1 to 3600000",
+        help: "Maximum execution time, from time stamp to deadline, in milliseconds, 1 to 3600000",
     },
     OptionRow {
         name: "margin",
@@ -197,7 +198,7 @@ const HUB: &'static [OptionRow] = &[
         required: false,
         value_names: &["MS"],
         defaults: &["0"],
-        help: "From the last acceptance to the deadline, in milliseconds, 0 to limit - 1",
+        help: "Cut-off for acceptance before the deadline, in milliseconds, 0 to limit - 1",
     },
     OptionRow {
         name: "ahead",
@@ -205,7 +206,7 @@ const HUB: &'static [OptionRow] = &[
         required: false,
         value_names: &["MS"],
         defaults: &["1000"],
-        help: "From the reading to a time stamp ahead of it, in milliseconds, 0 to 60000",
+        help: "How far a time stamp may be after the clock reading, in milliseconds, 0 to 60000",
     },
     OptionRow {
         name: "ceiling",
@@ -213,7 +214,7 @@ const HUB: &'static [OptionRow] = &[
         required: false,
         value_names: &["CENTS"],
         defaults: &["99999999999"],
-        help: "The largest amount of one command, in cents, 1 to 99999999999",
+        help: "Maximum amount of one command, in cents, 1 to 99999999999",
     },
     OptionRow {
         name: "base",
@@ -221,11 +222,11 @@ const HUB: &'static [OptionRow] = &[
         required: false,
         value_names: &["MS"],
         defaults: &["0"],
-        help: "The first moment of all, in milliseconds, 0 to 4611686018427387904 (2^62)",
+        help: "Earliest moment, in milliseconds, 0 to 4611686018427387904 (2^62)",
     },
 ];
 
-/// What else a run has: its log, and a summary.
+/// The further options of a run: its log, and a summary.
 const RUN: &'static [OptionRow] = &[
     OptionRow {
         name: "log",
@@ -233,8 +234,8 @@ const RUN: &'static [OptionRow] = &[
         required: false,
         value_names: &["FILE"],
         defaults: &[],
-        help: "Keeps each line in this file before its reply is written, and goes on behind the \
-            lines that it has",
+        help: "Writes each line to FILE before its reply, and resumes after the lines that FILE \
+            already has",
     },
     OptionRow {
         name: "told",
@@ -242,8 +243,8 @@ const RUN: &'static [OptionRow] = &[
         required: false,
         value_names: &["COUNT"],
         defaults: &[],
-        help: "How many replies of the log's lines are there already, if not all; the others are \
-            written first",
+        help: "Number of replies to the log's lines that you have, all if not given; the others \
+            are written first",
     },
     OptionRow {
         name: "resume",
@@ -259,7 +260,7 @@ const RUN: &'static [OptionRow] = &[
         required: false,
         value_names: &["HEX"],
         defaults: &[],
-        help: "A digest that the log must contain, 64 hexadecimal digits in lower case",
+        help: "Digest that the log must contain, 64 hexadecimal digits in lower case",
     },
     OptionRow {
         name: "summary",
@@ -267,12 +268,12 @@ const RUN: &'static [OptionRow] = &[
         required: false,
         value_names: &[],
         defaults: &[],
-        help: "Tells on standard error, at the end, how many lines there were, and each \
-            participant's money",
+        help: "Prints on standard error, at the end, each participant's money in cents, and \
+            without a log the number of lines",
     },
 ];
 
-/// What else a drill has.
+/// The further options of a drill.
 const DRILL: &'static [OptionRow] = &[
     OptionRow {
         name: "transfers",
@@ -280,7 +281,7 @@ const DRILL: &'static [OptionRow] = &[
         required: false,
         value_names: &["COUNT"],
         defaults: &["200"],
-        help: "Transfers in each opening, 1 to 1024 and at most the places",
+        help: "Transfers in each opening, 1 to 1024 and at most --places",
     },
     OptionRow {
         name: "openings",
@@ -288,7 +289,7 @@ const DRILL: &'static [OptionRow] = &[
         required: false,
         value_names: &["COUNT"],
         defaults: &["1"],
-        help: "Openings, each from the books of the one before, 1 to 10",
+        help: "Number of openings, each from the books of the previous one, 1 to 10",
     },
     OptionRow {
         name: "script",
@@ -296,22 +297,22 @@ const DRILL: &'static [OptionRow] = &[
         required: false,
         value_names: &["FILE"],
         defaults: &[],
-        help: "Writes lines for play to this new or empty file, which leave the books of the \
-            first opening",
+        help: "Writes a script for play, which leaves the books of the first opening, to this new \
+            or empty file",
     },
 ];
 
-/// What the subcommand `log` reads.
+/// The file that `log` reads.
 const LOG: &'static [OptionRow] = &[OptionRow {
     name: "file",
     kind: Kind::Word,
     required: true,
     value_names: &["FILE"],
     defaults: &[],
-    help: "The file of the log",
+    help: "File of the log",
 }];
 
-/// The two files of the subcommand `next`.
+/// The options of `next`.
 const NEXT: &'static [OptionRow] = &[
     OptionRow {
         name: "log",
@@ -319,7 +320,7 @@ const NEXT: &'static [OptionRow] = &[
         required: true,
         value_names: &["FILE"],
         defaults: &[],
-        help: "The log of the hub that is closed; it is left as it is",
+        help: "Log of the hub to close; its lines are unchanged",
     },
     OptionRow {
         name: "to",
@@ -327,7 +328,7 @@ const NEXT: &'static [OptionRow] = &[
         required: true,
         value_names: &["FILE"],
         defaults: &[],
-        help: "The log that begins with its books; the file is made",
+        help: "Log to make, which begins with the books",
     },
     OptionRow {
         name: "digest",
@@ -335,16 +336,16 @@ const NEXT: &'static [OptionRow] = &[
         required: false,
         value_names: &["HEX"],
         defaults: &[],
-        help: "A digest that the first log must contain, 64 hexadecimal digits in lower case",
+        help: "Digest that the first log must contain, 64 hexadecimal digits in lower case",
     },
 ];
 
-/// What the subcommand `explain` explains.
+/// The fault that `explain` explains.
 const EXPLAIN: &'static [OptionRow] = &[OptionRow {
     name: "fault",
     kind: Kind::Word,
     required: true,
     value_names: &["FAULT"],
     defaults: &[],
-    help: "Its number, 1 to 29, or its name",
+    help: "Number of the fault, 1 to 29, or its name",
 }];

@@ -1,4 +1,4 @@
-//! The words of a command line, read by `clap`.
+//! Reading the words of a command line with `clap`.
 ghost use Rattle.std.specs.Prelude.{map, string_bytes, IfOk, IfErr};
 ghost use Rattle.clap.specs.Words.{found_of, kind_of, rows_of, subcommand_rows_of};
 ghost use Rattle.inst_options.specs.Asking.{IsWished, IsNoWish};
@@ -14,11 +14,14 @@ use clap::{ArgMatches, Error};
 use inst_base::Fault;
 use std::alloc::Global;
 
-/// What the words ask for, the program's name first. `WordsError::Words` has the text to show,
-/// which says what is wrong with them, or is the help or the version that they ask for;
-/// `WordsError::Option` comes where an option is out of its range or has a wrong form, and where
-/// `--told` stands without `--log`, and `Memory` where there is none. Its time is in the bytes of
-/// the words, and in the square of the number of participants.
+/// Returns the task that these words ask for; the first word is the program's name. The time is
+/// linear in the length of the words, and quadratic in the number of participants.
+///
+/// # Errors
+/// `WordsError::Words` if the words are wrong or ask for help or the version; it has the text to
+/// print. `WordsError::Option` if an option is out of its range or malformed, or is about a log and
+/// `--log` is missing. `WordsError::Fault` with `Memory` if an allocation fails, or with
+/// `BadSettings` if no single option shows why.
 pub fn wished<'a>(alloc: Global, words: &'a [String]) -> Result<Invocation<'a>, WordsError<'a>>
     ensures ok { IfOk result (IsWished (map string_bytes words.now)) }
     ensures err { IfErr result (IsNoWish (map string_bytes words.now)) }
@@ -30,7 +33,7 @@ pub fn wished<'a>(alloc: Global, words: &'a [String]) -> Result<Invocation<'a>, 
     }
 }
 
-/// What a subcommand and its options ask for, as they were found.
+/// Returns what a subcommand and its options ask for.
 fn asked<'a>(alloc: Global, matches: &ArgMatches<'a>) -> Result<Invocation<'a>, WordsError<'a>>
     ensures wish { IfOk result (IsAsked (subcommand_rows_of matches.now)) }
     ensures none { IfErr result (IsUnasked (subcommand_rows_of matches.now)) }
@@ -40,12 +43,12 @@ fn asked<'a>(alloc: Global, matches: &ArgMatches<'a>) -> Result<Invocation<'a>, 
             Ok(wish) => Ok(wish),
             Err(fault) => Err(refused(fault, options)),
         },
-        // A whole command line has a subcommand: this is never reached.
+        // Never reached: a whole command line has a subcommand.
         None => Err(WordsError::Fault(Fault::BadSettings)),
     }
 }
 
-/// Why options ask for nothing that were refused by this fault.
+/// Returns the error for options that were refused with this fault.
 fn refused<'a>(fault: Fault, options: &ArgMatches<'a>) -> WordsError<'a>
     ensures { IsRefusedBy (rows_of (found_of options.now)) fault result }
 {

@@ -1,20 +1,21 @@
-//! Steps in which a participant asks, at a clock reading that fits every deadline.
+//! Steps of commands, at a clock reading that fits every deadline.
+
 use inst_base::{Ident, Moment};
 use inst_command::{Ask, Command, Outcome, Step, Submission};
 
-/// Returns the step in which the participant `who` asks this at the clock reading `at`.
+/// Returns the step of a command of `who` at the clock reading `at`.
 pub(crate) fn ask_at(who: u8, command: Command, at: Moment) -> Step {
     Step::Ask(Ask { who, command, at })
 }
 
-/// Returns the step in which it asks this at the first moment. No deadline is reached then, so an
-/// answer is in time, with the margin to spare.
+/// Returns the step of a command at the first moment. No deadline is reached then, so an answer is
+/// in time, by more than the margin.
 pub(crate) fn ask_first(who: u8, command: Command) -> Step {
     ask_at(who, command, Moment::new(0, 0).unwrap())
 }
 
-/// Returns the step in which it asks this at the last moment. Each deadline has passed then, so a
-/// pending transfer times out.
+/// Returns the step of a command at the last moment. Each deadline is reached then, so a pending
+/// transfer times out.
 pub(crate) fn ask_last(who: u8, command: Command) -> Step {
     ask_at(who, command, Moment::new(0, (1 << 41) - 1).unwrap())
 }

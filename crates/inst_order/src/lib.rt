@@ -1,5 +1,4 @@
-//! Rebuilds, from closed books, one order of events that explains them: steps of a hub in one
-//! thread that leave these books.
+//! Rebuilds, from the books of a closed hub, steps of a hub in one thread that leave these books.
 #![tactic(auto)]
 
 mod asking;

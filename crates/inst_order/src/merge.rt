@@ -1,12 +1,12 @@
-//! Puts the events of all journals in one order, and finds the step that keeps each.
+//! Puts the events of all journals in one order, and finds the step that adds each.
 //!
 //! Two kinds of event wait for one in another journal. A transfer is delivered after it was taken.
 //! Its originator books an acceptance or a rejection after its beneficiary, and a time-out after
 //! the delivery, if there is one. Each participant's events are visited in order up to the first
 //! that waits, and from there on once the event that it waits for has its step. So each event is
-//! visited a few times, with one look at a table each time.
+//! visited a few times, with one table look-up each time.
 //!
-//! No contract rests on the steps: they are run, and the journals of that run are compared.
+//! No contract depends on the steps: they are run, and the journals of that run are compared.
 ghost use Rattle.std.specs.Prelude.{◌≤◌, length};
 ghost use Rattle.inst_settings.specs.declared.ranges.TheConstants.{MOST_PARTICIPANTS};
 
@@ -19,8 +19,8 @@ use inst_settings::MOST_PARTICIPANTS;
 use std::alloc::{AllocError, Global};
 use std::collections::HashMap;
 
-/// Returns how many events precede the current opening: those up to the last `Opened`, or none at a
-/// first opening.
+/// Returns the number of events before the current opening: those up to the last `Opened`, or none
+/// at a first opening.
 fn carried_count(events: &[Event]) -> usize
     ensures { result ≤ length events.now }
 {
@@ -36,9 +36,9 @@ fn carried_count(events: &[Event]) -> usize
 /// The steps of the events that are in order so far.
 #[derive(Drop)]
 struct Merge {
-    /// How many events are to have steps.
+    /// The number of events that need steps.
     count: usize,
-    /// By originator, how many of its places are used.
+    /// By originator, the number of its places in use.
     places: [u16; MOST_PARTICIPANTS],
     /// By originator and identifier.
     transfers: HashMap<(u8, Ident), Progress>,
@@ -48,7 +48,7 @@ struct Merge {
 }
 
 impl Merge {
-    /// Returns the merge of no journals.
+    /// Makes a merge of no journals.
     fn new(alloc: Global) -> Merge {
         Merge {
             count: 0,
@@ -59,8 +59,8 @@ impl Merge {
         }
     }
 
-    /// Adds the journal of the participant `who`, and returns its events that are to have steps:
-    /// those of the current opening.
+    /// Adds the journal of the participant `who`, and returns its events that need steps: those of
+    /// the current opening.
     fn add<'a>(&mut self, who: u8, events: &'a [Event]) -> Result<&'a [Event], AllocError> {
         let (carried, current) = events.split_at(carried_count(events));
         self.note_settled(who, carried)?;
@@ -71,7 +71,7 @@ impl Merge {
         Ok(current)
     }
 
-    /// Notes which transfers of the originator were settled before the opening.
+    /// Notes the transfers of the originator that were settled before the opening.
     fn note_settled(&mut self, who: u8, carried: &[Event]) -> Result<(), AllocError> {
         for event in carried {
             if let Event::Booked { from, id, .. } = event
@@ -83,7 +83,7 @@ impl Merge {
         Ok(())
     }
 
-    /// Gives the others their places.
+    /// Gives the other carried transfers their places.
     fn note_carried(&mut self, who: u8, carried: &[Event]) -> Result<(), AllocError> {
         for event in carried {
             if let Event::Taken { id, .. } = event {
@@ -93,7 +93,7 @@ impl Merge {
         Ok(())
     }
 
-    /// Notes which transfers are to be delivered.
+    /// Notes the transfers that are to be delivered.
     fn note_deliveries(&mut self, current: &[Event]) -> Result<(), AllocError> {
         for event in current {
             if let Event::Forwarded { from, id, .. } = event {
@@ -103,8 +103,7 @@ impl Merge {
         Ok(())
     }
 
-    /// Goes over the participant's next events, up to one that waits, and returns those that are
-    /// left.
+    /// Visits the participant's next events up to one that waits, and returns the rest.
     fn advance<'a>(&mut self, who: u8, events: &'a [Event]) -> Result<&'a [Event], AllocError> {
         for (index, event) in events.iter().enumerate() {
             if !self.find_step(who, event)? {
@@ -114,7 +113,7 @@ impl Merge {
         Ok(&[])
     }
 
-    /// Returns what is noted of a transfer.
+    /// Returns the notes on a transfer.
     fn progress(&mut self, from: u8, id: Ident) -> Result<&mut Progress, AllocError> {
         Ok(self.transfers.entry((from, id))?.or_insert(Progress::NONE))
     }
@@ -127,7 +126,7 @@ impl Merge {
         Ok(())
     }
 
-    /// Finds the step that keeps this event: `false` if the event waits for another.
+    /// Finds the step that adds this event; returns `false` if the event waits for another.
     fn find_step(&mut self, who: u8, event: &Event) -> Result<bool, AllocError> {
         let step = match *event {
             Event::Funded(funding) => Some(ask_first(who, Command::Fund(funding))),
@@ -204,7 +203,7 @@ impl Merge {
     }
 
     /// Returns the step in which the originator books the outcome, or `None` if it may not yet. An
-    /// investigation at the last moment books the outcome that there is, or else a time-out.
+    /// investigation at the last moment books the outcome, or a time-out if there is none.
     fn investigate(
         &mut self,
         who: u8,
@@ -221,7 +220,7 @@ impl Merge {
 }
 
 /// Returns a step for each event of the current opening, in an order in which no event precedes one
-/// that it waits for, or `None` if there is no such order. It visits each event a few times.
+/// that it waits for, or `None` if there is no such order. Visits each event a few times.
 pub(crate) fn find_steps(
     alloc: Global,
     journals: &[Journal],
@@ -243,7 +242,7 @@ pub(crate) fn find_steps(
     Ok(is_done.then_some(merge.steps))
 }
 
-/// Adds each journal, and returns the events that are to have steps, by participant.
+/// Adds each journal, and returns the events that need steps, by participant.
 fn add_all<'a>(
     alloc: Global,
     merge: &mut Merge,

@@ -1,3 +1,4 @@
+//! The public calls: finding steps and checking them by running them.
 ghost use Rattle.std.specs.Prelude.{◌≡◌, ◌↔◌, length, IfOk, IfSome, OnSome, IsTrue};
 ghost use Rattle.inst_settings.specs.Settings.{participants};
 ghost use Rattle.inst_model.specs.Interleaving.{IsInterleaving};
@@ -13,7 +14,7 @@ use inst_settings::Settings;
 use inst_world::World;
 use std::alloc::{AllocError, Global};
 
-/// Returns `true` if each step is one of a hub with these settings.
+/// Returns `true` if each step fits these settings.
 fn all_fit(settings: &Settings, steps: &[Step]) -> bool
     ensures { IsTrue result ↔ IsInterleaving settings.now steps.now }
 {
@@ -62,16 +63,18 @@ fn has_journals(world: &World, journals: &[Journal]) -> bool
 }
 
 /// Returns steps of a hub in one thread that leave exactly these journals after a first opening, if
-/// it finds some. There is one journal for each participant, by number. The steps' clock readings
-/// are not those of the calls that were made.
+/// it finds some. There must be one journal for each participant, by number.
 ///
-/// `None` promises nothing. It is the answer for journals that no hub can leave, such as those of
-/// participants that pay each other with money that each has only from the other. Takes time linear
-/// in the number of events, and memory for the steps and the hub that runs them.
+/// The steps' clock readings are chosen, and aren't those of the calls that were made. `None`
+/// promises nothing: journals that no hub can leave give it, such as those of participants that pay
+/// each other with money that each has only from the other.
+///
+/// Takes time linear in the number of events, and allocates the steps and the hub that runs them.
 ///
 /// # Errors
 ///
-/// `AllocError` if an allocation fails.
+/// [`AllocError`] if the steps or the hub that runs them can't be allocated. The journals are only
+/// read.
 pub fn interleaving(
     alloc: Global,
     settings: &Settings,
@@ -88,12 +91,13 @@ pub fn interleaving(
     Ok(has_journals(&world, journals).then_some(steps))
 }
 
-/// Returns such steps of a hub that opens again from the journals of `opening`. Each journal of
+/// Returns such steps of a hub that was opened again from the journals `opening`. Each journal of
 /// `journals` begins with the participant's journal of `opening`, followed by `Opened`.
 ///
 /// # Errors
 ///
-/// `AllocError` if an allocation fails.
+/// [`AllocError`] if the steps or the hub that runs them can't be allocated. The journals are only
+/// read.
 pub fn interleaving_from(
     alloc: Global,
     settings: &Settings,

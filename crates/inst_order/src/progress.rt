@@ -1,6 +1,8 @@
+//! Notes on a transfer while steps are found.
+
 use inst_command::Outcome;
 
-/// What the steps found so far have made of a transfer.
+/// The progress of a transfer in the steps found so far.
 #[derive(Clone, Copy)]
 pub(crate) struct Progress {
     /// `true` if its originator had booked its outcome before the opening. It has no place then.
@@ -17,7 +19,7 @@ pub(crate) struct Progress {
 }
 
 impl Progress {
-    /// A transfer that no step concerns yet.
+    /// A transfer without steps.
     pub(crate) const NONE: Progress = Progress {
         is_settled: false,
         place: None,
@@ -27,8 +29,8 @@ impl Progress {
     };
 
     /// Returns `true` if the originator may book this outcome next. Only the beneficiary accepts or
-    /// rejects a transfer, and it books that first. A transfer that has timed out is delivered no
-    /// more.
+    /// rejects a transfer, and it books that first. A transfer that has timed out is no longer
+    /// delivered.
     pub(crate) fn may_book(&self, outcome: &Outcome) -> bool {
         match outcome {
             Outcome::Accepted | Outcome::Rejected(_) => self.is_answered,

@@ -1,6 +1,6 @@
--- What a participant's ask is answered in a hub of many threads: what the model replies on its
--- history for what the ask finds, with a ticket for the transfer that the reply tells of. That
--- there are tickets is this hub's own choice.
+-- The answer to an ask in a hub on many threads: the model's reply on the participant's history for
+-- what the ask finds, with a ticket for the transfer that the reply concerns. Tickets are a choice
+-- of this hub.
 use Rattle.std.specs.Prelude.{◌≡◌, ◌≢◌, ℕ, true, false, List, ◌++◌, Option, Some, None, Contains}
 use Rattle.inst_base.specs.TimeLimit.{deadline_of}
 use Rattle.inst_settings.specs.Settings.{HubSettings}
@@ -31,8 +31,8 @@ use Rattle.inst_model.specs.TransferTold.{TransferTold, transfer_told, tells_tak
 use Rattle.inst_model.specs.TransferTold.{tells_nothing}
 use Rattle.inst_slot.specs.Book.{terms_to}
 
--- the command decides a transfer that is due at this deadline, of which the history has nothing
--- booked: it confirms or rejects one that was forwarded, or investigates one that was taken
+-- The command decides a transfer with this deadline, of which the history has no outcome booked: it
+-- confirms or rejects a forwarded one, or investigates one of the asker's own.
 abbrev pub DecidesUntil : HubSettings → ℕ → List Event → Command → Wish → ℕ → Type 0
 DecidesUntil s who J (Confirm from id) wish deadline = (wish ≡ Accept) × (booked from id J ≡ None)
     × ((cents : ℕ) × Contains J (Forwarded from id cents deadline))
@@ -44,11 +44,13 @@ DecidesUntil s who J (Investigate id) wish deadline = (wish ≡ Expire) × (book
     × (deadline ≡ deadline_of s.limit stamp))
 DecidesUntil s who J _ wish deadline = ⊥
 
--- On the history J the ask of `who` is answered by this reply, and the history is then K reply_is,
--- kept: it is the model's reply for what the ask finds, and the model's event is kept and nothing
--- else none: it finds nothing only where its wish leaves the transfer pending own: a confirmation
--- or rejection finds an acceptance or rejection only where it wants that at its reading other: an
--- ask that decides no transfer finds nothing
+-- On the history J the ask of `who` gets this reply, and the history is then K.
+-- - found: the outcome that the ask finds, if any.
+-- - reply_is, kept: the reply and the stored event are the model's, and nothing else is stored.
+-- - none: it finds nothing only if its wish leaves the transfer pending.
+-- - own: a confirmation or rejection finds an acceptance or rejection only if it wants that at its
+-- clock reading.
+-- - other: an ask that decides no transfer finds nothing.
 pub record Answered (s : HubSettings) (who : ℕ) (J : List Event) (ask : Ask) (reply : Reply)
     (K : List Event) : Type 0 where
   pub found : Option Outcome
@@ -63,15 +65,15 @@ pub record Answered (s : HubSettings) (who : ℕ) (J : List Event) (ask : Ask) (
   pub other : ((wish : Wish) (deadline : ℕ) → ¬ DecidesUntil s who J ask.command wish deadline) →
       found ≡ None
 
--- the place is known opened as the command submits it
+-- The place is known to be opened as the command submits it.
 abbrev pub IsSubmitted : (Fact → Type 0) → HubSettings → Command → Place → Type 0
 IsSubmitted sees s (Submit x) k =
     sees (about k Opened) × sees (about k (HasTerms (terms_to x.to x.cents x.id)))
     × sees (about k (Due (deadline_of s.limit x.stamp)))
 IsSubmitted sees s _ k = ⊥
 
--- the place is known opened with terms of this identifier, and the outcome is known if the state
--- has one
+-- The place is known to be opened with terms of this identifier. If the state has an outcome, it is
+-- known.
 pub record IsInState (sees : Fact →
     Type 0) (id : List ℕ) (state : StateValue) (k : Place) : Type 0 where
   pub terms : Terms
@@ -80,8 +82,8 @@ pub record IsInState (sees : Fact →
   pub has_terms : sees (about k (HasTerms terms))
   pub outcome : (o : Outcome) → state ≡ IsDecided o → sees (about k (Decided o))
 
--- The ticket that goes with what a reply tells of a transfer, where the history is then K: it names
--- the place of that transfer, and there is none where it isn't live
+-- The ticket of what a reply says of a transfer, if the history is then K: it names the place of
+-- that transfer, and there is none exactly if the transfer isn't live.
 abbrev pub IsTicketOf : (Fact → Type 0) → HubSettings → ℕ → Command → List Event → TransferTold →
     Option Place → Type 0
 IsTicketOf sees s who command K (tells_taken id deadline) (Some k) =
@@ -94,7 +96,7 @@ IsTicketOf sees s who command K (tells_state from id state) (Some k) =
 IsTicketOf sees s who command K (tells_state from id state) None = is_live from id K ≡ false
 IsTicketOf sees s who command K tells_nothing ticket = ticket ≡ None
 
--- the ticket that goes with the reply
+-- The ticket of a reply.
 abbrev pub IsTicket : (Fact → Type 0) → HubSettings → ℕ → Command → List Event → Reply →
     Option Place → Type 0
 IsTicket sees s who command K reply ticket =

@@ -1,6 +1,5 @@
--- What the closed books tell of a place: what its originator has booked of the transfer that it
--- took there. Whatever was seen before is in it. That a caller may ask by a place is this hub's own
--- choice.
+-- What the closed books have of a place: what its originator booked of the transfer that it took
+-- there. It includes all that was seen before. Asking by place is a choice of this hub.
 use Rattle.std.specs.Prelude.{◌≡◌, ◌≢◌, ℕ, ◌<◌, List, slice_get, Some}
 use Rattle.inst_settings.specs.Settings.{HubSettings, participants}
 use Rattle.inst_command.specs.declared.outcome.Outcome.{Outcome}
@@ -20,22 +19,23 @@ use Rattle.inst_slot.specs.Book.{Book}
 use Rattle.inst_slot.specs.OwnState.{own_state}
 use Rattle.inst_participant.specs.Together.{histories, AreTogether, AllAreSettled}
 
--- what the books tell of the place
+-- The state that the books have for the place.
 abbrev pub state_in_books : (ℕ → List Event) → Place → State
 state_in_books J k = own_state k.owner (J k.owner) k.index
 
--- the terms are those of a transfer that was taken at the place
+-- The terms are those of the transfer that was taken at the place.
 abbrev pub IsTakenWith : (ℕ → List Event) → Place → Terms → Type 0
 IsTakenWith J k t = (stamp : ℕ) ×
     (slice_get (live_taken k.owner (J k.owner)) k.index ≡ Some (Taken t.id t.to t.cents stamp))
 
--- what is known of a place that is known opened is in the books
+-- What is known of a place that is known to be opened is in the books.
 pub record IsInTheBooks {B : Type 0} (knows : B → Fact → Type 0) (b : B) (J : ℕ →
     List Event) (k : Place) : Type 0 where
   pub used : state_in_books J k ≢ Unused
   pub terms : (t : Terms) → knows b (about k (HasTerms t)) → IsTakenWith J k t
   pub outcome : (o : Outcome) → knows b (about k (IsDecided o)) → state_in_books J k ≡ Decided o
 
+-- Settled books have all that the board knows of a place that it knows to be opened.
 abbrev pub WhatIsKnownIsTold : {B : Type 0} → (B → HubSettings) → (B → Fact → Type 0) →
     (B → ℕ → Type 0) → Type 0
 WhatIsKnownIsTold {B} settings knows has_role =

@@ -1,6 +1,6 @@
--- How a participant serves an ask under its lock: the ask is put to its slot, over its board, and
--- nothing else is done to either, so that no other transfer is decided with it. That a refusal is a
--- reply is this hub's own choice.
+-- How a participant serves an ask under its lock: its slot answers the ask over its board, and
+-- nothing else changes, so no other transfer is decided. Refusals are replies. A choice of this
+-- hub.
 use Rattle.std.specs.Prelude.{◌≡◌, true, Option, Result, Ok, Err, alloc_error}
 use Rattle.std.specs.declared.alloc.AllocError.{AllocError}
 use Rattle.inst_base.specs.declared.fault.Fault.{Fault}
@@ -19,11 +19,11 @@ use Rattle.inst_participant.specs.declared.participant.Participant.{Participant}
 use Rattle.inst_participant.specs.Answers.{Answered, IsTicket}
 use Rattle.inst_participant.specs.LockLaw.{IsReady, IsLater, HistoryGrows}
 
--- From x to y the ask is served with this answer
--- passes_on: the slot's answer is passed on, a refusal as a reply
--- applies: the slot answered it over its board, and kept and decided what it is to keep and decide,
--- and nothing else
--- same: its board knows no more than after that
+-- From x to y the ask is served with this answer.
+-- - passes_on: it is the slot's answer, with a refusal as a reply.
+-- - applies: the slot answered over its board, and stored and decided what the ask requires and
+-- nothing else.
+-- - same: the board knows no more than after that.
 pub record Serves (x : Participant) (ask : Ask) (answer : Result Reply AllocError) (y : Participant)
     : Type 0 where
   pub result : Result Reply Fault
@@ -33,28 +33,27 @@ pub record Serves (x : Participant) (ask : Ask) (answer : Result Reply AllocErro
       result board y.slot
   pub same : KnowTheSame knows board y.board
 
--- the participant may serve the ask: it is its own, and fits the hub
+-- The participant may serve the ask: it is its own, and fits the hub.
 pub record MayServe (x : Participant) (ask : Ask) : Type 0 where
   pub ready : IsReady x
   pub own : ask.who ≡ x.slot.who
   pub fits : ask_fits x.slot.settings ask ≡ true
 
--- from x to y it stays the same participant and ready, and a sound history goes on
+-- From x to y the participant stays the same and ready, and its history, which is sound, grows.
 pub record StaysReady (x y : Participant) : Type 0 where
   pub ready : IsReady y
   pub later : IsLater x y
   pub grows : HistoryGrows x y
   pub sound : IsSound x.slot.settings x.slot.who x.slot.events
 
--- from x to y the ask is answered by the model's reply, with its ticket, where this is known of
--- places
+-- From x to y the ask gets the model's reply and its ticket, if this is what is seen of places.
 pub record AnswersWithTicket (x : Participant) (ask : Ask) (answer : Reply × Option Place)
     (sees : Fact → Type 0) (y : Participant) : Type 0 where
   pub serves : Serves x ask (Ok answer.0) y
   pub answered : Answered x.slot.settings x.slot.who x.slot.events ask answer.0 y.slot.events
   pub ticket : IsTicket sees x.slot.settings x.slot.who ask.command y.slot.events answer.0 answer.1
 
--- from x to y memory was refused, and the books are as they were
+-- From x to y allocation failed, and the books are unchanged.
 pub record LeavesUnanswered (x : Participant) (ask : Ask) (y : Participant) : Type 0 where
   pub serves : Serves x ask (Err alloc_error) y
   pub same : y.slot ≡ x.slot

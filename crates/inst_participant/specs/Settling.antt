@@ -1,6 +1,6 @@
--- A participant's book is settled over a board whose holder has all roles: the outcomes of its own
--- live transfers and of those that came to it are booked, and what is pending for it comes. Nothing
--- is decided, and nothing new is known. No clause says in which order.
+-- Settling a participant's book over a board with all roles: the outcomes of its live transfers,
+-- own and forwarded, are booked, and what is pending for it is delivered. Nothing is decided, and
+-- nothing new is known. No clause says in which order. A choice of this hub.
 use Rattle.std.specs.Prelude.{◌≡◌, ◌⊎◌, ℕ, ◌<◌, Contains, Some}
 use Rattle.inst_settings.specs.Settings.{HubSettings, participants}
 use Rattle.inst_command.specs.declared.outcome.Outcome.{Outcome}
@@ -16,15 +16,15 @@ use Rattle.inst_slot.specs.declared.arrival.Arrival.{Arrival}
 use Rattle.inst_slot.specs.Book.{Book, place_at}
 use Rattle.inst_slot.specs.LawfulBoard.{IsLawfulBoard, KeepsOthers, AllAreAdopted}
 
--- The board's holder has the roles of all participants, and what it knows opened is addressed to
--- one whose role it has
+-- The board has the roles of all participants, and what it knows to be opened is addressed to one
+-- of them.
 pub record HasAll {B : Type 0} (settings : B → HubSettings) (knows : B → Fact →
     Type 0) (has_role : B → ℕ → Type 0) (b : B) : Type 0 where
   pub role : (p : ℕ) → p < participants (settings b) → has_role b p
   pub addressed : (k : Place) (t : Terms) → knows b (about k Opened) →
       knows b (about k (HasTerms t)) → has_role b t.to
 
--- the book is a participant's, over such a board, which is lawful for it
+-- The book of a participant over such a board, which is lawful for it.
 pub record IsReadyToSettle {B : Type 0} (settings : B → HubSettings) (knows : B → Fact →
     Type 0) (has_role : B → ℕ → Type 0)
     (b : B) (x : Book) : Type 0 where
@@ -33,12 +33,12 @@ pub record IsReadyToSettle {B : Type 0} (settings : B → HubSettings) (knows : 
   pub adopted : AllAreAdopted x
   pub all : HasAll settings knows has_role b
 
--- From the book x over the board b to the book y over the board c
--- told: nothing happened but that transfers came and outcomes were booked
--- known: nothing new is known
--- still, since: its own live transfers are those that they were, and what it carries
--- came: what came besides isn't decided
--- others: the books of the others stay lawful
+-- From book x over board b to book y over board c.
+-- - told: only deliveries and bookings were added.
+-- - known: nothing new is known.
+-- - still, since: its own live transfers and the carried events are unchanged.
+-- - came: a newly delivered transfer isn't known to be decided.
+-- - others: the books of the others stay lawful.
 pub record IsLater {B : Type 0} (settings : B → HubSettings) (knows : B → Fact →
     Type 0) (has_role : B → ℕ → Type 0)
     (stays : B → B → Type 0) (b : B) (x : Book) (c : B) (y : Book) : Type 0 where

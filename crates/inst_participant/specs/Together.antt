@@ -1,6 +1,6 @@
--- The books of all participants of a hub, over one board whose holder has all roles, as a closing
--- finds them and leaves them: each goes on from what the hub was opened with, and what there is to
--- book and to get was booked and came. This hub's own choice.
+-- The books of all participants over one board with all roles, as a closing finds and leaves them:
+-- each extends what the hub was opened with, and has all outcomes and deliveries once it is
+-- settled. A choice of this hub.
 use Rattle.std.specs.Prelude.{◌≡◌, ◌≢◌, ◌⊎◌, ℕ, true, is_some, List, length, slice_get, Contains}
 use Rattle.std.specs.Prelude.{Some}
 use Rattle.inst_settings.specs.Settings.{HubSettings, participants}
@@ -22,14 +22,14 @@ use Rattle.inst_slot.specs.declared.arrival.Arrival.{Arrival}
 use Rattle.inst_slot.specs.Book.{Book, events_of, place_at}
 use Rattle.inst_slot.specs.LawfulBoard.{IsLawfulBoard, AllAreAdopted}
 
--- the history of each participant, by its number
+-- The history of each participant, by number.
 abbrev pub histories : List Book → ℕ → List Event
 histories books p = events_of (slice_get books p)
 
--- The book of the participant p of a hub that was opened so, over this board
--- sound: its history is one that a participant can have
--- since: what it carries is what the hub began with
--- lawful, adopted: its board is lawful for it, and the places of what it carries were found
+-- The book of participant p of a hub with this opening, over this board.
+-- - sound: its history is one that a participant can have.
+-- - since: what it carries is what the hub began with.
+-- - lawful, adopted: the board is lawful for it, and the places of what it carries were found.
 pub record IsMemberBook {B : Type 0} (settings : B → HubSettings) (knows : B → Fact →
     Type 0) (has_role : B → ℕ → Type 0)
     (b : B) (s : HubSettings) (O : Opening) (p : ℕ) (book : Book) : Type 0 where
@@ -40,7 +40,7 @@ pub record IsMemberBook {B : Type 0} (settings : B → HubSettings) (knows : B �
   pub lawful : IsLawfulBoard settings knows has_role b book
   pub adopted : AllAreAdopted book
 
--- the books of all participants, by number
+-- The books of all participants, by number.
 pub record AreTogether {B : Type 0} (settings : B → HubSettings) (knows : B → Fact →
     Type 0) (has_role : B → ℕ → Type 0)
     (b : B) (s : HubSettings) (O : Opening) (books : List Book) : Type 0 where
@@ -48,10 +48,10 @@ pub record AreTogether {B : Type 0} (settings : B → HubSettings) (knows : B �
   pub member : (p : ℕ) (book : Book) → slice_get books p ≡ Some book →
       IsMemberBook settings knows has_role b s O p book
 
--- The participant has booked and got what there is for it
--- own: a live transfer of its own is booked, where its outcome is known
--- arrived: so is one that came to it
--- come: a transfer for it has come, or its outcome is known
+-- The participant has settled all.
+-- - own: a live transfer of its own is booked if its outcome is known.
+-- - arrived: so is a forwarded one.
+-- - come: a transfer for it was delivered, or its outcome is known.
 pub record HasSettledAll {B : Type 0} (knows : B → Fact → Type 0) (b : B)
     (book : Book) : Type 0 where
   pub own : (index : ℕ) (id : List ℕ) (to cents stamp : ℕ) (o : Outcome) →
@@ -68,18 +68,19 @@ pub record HasSettledAll {B : Type 0} (knows : B → Fact → Type 0) (b : B)
       (is_forwarded k.owner t.id book.events ≡ true)
       ⊎ ((o : Outcome) × knows b (about k (Decided o)))
 
+-- Each participant has settled all.
 abbrev pub AllAreSettled : {B : Type 0} → (B → Fact → Type 0) → B → List Book → Type 0
 AllAreSettled knows b books =
     (p : ℕ) (book : Book) → slice_get books p ≡ Some book → HasSettledAll knows b book
 
--- the books of one hub over one board fit
+-- The books of one hub over one board fit each other.
 abbrev pub TogetherTheyFit : {B : Type 0} → (B → HubSettings) → (B → Fact → Type 0) →
     (B → ℕ → Type 0) → Type 0
 TogetherTheyFit {B} settings knows has_role =
     (b : B) (s : HubSettings) (O : Opening) (books : List Book) → IsOpening s O →
     AreTogether settings knows has_role b s O books → BooksFit s (histories books)
 
--- and where all are settled they are closed
+-- If all are settled, they are closed.
 abbrev pub SettledBooksAreClosed : {B : Type 0} → (B → HubSettings) → (B → Fact → Type 0) →
     (B → ℕ → Type 0) → Type 0
 SettledBooksAreClosed {B} settings knows has_role =

@@ -1,6 +1,5 @@
-//! A participant behind its lock in a hub of many threads: what a call and a sweep do to it. And
-//! all participants of a hub that was taken apart: how their books are settled, and the laws of
-//! these books. No lock and no thread is in here.
+//! A participant behind its lock in a hub on many threads, and all participants of a hub that was
+//! taken apart. This crate has no lock and no thread.
 #![tactic(auto)]
 
 mod follow_up;

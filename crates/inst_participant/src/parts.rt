@@ -1,3 +1,4 @@
+//! A hub that was taken apart.
 ghost use Rattle.std.specs.Prelude.{◌≡◌, ◌<◌, IfOk};
 ghost use Rattle.inst_board.specs.declared.about.About.TheVariants.{Opened};
 ghost use Rattle.inst_command.specs.declared.place.Place.{Place};
@@ -18,8 +19,8 @@ use inst_settings::Settings;
 use inst_slot::Slot;
 use std::alloc::AllocError;
 
-/// What a hub is taken apart into: the slots of its participants, by number, and one board with the
-/// roles of all of them.
+/// What a hub is taken apart into: the slots of its participants, by number, and one board with all
+/// roles.
 #[derive(Drop)]
 pub struct Parts {
     pub(crate) settings: Settings,
@@ -28,7 +29,7 @@ pub struct Parts {
 }
 
 impl Parts {
-    /// These slots over this board.
+    /// Makes parts of these slots and this board.
     pub fn of(settings: Settings, slots: Vec<Slot>, board: SharedBoard) -> Parts
         ensures settings { result.settings ≡ settings }
         ensures slots { result.slots.items ≡ slots.items }
@@ -41,9 +42,16 @@ impl Parts {
         }
     }
 
-    /// Books what is decided of the transfers in the book of `who`, its own by place and then those
-    /// that came in order of arrival, and gets what is pending for it, by originator and place. How
-    /// many of these were new. Refused memory ends it, and what was done before stands.
+    /// Settles one participant: books each decided outcome of its live transfers and delivers what
+    /// is pending for it. Returns how many events this stored, at most 2^32 - 1.
+    ///
+    /// Its own transfers come first, by place, then the forwarded ones, in order of arrival, then
+    /// the deliveries, by originator and place. Visits the places of all originators.
+    ///
+    /// # Errors
+    ///
+    /// [`AllocError`] if an event can't be stored; what was done before is kept, and the call can
+    /// be repeated.
     pub fn settle(&mut self, who: u8) -> Result<u32, AllocError>
         requires parts { (O : Opening) × IsPartsOf O self.old }
         requires participant { who < participants self.old.settings }
@@ -56,8 +64,13 @@ impl Parts {
         settle_one(&mut self.slots, &mut self.board, who)
     }
 
-    /// Settles each participant by number: then the books are closed, and all that the board knew
+    /// Settles each participant, by number. Then the books are closed, and all that the board knew
     /// is in them.
+    ///
+    /// # Errors
+    ///
+    /// [`AllocError`] if an event can't be stored; what was done before is kept, and the call can
+    /// be repeated.
     pub fn settle_all(&mut self) -> Result<(), AllocError>
         requires parts { (O : Opening) × IsPartsOf O self.old }
         ensures later { AreLater self.old self.new }
@@ -69,7 +82,7 @@ impl Parts {
         settle_each(&self.settings, &mut self.slots, &mut self.board)
     }
 
-    /// The settings and the slots. The board is dropped.
+    /// Returns the settings and the slots, and drops the board.
     pub fn into_slots(self) -> (Settings, Vec<Slot>)
         ensures settings { result.0 ≡ self.settings }
         ensures slots { result.1.items ≡ self.slots.items }

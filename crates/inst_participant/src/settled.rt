@@ -1,4 +1,4 @@
-//! How all participants are settled, one after another.
+//! Settling all participants, one after another.
 ghost use Rattle.std.specs.Prelude.{◌≡◌, ◌≢◌, ℕ, ◌<◌, IfOk};
 ghost use Rattle.inst_settings.specs.Settings.{participants};
 ghost use Rattle.inst_board.specs.declared.about.About.TheVariants.{Opened};
@@ -17,7 +17,11 @@ use inst_settings::Settings;
 use inst_slot::Slot;
 use std::alloc::AllocError;
 
-/// Settles the participant `who`, and says how much of it was new.
+/// Settles the participant `who`, and returns how many events this stored, at most 2^32 - 1.
+///
+/// # Errors
+///
+/// [`AllocError`] if an event can't be stored; what was done before is kept.
 pub fn settle_one<B: Board>(
     slots: &mut Vec<Slot>,
     board: &mut B,
@@ -37,7 +41,11 @@ pub fn settle_one<B: Board>(
     settle(&mut slots[usize::from(who)], board)
 }
 
-/// Settles each participant, by number: then the books are closed.
+/// Settles each participant, by number. Then the books are closed.
+///
+/// # Errors
+///
+/// [`AllocError`] if an event can't be stored; what was done before is kept.
 pub fn settle_each<B: Board>(
     settings: &Settings,
     slots: &mut Vec<Slot>,

@@ -1,4 +1,4 @@
-//! How a participant gets what there is for it, over a board whose holder has all roles.
+//! Settling one participant over a board that has all roles.
 ghost use Rattle.std.specs.Prelude.{◌≡◌, ◌≢◌, ℕ, ◌<◌, IfOk};
 ghost use Rattle.inst_settings.specs.Settings.{participants};
 ghost use Rattle.inst_journal.specs.Sound.{IsSound};
@@ -13,12 +13,12 @@ use inst_command::Place;
 use inst_slot::Slot;
 use std::alloc::AllocError;
 
-/// Books what is decided of the participant's live transfers, its own and those that came to it,
-/// and gets what is pending for it from each other originator. Returns how many of these were new.
+/// Books each decided outcome of the participant's live transfers, own and forwarded, and delivers
+/// what is pending for it. Returns how many events this stored, at most 2^32 - 1.
 ///
 /// # Errors
 ///
-/// An allocation failed. What was done before stands.
+/// [`AllocError`] if an event can't be stored; what was done before is kept.
 pub fn settle<B: Board>(slot: &mut Slot, board: &mut B) -> Result<u32, AllocError>
     requires ready { IsReadyToSettle B.settings B.knows B.has_role board.old slot.old }
     ensures ready { IsReadyToSettle B.settings B.knows B.has_role board.new slot.new }
@@ -35,6 +35,7 @@ pub fn settle<B: Board>(slot: &mut Slot, board: &mut B) -> Result<u32, AllocErro
     Ok(u32::try_from(after - before).unwrap_or(u32::MAX))
 }
 
+/// Books own outcomes, then those of forwarded transfers, then delivers.
 fn settle_all<B: Board>(slot: &mut Slot, board: &mut B) -> Result<(), AllocError>
     requires ready { IsReadyToSettle B.settings B.knows B.has_role board.old slot.old }
     ensures ready { IsReadyToSettle B.settings B.knows B.has_role board.new slot.new }
@@ -47,7 +48,7 @@ fn settle_all<B: Board>(slot: &mut Slot, board: &mut B) -> Result<(), AllocError
     deliver_all(slot, board)
 }
 
-/// Books the outcome of the place, if it is decided and not yet booked.
+/// Books the outcome of the place if it is decided and not yet booked.
 fn learn_at<B: Board>(slot: &mut Slot, board: &mut B, place: Place) -> Result<(), AllocError>
     requires ready { IsReadyToSettle B.settings B.knows B.has_role board.old slot.old }
     requires owner { place.owner < participants (B.settings board.old) }
@@ -61,7 +62,7 @@ fn learn_at<B: Board>(slot: &mut Slot, board: &mut B, place: Place) -> Result<()
     Ok(())
 }
 
-/// Gets what is pending at the place, if it is for the participant and new to it.
+/// Delivers the transfer of the place if it is pending, for the participant and new.
 fn deliver_at<B: Board>(slot: &mut Slot, board: &mut B, place: Place) -> Result<(), AllocError>
     requires ready { IsReadyToSettle B.settings B.knows B.has_role board.old slot.old }
     requires owner { place.owner < participants (B.settings board.old) }
@@ -74,7 +75,7 @@ fn deliver_at<B: Board>(slot: &mut Slot, board: &mut B, place: Place) -> Result<
     Ok(())
 }
 
-/// Books what is decided of the participant's own live transfers.
+/// Books the decided outcomes of the participant's own live transfers.
 fn learn_own<B: Board>(slot: &mut Slot, board: &mut B) -> Result<(), AllocError>
     requires ready { IsReadyToSettle B.settings B.knows B.has_role board.old slot.old }
     ensures ready { IsReadyToSettle B.settings B.knows B.has_role board.new slot.new }
@@ -90,7 +91,7 @@ fn learn_own<B: Board>(slot: &mut Slot, board: &mut B) -> Result<(), AllocError>
     Ok(())
 }
 
-/// Books what is decided of what came to the participant.
+/// Books the decided outcomes of the transfers that were forwarded to the participant.
 fn learn_arrived<B: Board>(slot: &mut Slot, board: &mut B) -> Result<(), AllocError>
     requires ready { IsReadyToSettle B.settings B.knows B.has_role board.old slot.old }
     ensures ready { IsReadyToSettle B.settings B.knows B.has_role board.new slot.new }
@@ -106,7 +107,7 @@ fn learn_arrived<B: Board>(slot: &mut Slot, board: &mut B) -> Result<(), AllocEr
     Ok(())
 }
 
-/// Gets what all other originators have for the participant.
+/// Delivers what is pending for the participant from all other originators.
 fn deliver_all<B: Board>(slot: &mut Slot, board: &mut B) -> Result<(), AllocError>
     requires ready { IsReadyToSettle B.settings B.knows B.has_role board.old slot.old }
     ensures ready { IsReadyToSettle B.settings B.knows B.has_role board.new slot.new }
@@ -125,7 +126,7 @@ fn deliver_all<B: Board>(slot: &mut Slot, board: &mut B) -> Result<(), AllocErro
     Ok(())
 }
 
-/// Gets what this other originator has for the participant.
+/// Delivers what is pending for the participant from one other originator.
 fn deliver_from<B: Board>(slot: &mut Slot, board: &mut B, owner: u8) -> Result<(), AllocError>
     requires ready { IsReadyToSettle B.settings B.knows B.has_role board.old slot.old }
     requires owner { owner < participants (B.settings board.old) }

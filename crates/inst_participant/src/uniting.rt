@@ -1,4 +1,4 @@
-//! How the boards of all participants are joined to one.
+//! Joining the boards of all participants into one.
 ghost use Rattle.std.specs.Prelude.{◌≡◌, ◌⊎◌, ◌↔◌, ◌<◌, length};
 ghost use Rattle.inst_board.specs.declared.about.Fact.{Fact};
 ghost use Rattle.inst_cell.specs.declared.shared_board.SharedBoard.{SharedBoard};
@@ -15,9 +15,11 @@ use inst_settings::Settings;
 use inst_slot::Slot;
 
 impl Parts {
-    /// The parts of a hub whose participants have these slots and boards, by number, and that these
-    /// tellers saw: one board with the roles of all, that knows exactly what one of the boards or
-    /// of the tellers knew. It takes no memory.
+    /// Joins the boards of all participants, by number, and the sights of all tellers into the
+    /// parts of the hub. The board of the parts has all roles and knows exactly what one of them
+    /// knew.
+    ///
+    /// Decides nothing and doesn't allocate.
     pub fn unite(
         settings: Settings,
         slots: Vec<Slot>,
@@ -43,7 +45,7 @@ impl Parts {
     }
 }
 
-/// One board with the roles of all these, that knows exactly what one of them knew.
+/// Joins these boards into one with all their roles, which knows exactly what one of them knew.
 fn join_all(settings: &Settings, slots: &[Slot], boards: Vec<SharedBoard>) -> SharedBoard
     requires some { 0 < length boards.items }
     requires one { (words : SharedBoard) × AreAtOne words settings.now slots.now boards.items }
@@ -64,7 +66,7 @@ fn join_all(settings: &Settings, slots: &[Slot], boards: Vec<SharedBoard>) -> Sh
     whole
 }
 
-/// The same board, which then knows what these tellers know too, and nothing else.
+/// Lets the board know what the sights know, and nothing else.
 fn tell_all(whole: SharedBoard, sights: Vec<Sight>) -> SharedBoard
     requires sights { AreSights whole sights.items }
     ensures told { IsToldMore whole result }

@@ -1,5 +1,5 @@
--- The bounds of a hub and of its lines as numbers. A bound that is changed in the code makes the
--- law `the_bounds` false.
+-- The bounds of a hub and its lines as numbers. The law `the_bounds` fails if one is changed in the
+-- code. A choice of this hub.
 use Rattle.std.specs.Prelude.{◌≡◌, ◌-◌, ◌^◌}
 use Rattle.inst_base.specs.declared.cents.TheConstants.{MOST_CENTS}
 use Rattle.inst_base.specs.declared.code.TheConstants.{CODE_LENGTH, BRANCH_CODE_LENGTH}
@@ -14,7 +14,7 @@ use Rattle.inst_journal.specs.declared.opened.TheConstants.{MOST_OPENINGS}
 use Rattle.inst_lines.specs.declared.limits.TheConstants.{MOST_LINES, MOST_BYTES, MOST_LINE_BYTES}
 use Rattle.inst_drill.specs.declared.plan.TheConstants.{MOST_DRILL_OPENINGS}
 
--- of values: cents, bytes of a text, milliseconds since the hub's base
+-- The bounds of values: cents, bytes of a text, milliseconds since the base.
 pub record AreBoundsOfValues : Type 0 where
   pub cents : MOST_CENTS ≡ 99999999999
   pub code : CODE_LENGTH ≡ 8
@@ -24,7 +24,7 @@ pub record AreBoundsOfValues : Type 0 where
   pub last : LAST ≡ 2 ^ 41 - 1
   pub count : MOST_COUNT ≡ 100
 
--- of settings: numbers of participants, transfers and fundings, milliseconds, cents
+-- The bounds of settings: numbers of participants, transfers and fundings, milliseconds, cents.
 pub record AreBoundsOfSettings : Type 0 where
   pub participants : MOST_PARTICIPANTS ≡ 256
   pub places : MOST_PLACES ≡ 1024
@@ -34,7 +34,7 @@ pub record AreBoundsOfSettings : Type 0 where
   pub ceiling : MOST_CEILING ≡ 99999999999
   pub base : MOST_BASE ≡ 2 ^ 62
 
--- of runs: openings in a row, openings of a drill, lines, bytes, bytes of a line
+-- The bounds of runs: openings in a row, openings of a drill, lines, bytes, bytes of a line.
 pub record AreBoundsOfRuns : Type 0 where
   pub openings : MOST_OPENINGS ≡ 500
   pub drill_openings : MOST_DRILL_OPENINGS ≡ 10

@@ -1,12 +1,11 @@
--- The files of the machine, by their names. This hub's own choice.
+-- The files of the machine, by name. A choice of this hub.
 use Rattle.std.specs.Prelude.{◌≡◌, ◌≢◌, ◌⊎◌, ℕ, Bool, List, Option, None, Some, IsTrue}
 use Rattle.sqlite_disk.specs.declared.Disk.{Ghosts}
 
--- What each file has, by its name, and what a crash may leave of it; a file that isn't there has
--- nothing. One at most is out: it was opened as a disk, and wasn't closed again. mixes: a crash
--- leaves each byte of a torn write old or new in_use: another program may have the file open
--- is_clean: each file that was opened was what it is said to be here, and no wrong answer of its
--- disk was taken as true
+-- The bytes of each file, and the files that a crash may leave of it; a file that doesn't exist has
+-- no bytes. `out`: the file that is open as a disk, if any. `mixes`: a crash leaves each byte of a
+-- torn write old or new. `in_use`: another program may have the file open. `is_clean`: each file
+-- that was opened had the bytes stated here, and no wrong answer of its disk was taken as true.
 pub record Files : Type 1 where
   pub bytes : List ℕ → List ℕ
   pub may_leave : List ℕ → List ℕ → Type 0
@@ -15,18 +14,18 @@ pub record Files : Type 1 where
   pub in_use : List ℕ → Type 0
   pub is_clean : Bool
 
--- so it is if the disks have kept faith
+-- This holds if the disks have kept faith.
 abbrev pub IfKept : Files → Type 0 → Type 0
 IfKept files holds = IsTrue files.is_clean → holds
 
--- a file before and after: what it had and has, and what a crash could and can leave of it
+-- A file before and after: its bytes, and the files that a crash may leave of it.
 pub record Change : Type 1 where
   pub was : List ℕ
   pub now : List ℕ
   pub could_leave : List ℕ → Type 0
   pub may_leave : List ℕ → Type 0
 
--- what became of the file of this name
+-- The change of the file of this name.
 abbrev pub change_of : Files → Files → List ℕ → Change
 change_of old new name =
     record {
@@ -37,7 +36,7 @@ change_of old new name =
       may_leave = new.may_leave name;
     }
 
--- what became of the file on a disk
+-- The change of the file on a disk.
 abbrev pub change_on : {D : Type 0} → Ghosts D → D → D → Change
 change_on disks old new =
     record {
@@ -48,41 +47,41 @@ change_on disks old new =
       may_leave = disks.may_leave new;
     }
 
--- what the file is, or a crash may make of it
+-- The file as it is now, or one that a crash may leave.
 abbrev pub MayBe : Change → List ℕ → Type 0
 MayBe c file = (file ≡ c.now) ⊎ c.may_leave file
 
--- the file is as it was, by a crash too
+-- The file is unchanged, and a crash leaves no file that it couldn't leave before.
 pub record IsAsItWas (c : Change) : Type 0 where
   pub same : c.now ≡ c.was
   pub crash : (file : List ℕ) → c.may_leave file → c.could_leave file
 
--- so it is with all files
+-- All files are unchanged.
 abbrev pub Stay : Files → Files → Type 0
 Stay old new = IfKept new ((name : List ℕ) → IsAsItWas (change_of old new name))
 
--- with all but this one
+-- All files but this one are unchanged.
 abbrev pub OthersStay : Files → Files → List ℕ → Type 0
 OthersStay old new name =
     IfKept new ((other : List ℕ) → other ≢ name → IsAsItWas (change_of old new other))
 
--- with all but these two
+-- All files but these two are unchanged.
 abbrev pub AllButTwoStay : Files → Files → List ℕ → List ℕ → Type 0
 AllButTwoStay old new one two =
     IfKept new ((other : List ℕ) → other ≢ one → other ≢ two → IsAsItWas (change_of old new other))
 
--- no file is out
+-- No file is open.
 abbrev pub AllAreIn : Files → Type 0
 AllAreIn files = IfKept files (files.out ≡ None)
 
--- nothing happened to a file
+-- All files are unchanged, and the same one is open.
 pub record IsUntouched (old new : Files) : Type 0 where
   pub clean : IfKept new (IsTrue old.is_clean)
   pub all : Stay old new
   pub out : IfKept new (new.out ≡ old.out)
 
--- the file of this name was opened, as a disk that has these bytes, and of which a crash may leave
--- this
+-- The file of this name was opened, as a disk with these bytes and these possible files after a
+-- crash.
 pub record IsFileOpened (old new : Files) (name bytes : List ℕ) (may_leave : List ℕ →
     Type 0) : Type 0 where
   pub clean : IfKept new (IsTrue old.is_clean)
@@ -91,7 +90,7 @@ pub record IsFileOpened (old new : Files) (name bytes : List ℕ) (may_leave : L
   pub crash : IfKept new ((file : List ℕ) → may_leave file → old.may_leave name file)
   pub out : IfKept new (new.out ≡ Some name)
 
--- it was closed, when its disk had these bytes, and a crash may leave this of it
+-- The file was closed, when its disk had these bytes and these possible files after a crash.
 pub record IsFileClosed (old new : Files) (name bytes : List ℕ) (may_leave : List ℕ →
     Type 0) : Type 0 where
   pub same : new.bytes name ≡ bytes

@@ -1,6 +1,6 @@
--- What runs with logs leave of the file of a log. What is said of a file is said where its disk has
--- kept faith (`faith`): it was what it is said to be, and no wrong answer of it was taken as true.
--- This hub's own choice.
+-- What runs with logs leave of a log's file. Claims about a file hold if its disk has kept faith
+-- (`faith`): it had the bytes stated, and no wrong answer of it was taken as true. A choice of this
+-- hub.
 use Rattle.std.specs.Prelude.{◌≡◌, ◌≢◌, ◌⊎◌, ◌-◌, ◌<◌, ◌^◌, ◌++◌, ◌∷◌, [], ℕ, Bool, true, List}
 use Rattle.std.specs.Prelude.{length, Option, None, Some, option_map, unwrap_or, IsTrue, codes}
 use Rattle.std.specs.Fmt.{decimal}
@@ -33,8 +33,8 @@ use Rattle.inst_options.specs.declared.invocation.LogOptions.{LogOptions}
 use Rattle.inst_program.specs.Files.{Change, Files, change_of, AllButTwoStay, IfKept, IsAsItWas}
 use Rattle.inst_program.specs.Files.{MayBe}
 
--- a run with a log, as words ask for it: at a hub of these settings, with the log of this name, of
--- whose lines so many were told; whether it must be there, and which digest it must have, if any
+-- A run with a log, as the words ask for it: mode, settings, the log's name, the number of lines
+-- whose replies the client has, whether the log must exist, and the digest that it must contain.
 pub record KeptRun : Type 0 where
   pub mode : Mode
   pub settings : HubSettings
@@ -43,6 +43,7 @@ pub record KeptRun : Type 0 where
   pub resume : Bool
   pub digest : Option (List ℕ)
 
+-- The run of these settings with this log.
 abbrev pub kept_run : Mode → HubSettings → LogOptions → KeptRun
 kept_run mode s log = record {
   mode = mode;
@@ -53,21 +54,20 @@ kept_run mode s log = record {
   digest = option_map (λ d. d.now) log.digest;
 }
 
--- a hub of these settings had gone through this before the first line of its log, which begins with
--- these lines: it opened for the first time, or from books
+-- The past of a hub of these settings before its log's first line after these first ones: it opened
+-- for the first time or from books.
 abbrev pub IsBeginning : Version → Mode → HubSettings → HubPast → List ℕ → Type 0
 IsBeginning version mode s past first =
     ((past ≡ new_past s) × (first ≡ header version mode s))
     ⊎ ((journals : List History) × CanOpenFrom s journals × (past ≡ opened_from s journals)
     × (first ≡ header_from version mode s journals))
 
--- the digest that a log must have is the one of this text, if one is given
+-- The digest that is asked for has this text, if one is given.
 abbrev pub AsksFor : Option (List ℕ) → Option Digest → Type 0
 AsksFor None wanted = wanted ≡ None
 AsksFor (Some text) wanted = (digest : Digest) × (wanted ≡ Some digest) × (digest.text ≡ text)
 
--- Such a hub takes the log of this file. Where the file has no line it has no books either, and a
--- new log has marks.
+-- Such a hub takes the log of this file. A file without a line gets marks and no books.
 pub record IsTakenFor (run : KeptRun) (file : List ℕ) (version : Version) (past : HubPast)
     (first : List ℕ) : Type 0 where
   pub begins : IsBeginning version run.mode run.settings past first
@@ -78,8 +78,8 @@ pub record IsTakenFor (run : KeptRun) (file : List ℕ) (version : Version) (pas
   pub asked : AsksFor run.digest wanted
   pub taken : IsLogTaken version first run.told wanted file
 
--- The file opens as the log of a hub of these settings that begins with these lines, and has a line
--- if it must. A new log has marks and no books.
+-- The file opens as the log of a hub of these settings with these first lines, and has a line if it
+-- must. A new log has marks and no books.
 pub record IsLogOf (mode : Mode) (s : HubSettings) (must_be_there : Bool) (file : List ℕ)
     (version : Version) (first : List ℕ) : Type 0 where
   pub lines : AreFirstLines version mode s first
@@ -87,12 +87,12 @@ pub record IsLogOf (mode : Mode) (s : HubSettings) (must_be_there : Bool) (file 
   pub there : must_be_there ≡ true → 0 < length (recovered_lines file)
   pub opens : OpensAs first file
 
--- the file opens as such a log of this run
+-- The file opens as such a log of this run.
 abbrev pub IsLogFor : KeptRun → List ℕ → Version → List ℕ → Type 0
 IsLogFor run file version first = IsLogOf run.mode run.settings run.resume file version first
 
--- The log of this file is one that such a run takes: it is a log for it, its marks are right, and
--- it has what is asked for.
+-- The file is a log that the run can take: it opens as one of the run, its marks are right, and it
+-- has what is asked for.
 pub record IsGoodFor (run : KeptRun) (file : List ℕ) : Type 0 where
   pub version : Version
   pub first : List ℕ
@@ -101,15 +101,21 @@ pub record IsGoodFor (run : KeptRun) (file : List ℕ) : Type 0 where
   pub asked : AsksFor run.digest wanted
   pub taken : IsLogTaken version first run.told wanted file
 
--- if the file is a log for the run, it has this version and these first lines
+-- If the file is a log of the run, it has this version and these first lines.
 abbrev pub IsAtMost : KeptRun → List ℕ → Version → List ℕ → Type 0
 IsAtMost run file version first =
     (v : Version) (lines : List ℕ) → IsLogFor run file v lines → (version ≡ v) × (first ≡ lines)
 
--- Why a run doesn't take the log of this file. Foreign: it is no log for the run (`OtherSettings`,
--- `NoLog`, `BadBooks`, or `DamagedLog` if the mark of its books is wrong) Short: it has fewer lines
--- than were told (`ToldAhead`) Damaged: a mark is wrong, or its end (`DamagedLog`) Undigested: it
--- has no mark with the digest that is asked for (`OtherDigest`)
+-- Why a run refuses the log of this file.
+--
+-- `Foreign`: it isn't a log of the run (`OtherSettings`, `NoLog`, `BadBooks`, or `DamagedLog` if
+-- the mark of its books is wrong).
+--
+-- `Short`: it has fewer lines than were told (`ToldAhead`).
+--
+-- `Damaged`: a mark or its end is wrong (`DamagedLog`).
+--
+-- `Undigested`: it has no mark with the digest that is asked for (`OtherDigest`).
 pub data IsUntaken (run : KeptRun) (file : List ℕ) : Type 0 where
   Foreign : ((version : Version) (first : List ℕ) → ¬ (IsLogFor run file version first)) →
       IsUntaken run file
@@ -122,13 +128,12 @@ pub data IsUntaken (run : KeptRun) (file : List ℕ) : Type 0 where
       → (wanted : Option Digest) → AsksFor run.digest wanted → ¬ (HasWanted version wanted file) →
       IsUntaken run file
 
--- a log that isn't taken is none that is good for the run
+-- A log that is refused isn't one that is good for the run.
 abbrev pub AnUntakenLogIsNotGood : Type 0
 AnUntakenLogIsNotGood =
     (run : KeptRun) (file : List ℕ) → IsUntaken run file → ¬ (IsGoodFor run file)
 
--- it took the log, answered all that the reader had left, and made the file into this one, whose
--- marks are right
+-- The run took the log and answered the whole input; the log's marks are right now.
 pub record AnswersBehind (run : KeptRun) (t : Streams) (c : Change) : Type 0 where
   pub version : Version
   pub past : HubPast
@@ -137,9 +142,9 @@ pub record AnswersBehind (run : KeptRun) (t : Streams) (c : Change) : Type 0 whe
   pub intact : IsIntact version c.now
   pub logged : HasLogged run.mode past first run.told c.was c.now t.left t.left' t.held t.held'
 
--- It took the log, and answered some of it. The log, as it is and whatever a crash makes of it, has
--- the lines that it had and a prefix of those read, begins as it did, and if its marks were right
--- it is never called damaged, where the disk leaves each byte of a write old or new.
+-- The run took the log and answered a part of the input. The log, as it is or as a crash leaves it,
+-- has the lines from before and a prefix of those read, and begins as it did. If its marks were
+-- right and the disk mixes torn writes, it isn't damaged.
 pub record AnswersAFront (run : KeptRun) (t : Streams) (mixes : Type 0) (c : Change) : Type 0 where
   pub version : Version
   pub past : HubPast
@@ -151,35 +156,36 @@ pub record AnswersAFront (run : KeptRun) (t : Streams) (mixes : Type 0) (c : Cha
   pub intact : mixes → IsIntact version c.was → (file : List ℕ) → MayBe c file →
       IsIntact version file
 
--- lines were answered with a log: all that the reader had left, and what was synced is what is read
+-- The whole input was answered, and all of the log is synced.
 pub record KeepsLines (run : KeptRun) (t : Streams) (faith : Type 0) (c : Change) : Type 0 where
   pub at_end : IsAtEnd t.left'
   pub answers : faith → AnswersBehind run t c
   pub durable : faith → Only c.now c.may_leave
 
--- or some of it, or nothing was done
+-- A part of the input was answered, or nothing was done.
 abbrev pub KeepsAFront : KeptRun → Streams → Type 0 → Type 0 → Change → Type 0
 KeepsAFront run t mixes faith c =
     faith → (t.unread × t.unwritten × IsAsItWas c) ⊎ AnswersAFront run t mixes c
 
--- the line of a digest, or none
+-- The line of a digest, or nothing.
 abbrev pub digest_line : Option Digest → List ℕ
 digest_line None = []
 digest_line (Some digest) = codes "digest " ++ (utf8_lossy digest.text ++ 10 ∷ [])
 
--- how a log is told: its first line, where what is no text in UTF-8 is told as U+FFFD, how many
--- lines it has, and its last digest
+-- The printed contents of a log: its first line, with U+FFFD for what isn't UTF-8, the number of
+-- its lines, and its last digest.
 abbrev pub log_text : List ℕ → ℕ → Option Digest → List ℕ
 log_text first lines digest =
     codes "settings "
     ++ (utf8_lossy first ++ (10 ∷ codes "lines " ++ (decimal lines ++ (10 ∷ digest_line digest))))
 
--- a log of version 1 has no digest, and one of version 2 has right marks, and that of its last
+-- A log of version 1 has no digest; one of version 2 has right marks and the digest of the last
+-- one.
 abbrev pub HasLastDigest : Version → List ℕ → Option Digest → Type 0
 HasLastDigest One file digest = digest ≡ None
 HasLastDigest Two file digest = (last : Digest) × (digest ≡ Some last) × IsSealedBy file last
 
--- the log of this file is that of a hub, and its marks are right
+-- The file is a log of a hub with right marks, and has fewer than 2^64 bytes.
 pub record IsGoodLog (file : List ℕ) : Type 0 where
   pub version : Version
   pub mode : Mode
@@ -190,8 +196,8 @@ pub record IsGoodLog (file : List ℕ) : Type 0 where
   pub intact : IsIntact version file
   pub few : length file < 2 ^ 64
 
--- So it was told of the log of this file. Of the lines without marks behind its first one so many
--- aren't told: the lines of its books, where the first line is that of a log.
+-- These contents of the log were printed. The number leaves out marks, the first line, and the
+-- lines of books if the first line is a log's.
 pub record TellsOfTheLog (file : List ℕ) (held held' : Option (List ℕ)) : Type 0 where
   pub first : List ℕ
   pub begins : HasFirst (recovered_lines file) first
@@ -204,9 +210,9 @@ pub record TellsOfTheLog (file : List ℕ) (held held' : Option (List ℕ)) : Ty
   pub told : Appends held held' (log_text first (length (said (recovered_lines file)) - 1
       - books) digest)
 
--- a log of these first lines was opened: as it is and whatever a crash makes of it, it has the very
--- lines that it had, or where there were none, the first ones, and none whose marks were right is
--- called damaged
+-- A log of these first lines was opened: as it is or as a crash leaves it, it has the same lines,
+-- or if it had none, the first ones. If its marks were right and the disk mixes torn writes, it
+-- isn't damaged.
 pub record IsSpared (version : Version) (first : List ℕ) (mixes : Type 0) (c : Change) : Type 0
   where
     pub alike : (file : List ℕ) → MayBe c file → OpensAlike first c.was file
@@ -214,7 +220,7 @@ pub record IsSpared (version : Version) (first : List ℕ) (mixes : Type 0) (c :
     pub intact : mixes → IsIntact version c.was → (file : List ℕ) → MayBe c file →
         IsIntact version file
 
--- some hub takes the log of this file, which has the mark that is asked for
+-- Some hub takes the log of this file, which has the mark that is asked for.
 pub record IsLogOfAHub (wanted : Option Digest) (file : List ℕ) : Type 0 where
   pub version : Version
   pub mode : Mode
@@ -224,28 +230,28 @@ pub record IsLogOfAHub (wanted : Option Digest) (file : List ℕ) : Type 0 where
   pub begins : IsBeginning version mode settings past first
   pub taken : IsLogTaken version first None wanted file
 
--- the log of some hub was spared
+-- The log of some hub was opened, and its lines are the same.
 pub record IsSparedLog (mixes : Type 0) (c : Change) : Type 0 where
   pub wanted : Option Digest
   pub log : IsLogOfAHub wanted c.was
   pub spared : IsSpared log.version log.first mixes c
 
--- a log is as it was, or it was opened, and at most its end was mended or its first lines written
+-- The log is unchanged; or it was opened, and at most its end was repaired or its first lines were
+-- written.
 abbrev pub IsSafe : Type 0 → Type 0 → Change → Type 0
 IsSafe mixes faith c = faith → IsAsItWas c ⊎ IsSparedLog mixes c
 
--- the log of this file begins with these lines, or is new, and was made into the file that has them
--- in front, with the lines that were behind them; its marks are right, before and after; what was
--- synced is what is read
+-- The log began with these lines or was new. It begins with them now, followed by the lines that
+-- followed them before. Its marks are right before and after, and all is synced.
 pub record IsBegun (first : List ℕ) (c : Change) : Type 0 where
   pub taken : IsLogTaken Two first None None c.was
   pub lines : recovered_lines c.now ≡ recovered_lines first ++ lines_after_settings first c.was
   pub intact : IsIntact Two c.now
   pub durable : Only c.now c.may_leave
 
--- A hub whose log was this file, and is that one with the same lines, was closed behind all of
--- them, and a log with marks that begins with its books begins so. Its log's marks were right, if
--- it has some, and one had the digest that was asked for.
+-- The hub of this log was closed after all of its lines, which are the same; `next` is the
+-- beginning of a log with its books. The log's marks were right, if it has any, and it had the
+-- digest that was asked for.
 pub record CarriesBooks (digest : Option (List ℕ)) (mixes : Type 0) (next : List ℕ) (c : Change) :
     Type 0 where
   pub there : 0 < length (recovered_lines c.was)
@@ -262,8 +268,7 @@ pub record CarriesBooks (digest : Option (List ℕ)) (mixes : Type 0) (next : Li
       (past_after log.mode log.past (lines_after_settings log.first c.was)).settings
       journals
 
--- the log of this file is that of a hub, its marks are right, and it has the digest that is asked
--- for
+-- The file is a log of a hub with right marks and the digest that is asked for.
 pub record IsGoodToClose (wanted : Option Digest) (file : List ℕ) : Type 0 where
   pub version : Version
   pub mode : Mode
@@ -273,14 +278,13 @@ pub record IsGoodToClose (wanted : Option Digest) (file : List ℕ) : Type 0 whe
   pub begins : Begins first file
   pub taken : IsLogTaken version first None wanted file
 
--- the books of the hub of this log were opened from as often as they may be
+-- The books of the hub of this log can't be opened from again.
 pub record HasNoOpeningLeft (file : List ℕ) : Type 0 where
   pub wanted : Option Digest
   pub log : IsLogOfAHub wanted file
   pub none : ¬ (HaveOpeningsLeft log.mode log.past (lines_after_settings log.first file))
 
--- the log of the second name begins with the books of the hub of the log of the first name, which
--- has the lines that it had
+-- The second log begins with the books of the hub of the first log, whose lines are the same.
 pub record Carries (from to : List ℕ) (digest : Option (List ℕ)) (old new : Files) : Type 0 where
   pub apart : from ≢ to
   pub next : List ℕ
@@ -288,14 +292,14 @@ pub record Carries (from to : List ℕ) (digest : Option (List ℕ)) (old new : 
   pub begun : IfKept new (IsBegun next (change_of old new to))
   pub others : AllButTwoStay old new from to
 
--- or it doesn't, and both are safe
+-- Both logs are safe, and all other files are unchanged.
 pub record SparesBoth (from to : List ℕ) (old new : Files) : Type 0 where
   pub from_is : IsSafe old.mixes (IsTrue new.is_clean) (change_of old new from)
   pub to_is : IsSafe old.mixes (IsTrue new.is_clean) (change_of old new to)
   pub others : AllButTwoStay old new from to
 
--- Why it doesn't: the names are one, another program has a log open, the first log is none that can
--- be closed, or has no opening left, or the second one is another log.
+-- Why `next` is refused: the names are the same, another program may have a log open, the first log
+-- can't be closed or has no opening left, or the second is another log.
 pub data IsUncarried (from to : List ℕ) (digest : Option (List ℕ)) (old new : Files) : Type 0 where
   Same : from ≡ to → IsUncarried from to digest old new
   InUse : new.in_use from ⊎ new.in_use to → IsUncarried from to digest old new

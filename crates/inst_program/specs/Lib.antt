@@ -1,9 +1,9 @@
--- Public contracts cite these.
+-- Cited by public contracts.
 pub mod Bounds
 pub mod Files
 pub mod Logs
 pub mod Keeping
 pub mod Script
 pub mod Program
--- Only inner functions and proofs cite these.
+-- Cited only by private functions and proofs.
 pub mod inner

@@ -1,4 +1,4 @@
--- Why a log isn't opened or read. This hub's own choice.
+-- The errors of opening and reading logs. A choice of this hub.
 use Rattle.inst_options.specs.declared.log_fault.LogFault.TheVariants.{DiskFault, OtherSettings}
 use Rattle.inst_options.specs.declared.log_fault.LogFault.TheVariants.{NoLog, ToldAhead, LogInUse}
 use Rattle.inst_options.specs.declared.log_fault.LogFault.TheVariants.{BadBooks, LastOpening}
@@ -7,8 +7,8 @@ use Rattle.inst_options.specs.declared.log_fault.LogFault.TheVariants.{ChangedLo
 use Rattle.inst_program.specs.declared.logs.LogsError.{LogsError}
 use Rattle.inst_program.specs.declared.logs.LogsError.TheVariants.{Memory, Log}
 
--- memory was wanting, the disk failed, another program has it open (`in_use`), or it isn't there
--- (`none`)
+-- The cause of an error: an allocation failed, the disk failed, another program may have the file
+-- open (`in_use`), or it isn't there (`none`).
 abbrev pub IsLogsError : Type 0 → Type 0 → LogsError → Type 0
 IsLogsError in_use none Memory = Unit {0}
 IsLogsError in_use none (Log DiskFault) = Unit {0}

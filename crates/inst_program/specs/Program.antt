@@ -1,5 +1,5 @@
--- What the program leaves, by its exit status: `t` is what its reader and its writer had and have,
--- `old` and `new` are the files before and after. Exit statuses are this hub's own choice.
+-- What the program leaves, by its exit status. `t` is its reader and writer, `old` and `new` are
+-- the files, before and after. The exit statuses are a choice of this hub.
 use Rattle.std.specs.Prelude.{◌≡◌, ◌≢◌, ◌⊎◌, ◌++◌, ◌∷◌, [], ℕ, List, Option, Some, IfSome, IsTrue}
 use Rattle.std.specs.Prelude.{codes}
 use Rattle.std.specs.Fmt.{decimal}
@@ -34,19 +34,19 @@ use Rattle.inst_program.specs.Script.{CannotTakeTheScript, HasScript, SparesTheS
 use Rattle.inst_program.specs.Keeping.{Carries, IsGoodLog, IsUncarried, IsUntaken, KeepsAFront}
 use Rattle.inst_program.specs.Keeping.{KeepsLines, KeptRun, SparesBoth, TellsOfTheLog}
 
--- the exit status for a fault
+-- The exit status for a fault.
 abbrev pub status_of : Fault → ℕ
 status_of BadSettings = 2
 status_of _ = 3
 
--- a hub of these settings can do the task: lines it always answers
+-- A hub of these settings can do the task. It can always answer lines.
 abbrev pub MayDo : HubSettings → Task → Type 0
 MayDo s Run = Unit {0}
 MayDo s Play = Unit {0}
 MayDo s (Drill transfers openings) = MayDrill s transfers openings
 MayDo s Check = Unit {0}
 
--- the words are a whole command line, and ask for a drill at a hub
+-- The words are a whole command line and ask for a drill.
 pub record AskForADrill (words : List (List ℕ)) : Type 0 where
   pub settings : HubSettings
   pub lawful : IsSettings settings
@@ -57,8 +57,8 @@ pub record AskForADrill (words : List (List ℕ)) : Type 0 where
   pub script : Option (List ℕ)
   pub named : NameTheScript words script
 
--- the words are a whole command line for a hub, and choose no settings that one can have and do the
--- task with
+-- The words are a whole command line for a hub, and no hub can have the settings that they choose
+-- and do the task.
 pub record AreRefused (words : List (List ℕ)) : Type 0 where
   pub whole : AreWhole words
   pub hub : (name : List ℕ) (rows : List Row) →
@@ -66,13 +66,13 @@ pub record AreRefused (words : List (List ℕ)) : Type 0 where
   pub none : (task : Task) (s : HubSettings) → AreChosen words task s →
       ¬ (AreOfAHub s × MayDo s task)
 
--- what answers lines in this way is called
+-- The task that answers lines in this mode.
 abbrev pub task_of : Mode → Task
 task_of mode.Run = Run
 task_of mode.Play = Play
 
--- a hub of these settings answered all that the reader had left, and wrote the replies alone
--- headline: the run that these lines stand for keeps it
+-- A hub of these settings answered the whole input and wrote exactly the replies. `headline`: the
+-- run of these lines keeps the headline.
 pub record AnswersInput (mode : Mode) (settings : HubSettings) (t : Streams) : Type 0 where
   pub at_end : IsAtEnd t.left'
   pub answered : IfSome t.left (λ bytes.
@@ -80,8 +80,8 @@ pub record AnswersInput (mode : Mode) (settings : HubSettings) (t : Streams) : T
   pub headline : IfSome t.left (λ bytes.
       LinesKeepTheHeadline (hub_answerer mode) settings (lines_of bytes))
 
--- a hub of the settings that the words choose answered, as the words ask for, all that the reader
--- had left, and wrote the replies alone; they name no log
+-- A hub of the settings in the words answered the whole input as the words ask for, and wrote
+-- exactly the replies. The words name no log.
 pub record ServesLines (words : List (List ℕ)) (t : Streams) : Type 0 where
   pub mode : Mode
   pub settings : HubSettings
@@ -91,7 +91,7 @@ pub record ServesLines (words : List (List ℕ)) (t : Streams) : Type 0 where
   pub unkept : NameNoLog words
   pub answers : AnswersInput mode settings t
 
--- it was ended by this fault, as it answered lines
+-- Answering lines without a log was ended by this fault.
 pub record Fails (words : List (List ℕ)) (t : Streams) (fault : Fault) : Type 0 where
   pub mode : Mode
   pub settings : HubSettings
@@ -101,13 +101,13 @@ pub record Fails (words : List (List ℕ)) (t : Streams) (fault : Fault) : Type 
   pub unkept : NameNoLog words
   pub after : FailsAfter (hub_answerer mode) (new_past settings) t.held t.held' t.left t.left' fault
 
--- all that the reader had left was read, and told of each of its lines that no hub of these
--- settings takes, and that alone
+-- The whole input was checked, and exactly the report on lines that no hub of these settings takes
+-- was written.
 abbrev pub Checks : HubSettings → Streams → Type 0
 Checks s t =
     IsAtEnd t.left' × IfSome t.left (λ bytes. Appends t.held t.held' (check_report s bytes))
 
--- so it was for the settings that the words choose
+-- The input was checked for the settings in the words.
 pub record HasChecked (words : List (List ℕ)) (t : Streams) : Type 0 where
   pub settings : HubSettings
   pub lawful : IsSettings settings
@@ -115,7 +115,7 @@ pub record HasChecked (words : List (List ℕ)) (t : Streams) : Type 0 where
   pub chosen : AreChosen words Check settings
   pub checks : Checks settings t
 
--- it was ended by a fault, when no more than a front was told
+-- The check ended early, and a prefix of the report was written.
 pub record FailsToCheck (words : List (List ℕ)) (t : Streams) : Type 0 where
   pub settings : HubSettings
   pub lawful : IsSettings settings
@@ -123,102 +123,99 @@ pub record FailsToCheck (words : List (List ℕ)) (t : Streams) : Type 0 where
   pub chosen : AreChosen words Check settings
   pub part : IfSome t.left (λ bytes. TellsPart settings bytes t.held t.held')
 
--- lines were answered, or told of, until this fault
+-- Answering or checking lines was ended by this fault.
 abbrev pub FailsAtLines : List (List ℕ) → Streams → Fault → Type 0
 FailsAtLines words t fault = Fails words t fault ⊎ ((fault ≢ BadSettings) × FailsToCheck words t)
 
--- a hub of these settings was drilled in so many openings, each of which a run in one thread
--- explains, and wrote what each came to, and that alone; the script of the first run was written to
--- the file that is named, if one is
+-- A hub of these settings was drilled; a run in one thread explains each opening. Exactly the
+-- reports were written, and the script of the first run to the named file, if any.
 abbrev pub Drills : HubSettings → ℕ → Option (List ℕ) → Option (List ℕ) → Option (List ℕ) → Files →
     Files → Type 0
 Drills s openings script held held' old new =
     (left : DrillResult) × HasDrilledAll s openings held held' left
     × HasScript s left.steps.items script old new
 
--- so it was for the settings that the words choose
+-- The drill that the words ask for was done.
 abbrev pub HasDrilled : List (List ℕ) → Streams → Files → Files → Type 0
 HasDrilled words t old new =
     (asked : AskForADrill words)
     × Drills asked.settings asked.openings asked.script t.held t.held' old new
 
--- or it failed
+-- The drill that the words ask for wasn't done.
 abbrev pub FailsToDrill : List (List ℕ) → Files → Files → Type 0
 FailsToDrill words old new = (asked : AskForADrill words) × SparesTheScript asked.script old new
 
--- the words ask for this run with a log
+-- The words ask for this run with a log.
 pub record AskForAKeptRun (words : List (List ℕ)) (run : KeptRun) : Type 0 where
   pub lawful : IsSettings run.settings
   pub whole : AreWhole words
   pub chosen : AreChosen words (task_of run.mode) run.settings
   pub log : NameTheLog words run.name run.told run.resume run.digest
 
--- and it answered all that the reader had left
+-- The run with a log answered the whole input.
 pub record HasKept (words : List (List ℕ)) (t : Streams) (old new : Files) : Type 0 where
   pub run : KeptRun
   pub asked : AskForAKeptRun words run
   pub keeps : KeepsLines run t (IsTrue new.is_clean) (change_of old new run.name)
   pub others : OthersStay old new run.name
 
--- or some of it
+-- The run with a log answered a part of the input, or did nothing.
 pub record FailsToKeep (words : List (List ℕ)) (t : Streams) (old new : Files) : Type 0 where
   pub run : KeptRun
   pub asked : AskForAKeptRun words run
   pub front : KeepsAFront run t old.mixes (IsTrue new.is_clean) (change_of old new run.name)
   pub others : OthersStay old new run.name
 
--- the words ask what a log has
+-- The words ask for the contents of a log.
 abbrev pub AskForALog : List (List ℕ) → Type 0
 AskForALog words = (name : List ℕ) × AskForTheLog words name
 
--- and it was told
+-- The contents of the log were written.
 abbrev pub HasShown : List (List ℕ) → Streams → Files → Files → Type 0
 HasShown words t old new =
     (name : List ℕ) × AskForTheLog words name
     × IfKept new (TellsOfTheLog (old.bytes name) t.held t.held')
 
--- they ask for a log that begins with the books of another, and it does
+-- The words ask for a log with the books of another, and it was made.
 abbrev pub HasCarried : List (List ℕ) → Files → Files → Type 0
 HasCarried words old new =
     (from : List ℕ) × (to : List ℕ) × (digest : Option (List ℕ))
     × AskForTheNext words from to digest × Carries from to digest old new
 
--- or it doesn't
+-- The words ask for a log with the books of another; both logs are safe.
 abbrev pub HasSparedBoth : List (List ℕ) → Files → Files → Type 0
 HasSparedBoth words old new =
     (from : List ℕ) × (to : List ℕ) × (digest : Option (List ℕ))
     × AskForTheNext words from to digest × SparesBoth from to old new
 
--- a fault's number and name, what it usually means, and what to do
+-- The text of an explanation: a fault's number and name, its usual meaning, and what to do.
 abbrev pub explanation_text : ℕ → List ℕ → List ℕ → List ℕ → List ℕ
 explanation_text number name meaning advice =
     decimal number ++ (codes " " ++ (name ++ (10 ∷ codes "It usually means: " ++ (meaning
     ++ (10 ∷ codes "What to do: " ++ (advice ++ 10 ∷ []))))))
 
--- the writer got that of a fault which the word names
+-- The explanation of a fault that the word names was written.
 abbrev pub Explains : List ℕ → Option (List ℕ) → Option (List ℕ) → Type 0
 Explains word held held' =
     (fault : AnyFault) × (meaning : List ℕ) × (advice : List ℕ) × IsNamed word fault
     × Appends held held'
     (explanation_text (any_fault_number fault) (any_fault_name fault) meaning advice)
 
--- the words ask for the explanation of a fault that there is
+-- The words ask for the explanation of a fault that exists.
 abbrev pub AskForAnExplanation : List (List ℕ) → Type 0
 AskForAnExplanation words =
     (word : List ℕ) × AskToExplain words word × ((fault : AnyFault) × IsNamed word fault)
 
--- they ask for one, and the writer got it
+-- The words ask for an explanation, which was written.
 abbrev pub HasExplained : List (List ℕ) → Streams → Type 0
 HasExplained words t = (word : List ℕ) × AskToExplain words word × Explains word t.held t.held'
 
--- the words ask for the fault of a number or a name that no fault has
+-- The words ask for the explanation of a fault that doesn't exist.
 abbrev pub NameNoFault : List (List ℕ) → Type 0
 NameNoFault words =
     (word : List ℕ) × AskToExplain words word × ((fault : AnyFault) → ¬ (IsNamed word fault))
 
--- What the words ask for is done: lines were answered, without a log or with one, or checked, a hub
--- was drilled, it was told what a log has, the next one was made, a fault was explained, or help
--- was given. Nothing else happened to a file.
+-- What the words ask for was done. No other file changed.
 pub data Done (words : List (List ℕ)) (t : Streams) (old new : Files) : Type 0 where
   Answered : ServesLines words t → Stay old new → Done words t old new
   Kept : HasKept words t old new → Done words t old new
@@ -229,10 +226,10 @@ pub data Done (words : List (List ℕ)) (t : Streams) (old new : Files) : Type 0
   Explained : t.unread → HasExplained words t → Stay old new → Done words t old new
   Helped : t.unread → AskForHelp words → Stay old new → Done words t old new
 
--- Why it isn't done: the words are wrong, or they are whole and choose no settings that a hub can
--- have and do the task with, or describe a log badly, or name a fault that there isn't. Or another
--- program has the log open, or it is none that the run takes, or none at all, or the file for a
--- script isn't empty. Then no file changes; and where the next log isn't made, the two are spared.
+-- Why it was refused: wrong words; settings that no hub can have or do the task with; options that
+-- describe a log badly; a fault that doesn't exist; a log that is in use or that the run doesn't
+-- take; a log that can't be shown; a script file that isn't empty or in use. All files are
+-- unchanged; `Uncarried` leaves its two logs safe.
 pub data Refusal (words : List (List ℕ)) (old new : Files) : Type 0 where
   Wrong : AreWrong words → Stay old new → Refusal words old new
   Unfit : AreRefused words → Stay old new → Refusal words old new
@@ -250,14 +247,13 @@ pub data Refusal (words : List (List ℕ)) (old new : Files) : Type 0 where
       IsUncarried from to digest old new
       → SparesBoth from to old new → Refusal words old new
 
--- nothing was read or written
+-- Nothing was read or written.
 pub record Refused (words : List (List ℕ)) (t : Streams) (old new : Files) : Type 0 where
   pub unread : t.unread
   pub unwritten : t.unwritten
   pub why : Refusal words old new
 
--- It failed: before it began, as lines were answered or told of, without a log or with one, in a
--- drill or an explanation, as it was told what a log has, the next one was made, or help was given.
+-- It failed: before it began, or during the task named here.
 pub data Failed (words : List (List ℕ)) (t : Streams) (old new : Files) : Type 0 where
   Unbegun : t.unread → t.unwritten → Stay old new → Failed words t old new
   AtLines : (fault : Fault) → FailsAtLines words t fault → Stay old new → Failed words t old new
@@ -268,7 +264,7 @@ pub data Failed (words : List (List ℕ)) (t : Streams) (old new : Files) : Type
   Carrying : t.unread → t.unwritten → HasSparedBoth words old new → Failed words t old new
   Helping : t.unread → AskForHelp words → Stay old new → Failed words t old new
 
--- the program ends with this exit status
+-- The program ends with this exit status.
 pub record Ends (words : List (List ℕ)) (t : Streams) (old new : Files) (status : ℕ) : Type 0 where
   pub known : (status ≡ 0) ⊎ ((status ≡ 2) ⊎ (status ≡ 3))
   pub done : status ≡ 0 → Done words t old new

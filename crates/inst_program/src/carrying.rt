@@ -1,4 +1,4 @@
-//! The next opening: the log that begins with the books of another one.
+//! The task `next`: a log that begins with the books of another one.
 ghost use Rattle.std.specs.Prelude.{◌≡◌, ◌<◌, List, ℕ, Option, option_map, length, IsTrue, IfErr};
 ghost use Rattle.std.specs.Prelude.{IfOk, OnOk, OnErr};
 ghost use Rattle.inst_log.specs.Layout.{recovered_lines};
@@ -32,7 +32,7 @@ use sqlite_disk::Disk;
 use std::alloc::Global;
 use std::io::Write;
 
-/// What the hub of a log was when it was closed, and its books.
+/// A hub that was closed, with its books.
 #[derive(Drop)]
 struct Closed {
     mode: Mode,
@@ -40,16 +40,16 @@ struct Closed {
     journals: Vec<Journal>,
 }
 
-/// Which log is closed, which one begins with its books, and the digest that the first must have,
-/// if one is asked for.
+/// The log that is closed, the log that begins with its books, and the digest that the first must
+/// contain.
 pub(crate) struct NextTask<'a> {
     pub(crate) from: &'a str,
     pub(crate) to: &'a str,
     pub(crate) digest: Option<&'a str>,
 }
 
-/// Closes the hub of the first log of the task, and makes the second, which begins with its books.
-/// One that begins so already is left as it is. Where the first log is damaged, `errors` gets how
+/// Closes the hub of the first log and makes the second log, which begins with its books. A second
+/// log that begins so already keeps its lines. If the first log is damaged, prints on `errors` how
 /// far it is right.
 pub(crate) fn next<L: Logs, E: Write>(
     logs: &mut L,
@@ -110,7 +110,7 @@ fn close<L: Logs, E: Write>(
     outcome
 }
 
-/// Closes the hub of the log on this disk, and gives the disk back.
+/// Closes the hub of the log on this disk, and returns the disk.
 fn close_on<D: Disk + Drop, E: Write>(
     alloc: Global,
     wanted: Option<Digest>,
@@ -127,8 +127,7 @@ fn close_on<D: Disk + Drop, E: Write>(
     }
 }
 
-/// Closes the hub whose log, which begins with this header, is on this disk, and gives the disk
-/// back.
+/// Closes the hub of the log on this disk, which begins with this header, and returns the disk.
 fn close_hub<D: Disk + Drop, E: Write>(
     alloc: Global,
     header: &LogHeader,
@@ -163,7 +162,7 @@ fn close_hub<D: Disk + Drop, E: Write>(
     }
 }
 
-/// Makes the log of this name, of a hub that opens with the books of the closed one.
+/// Makes the log of this name, for a hub that opens from the books of the closed one.
 fn begin<L: Logs>(logs: &mut L, alloc: Global, closed: &Closed, to: &str) -> Result<(), ExitReason>
     requires none_out { AllAreIn (L.files logs.old) }
     requires can { CanOpenFrom (world_settings closed.now.runner.world) closed.now.journals.items }
@@ -194,7 +193,7 @@ fn begin<L: Logs>(logs: &mut L, alloc: Global, closed: &Closed, to: &str) -> Res
     outcome
 }
 
-/// Makes the log of a hub that opens from these journals on this disk, and gives the disk back.
+/// Makes the log of a hub that opens from these journals on this disk, and returns the disk.
 fn begin_on<D: Disk + Drop>(
     alloc: Global,
     mode: Mode,
@@ -223,7 +222,7 @@ fn begin_on<D: Disk + Drop>(
     (outcome, disk)
 }
 
-/// What the first line of a log says. The log is left as it is.
+/// Returns the contents of a log's first line. The log is unchanged.
 fn beginning_of<D: Disk>(alloc: Global, disk: &mut D) -> Result<Option<LogHeader>, ExitReason>
     requires usable { IsTrue (D.Disk.is_usable disk.old) }
     ensures there { IfOk result (λ beginning. HasKeptFaith D.Disk disk.new →

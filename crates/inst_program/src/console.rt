@@ -1,15 +1,15 @@
-//! Where the program reads and writes.
+//! The program's input and outputs.
 use std::io::{Read, Write};
 
-/// What the program reads, and where it writes.
+/// The program's input and outputs.
 #[derive(Drop)]
 pub struct Console<R: Read + Drop, W: Write + Drop, E: Write + Drop> {
-    /// The lines that it answers.
+    /// The lines to answer or check.
     pub reader: R,
-    /// Gets the replies, or what else the words ask for.
+    /// Gets the replies, or the other output that the words ask for.
     pub writer: W,
-    /// Gets what is wrong, and how far a drill is.
+    /// Gets faults and other messages, and the progress of a drill.
     pub errors: E,
-    /// Whether somebody watches `errors` as a drill goes on.
+    /// `true` if a drill is to print its progress on `errors`.
     pub is_watched: bool,
 }

@@ -1,4 +1,4 @@
-//! A drill, and the script of the run that explains its first opening.
+//! The task `drill`, and the script of a run that explains its first opening.
 ghost use Rattle.std.specs.Prelude.{◌≡◌, ◌≢◌, [], true, false, IfErr, IfOk, OnOk, IsTrue};
 ghost use Rattle.std.specs.Prelude.{option_map};
 ghost use Rattle.sqlite_disk.specs.Disk.{Only};
@@ -25,17 +25,16 @@ use std::io::{self, Read, Write};
 use std::sync::Wait;
 use std::thread::Threads;
 
-/// What a drill is asked to do.
+/// The request for a drill.
 #[derive(Drop)]
 pub(crate) struct DrillTask {
     pub(crate) settings: Settings,
-    /// How many transfers there are in each opening.
+    /// The number of transfers in each opening.
     pub(crate) transfers: u16,
     pub(crate) openings: u8,
 }
 
-/// Drills a hub, and writes the script to the file of this name, if one is named. The file must be
-/// new or empty.
+/// Drills a hub. If a file is named, which must be new or empty, writes the script to it.
 pub(crate) fn drill_hub<
     H: Threads + Wait + Sync + AllocGlobal,
     L: Logs,
@@ -135,7 +134,7 @@ fn drill_to_file<
     outcome
 }
 
-/// Drills a hub, writes the script to this disk, and gives the disk back.
+/// Drills a hub, writes the script to this disk, and returns the disk.
 fn drill_to<
     H: Threads + Wait + Sync + AllocGlobal,
     D: Disk + Drop,
@@ -169,7 +168,7 @@ fn drill_to<
     }
 }
 
-/// Returns `true` if the file has no byte.
+/// Returns `true` if the file is empty.
 fn is_empty<D: Disk>(disk: &mut D) -> io::Result<bool>
     requires usable { IsTrue (D.Disk.is_usable disk.old) }
     ensures empty { IfOk result (λ yes. HasKeptFaith D.Disk disk.new → yes ≡ true →
@@ -182,7 +181,7 @@ fn is_empty<D: Disk>(disk: &mut D) -> io::Result<bool>
     Ok(len == 0)
 }
 
-/// Writes the script of what a drill left to an empty file.
+/// Writes the script of a drill to an empty file.
 fn write_script<D: Disk>(alloc: Global, disk: &mut D, left: &DrillResult) -> Result<(), ExitReason>
     requires usable { IsTrue (D.Disk.is_usable disk.old) }
     requires steps { IsInterleaving left.now.books.settings left.now.steps.items }
@@ -199,7 +198,7 @@ fn write_script<D: Disk>(alloc: Global, disk: &mut D, left: &DrillResult) -> Res
     }
 }
 
-/// Returns the text of a script: a line for each step.
+/// Returns the text of a script: one line for each step.
 fn script_text(alloc: Global, settings: &Settings, steps: &[Step]) -> Result<Vec<u8>, AllocError>
     requires { IsInterleaving settings.now steps.now }
     ensures { IfOk result (λ text. text.items ≡ script_of settings.now steps.now) }
@@ -212,7 +211,7 @@ fn script_text(alloc: Global, settings: &Settings, steps: &[Step]) -> Result<Vec
     Ok(text)
 }
 
-/// Writes these bytes to the front of the file, and has them on the disk.
+/// Writes these bytes to the beginning of the file and syncs them.
 fn write_synced<D: Disk>(disk: &mut D, bytes: &[u8]) -> io::Result<()>
     requires usable { IsTrue (D.Disk.is_usable disk.old) }
     ensures written { OnOk result (D.Disk.seen disk.old ≡ [] → D.Disk.seen disk.new ≡ bytes.now) }

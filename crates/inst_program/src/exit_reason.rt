@@ -1,3 +1,4 @@
+//! The reasons for which the program ends without success.
 ghost use Rattle.std.specs.Prelude.{◌≡◌, is_ok, IfErr};
 ghost use Rattle.inst_logged.specs.Refused.{IsRefused};
 ghost use Rattle.inst_program.specs.inner.ExitReason.{status_of_ending};
@@ -15,15 +16,15 @@ use std::io::Write;
 /// Why the program ends without having done what the words ask for.
 #[derive(Clone, Copy)]
 pub(crate) enum ExitReason {
-    /// A hub can't do the drill, or a run failed, or something that reads nothing.
+    /// No hub can do the drill, or the task failed with this fault.
     Fault(Fault),
-    /// A log that wasn't taken, or failed.
+    /// The log was refused, or failed.
     Log(LogFault),
-    /// No fault has the number or the name that is to be explained.
+    /// No fault has the number or name that is to be explained.
     Unexplained,
-    /// No run of the hub in one thread was found that leaves the books of a drill's opening.
+    /// No run in one thread was found that leaves the books of a drill's opening.
     NoInterleaving,
-    /// The file for the script of a drill has bytes.
+    /// The file for the script of a drill isn't empty.
     ScriptNotEmpty,
 }
 
@@ -74,7 +75,7 @@ impl From<DrillError> for ExitReason {
     }
 }
 
-/// How a program ends by this error of a hub with a log.
+/// Returns the reason to end for this error of a hub with a log.
 pub(crate) fn ending_of(error: LoggedError) -> ExitReason
     ensures { status_of_ending result ≡ 2 → IsRefused error }
 {
@@ -95,7 +96,7 @@ pub(crate) fn ending_of(error: LoggedError) -> ExitReason
     }
 }
 
-/// How a program ends by what came of a hub with a log.
+/// Replaces the error of a hub with a log by the reason to end.
 pub(crate) fn or_ending(outcome: Result<(), LoggedError>) -> Result<(), ExitReason>
     ensures variant { is_ok result ≡ is_ok outcome }
     ensures refused { IfErr outcome (λ error.
@@ -107,8 +108,8 @@ pub(crate) fn or_ending(outcome: Result<(), LoggedError>) -> Result<(), ExitReas
     }
 }
 
-/// How a program ends by this error of a hub with a log. Where the log is damaged, `errors` gets
-/// how far it is right.
+/// Returns the reason to end for this error of a hub with a log. If the log is damaged, prints on
+/// `errors` how far it is right.
 pub(crate) fn told_ending<E: Write>(error: LoggedError, errors: &mut E) -> ExitReason
     ensures { status_of_ending result ≡ 2 → IsRefused error }
 {
@@ -118,7 +119,7 @@ pub(crate) fn told_ending<E: Write>(error: LoggedError, errors: &mut E) -> ExitR
     ending_of(error)
 }
 
-/// Tells after which line a log is damaged.
+/// Prints the line after which a log is damaged.
 pub(crate) fn tell_damage<E: Write>(right: Prefix, errors: &mut E) {
     let Prefix { lines, bytes } = right;
     let _ = writeln!(

@@ -1,4 +1,4 @@
-//! Runs with a log.
+//! The tasks `run` and `play` with a log.
 ghost use Rattle.std.specs.Prelude.{◌≡◌, ◌<◌, [], true, length, option_map, IsTrue, IfOk, OnOk};
 ghost use Rattle.std.specs.Prelude.{IfErr, MatchBool};
 ghost use Rattle.inst_log.specs.Layout.{recovered_lines};
@@ -30,7 +30,7 @@ use sqlite_disk::Disk;
 use std::alloc::{AllocError, Global};
 use std::io::{Read, Write};
 
-/// How lines are answered: a run or a play, the settings of the hub, and whether it is summed up.
+/// A run or a play: the mode, the settings of the hub, and whether a summary is printed.
 #[derive(Drop)]
 pub(crate) struct LineTask {
     pub(crate) mode: Mode,
@@ -38,21 +38,20 @@ pub(crate) struct LineTask {
     pub(crate) sums: bool,
 }
 
-/// The options of a log, and the digest that it must have, if one is asked for.
+/// The options of a log, and the digest that it must contain.
 #[derive(Drop)]
 struct WantedLog<'a> {
     options: LogOptions<'a>,
     digest: Option<Digest>,
 }
 
-/// Answers the lines of the console, each once it is in the log, and sums up where the task says
-/// so. Where the log begins with other settings, `errors` gets those and the ones that are given;
-/// where the log is damaged, how far it is right.
+/// Answers the lines of the console, each after it is synced to the log, and prints a summary if
+/// the task asks for one. If the log has other settings, prints both on `errors`; if it is damaged,
+/// how far it is right.
 ///
 /// # Errors
-///
-/// `NoLog` if the log must be there and no file of that name is, or an empty one; none is made
-/// then.
+/// `NoLog` if the log must exist and there is no file of that name, or one without a line; no file
+/// is made. Others as of `LoggedHub::run`.
 pub(crate) fn keep<L: Logs, R: Read + Drop, W: Write + Drop, E: Write + Drop>(
     logs: &mut L,
     alloc: Global,
@@ -93,7 +92,7 @@ pub(crate) fn keep<L: Logs, R: Read + Drop, W: Write + Drop, E: Write + Drop>(
     Ok(())
 }
 
-/// Returns `true` if the log must be there and isn't.
+/// Returns `true` if the log must exist and there is no file of its name.
 fn is_missing<L: Logs>(logs: &mut L, log: LogOptions<'_>) -> Result<bool, LogsError>
     ensures missing { IfOk result (λ missing. missing ≡ true → (log.entry.resume ≡ true)
         × IfKept (L.files logs.new) ((L.files logs.new).bytes log.entry.path.now ≡ [])) }
@@ -107,8 +106,8 @@ fn is_missing<L: Logs>(logs: &mut L, log: LogOptions<'_>) -> Result<bool, LogsEr
     Ok(!is_there)
 }
 
-/// Answers the lines of the console, each once it is in the log on this disk, and gives the disk
-/// back.
+/// Answers the lines of the console, each after it is synced to the log on this disk, and returns
+/// the disk.
 fn keep_on<D: Disk + Drop, R: Read + Drop, W: Write + Drop, E: Write + Drop>(
     alloc: Global,
     task: &LineTask,
@@ -155,7 +154,7 @@ fn keep_on<D: Disk + Drop, R: Read + Drop, W: Write + Drop, E: Write + Drop>(
     }
 }
 
-/// Returns the hub that the log on this disk is of, which has a line if it `must_be_there`.
+/// Returns the hub of the log on this disk, which must have a line if it `must_be_there`.
 fn find_hub<D: Disk>(
     alloc: Global,
     mode: Mode,
@@ -198,7 +197,7 @@ fn is_absent<D: Disk>(alloc: Global, must_be_there: bool, disk: &mut D) -> Resul
     Ok(first.is_empty())
 }
 
-/// Returns the digest that a log must have, if one is given.
+/// Returns the digest that a log must contain, if one is given.
 pub(crate) fn wanted_of(digest: Option<&str>) -> Result<Option<Digest>, AllocError>
     ensures { IfOk result (AsksFor (option_map (λ d. d.now) digest.entry)) }
 {
@@ -207,13 +206,12 @@ pub(crate) fn wanted_of(digest: Option<&str>) -> Result<Option<Digest>, AllocErr
     };
     match Digest::of(text) {
         Some(digest) => Ok(Some(digest)),
-        // No digest that options give has another length: this is never reached.
+        // Never reached: a digest in the options has this length.
         None => Err(AllocError),
     }
 }
 
-/// Tells what this error of a run is about: the settings, where its log begins with others. The log
-/// is left as it is.
+/// Prints both settings if this error of a run is that they differ. The log is unchanged.
 fn tell_failure<D: Disk, E: Write>(
     alloc: Global,
     task: &LineTask,
@@ -229,8 +227,8 @@ fn tell_failure<D: Disk, E: Write>(
     }
 }
 
-/// Tells with which settings a log begins, and which are given. Nothing is told where that can't be
-/// read.
+/// Prints the settings with which a log begins, and those that are given. Prints nothing that can't
+/// be read.
 fn tell_settings<D: Disk, E: Write>(
     alloc: Global,
     mode: Mode,
@@ -255,8 +253,8 @@ fn tell_settings<D: Disk, E: Write>(
     }
 }
 
-/// Returns the first line of a log, which is given with its newline, as it is told: whole if a log
-/// can begin so and each byte is printable.
+/// Returns the first line of a log, given with its newline, as it is printed: whole if it can begin
+/// a log and is printable, else as an excerpt.
 fn shown_line(alloc: Global, first: &[u8]) -> Result<String, AllocError> {
     let line = first.strip_suffix(b"\n").unwrap_or(first);
     match read_beginning(alloc, line)? {
@@ -265,7 +263,7 @@ fn shown_line(alloc: Global, first: &[u8]) -> Result<String, AllocError> {
     }
 }
 
-/// Returns `true` if a line is printable ASCII.
+/// Returns `true` if the line is printable ASCII.
 fn is_printable(line: &[u8]) -> bool {
     for byte in line {
         if !matches!(byte, b' '..=b'~') {
@@ -275,7 +273,8 @@ fn is_printable(line: &[u8]) -> bool {
     true
 }
 
-/// Returns the line of these settings, with its newline, of the version that this first line tells.
+/// Returns the settings line of these settings, with its newline, in the version of this first
+/// line.
 fn given_line(
     alloc: Global,
     mode: Mode,

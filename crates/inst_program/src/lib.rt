@@ -1,5 +1,5 @@
-//! The program but for the machine's files and streams: what the words ask for is done, with a log
-//! or without, and comes to an exit status.
+//! The program, generic over the machine's files and streams: it does what the words of the command
+//! line ask for and returns the exit status.
 #![tactic(auto)]
 
 mod carrying;

@@ -1,4 +1,4 @@
-//! What a log has.
+//! The task `log`: the contents of a log.
 ghost use Rattle.std.specs.Prelude.{◌≡◌, ◌≢◌, Err, IfOk, OnOk, IfErr, string_bytes};
 ghost use Rattle.std.specs.Io.KnownBytes.{Appends};
 ghost use Rattle.inst_logged.specs.declared.version.Version.TheVariants.{Two};
@@ -16,9 +16,9 @@ use inst_options::LogFault;
 use std::alloc::{AllocError, Global};
 use std::io::Write;
 
-/// Tells with which settings the log of this name begins, how many lines it has behind them and its
-/// books, and the digest of its last mark, if it has marks. The log is only read, also while a hub
-/// runs on it. Where it is damaged, `errors` gets how far it is right.
+/// Prints the settings of the log of this name, the number of its lines after the first one and its
+/// books, and the digest of its last mark, if it has marks. Only reads the log, which a hub may
+/// have open. If it is damaged, prints on `errors` how far it is right.
 pub(crate) fn show<L: Logs, W: Write, E: Write>(
     logs: &mut L,
     alloc: Global,
@@ -59,8 +59,7 @@ pub(crate) fn show<L: Logs, W: Write, E: Write>(
 /// Returns the digest of a log's last mark, or `None` for a version without marks.
 ///
 /// # Errors
-///
-/// A mark is missing or wrong: the lines up to the last mark that is right.
+/// If a mark is missing or wrong, or the end is, the lines up to the last right mark.
 fn digest_of(version: Version, chain: &Result<Digest, Prefix>) -> Result<Option<Digest>, Prefix>
     ensures digest { IfOk result (HasDigest version chain.now) }
     ensures none { IfErr result (λ right. (version ≡ Two) × (chain.now ≡ Err right)) }
@@ -72,7 +71,7 @@ fn digest_of(version: Version, chain: &Result<Digest, Prefix>) -> Result<Option<
     }
 }
 
-/// Tells what a log has.
+/// Prints the contents of a log.
 fn tell<W: Write>(
     alloc: Global,
     first: &[u8],
@@ -93,7 +92,7 @@ fn tell<W: Write>(
     }
 }
 
-/// Returns the line of a digest, with its newline, or no text if there is none.
+/// Returns the line of a digest with its newline, or an empty text if there is none.
 fn digest_line(alloc: Global, digest: Option<Digest>) -> Result<String, AllocError>
     ensures { IfOk result (λ text. string_bytes text ≡ digest_line digest) }
 {

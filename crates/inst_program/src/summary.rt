@@ -1,4 +1,4 @@
-//! What is told at the end of a run.
+//! The summary at the end of a run.
 ghost use Rattle.std.specs.Prelude.{◌≡◌, true};
 ghost use Rattle.inst_settings.specs.Settings.{is_participant};
 
@@ -9,9 +9,9 @@ use inst_command::{Answer, Ask, Command, Query, Reply, Step};
 use inst_lines::Counts;
 use std::io::Write;
 
-/// Tells, if the task wants it, how many lines there were, where they were counted, and what each
-/// participant would be answered that asks for its position, in cents. What `errors` doesn't take
-/// is lost.
+/// If the task asks for it, prints the number of lines, if they were counted, and each
+/// participant's position, reserved and available money in cents. Output that `errors` doesn't
+/// accept is lost.
 pub(crate) fn sum_up<E: Write>(
     task: &LineTask,
     runner: &mut Runner,
@@ -32,7 +32,7 @@ pub(crate) fn sum_up<E: Write>(
     }
 }
 
-/// Tells a participant's money.
+/// Prints one participant's money.
 fn tell_position<E: Write>(runner: &mut Runner, who: u8, errors: &mut E)
     requires { is_participant runner.old.world.board.settings who ≡ true }
 {

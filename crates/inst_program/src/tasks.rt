@@ -1,4 +1,4 @@
-//! What the program does with the words of its command line, and which exit status that comes to.
+//! The program: from the words of its command line to the exit status.
 ghost use Rattle.std.specs.Prelude.{◌≡◌, ◌≢◌, ◌⊎◌, ℕ, List, map, string_bytes, OnOk, IfErr};
 ghost use Rattle.std.specs.IoError.{error_kind};
 ghost use Rattle.inst_lines.specs.Answering.{hub_answerer, new_past};
@@ -32,19 +32,30 @@ use std::io::{self, ErrorKind as IoErrorKind, Read, Write};
 use std::sync::Wait;
 use std::thread::Threads;
 
-/// Does what the words of the command line say, the program's name first. `run` answers each line
-/// of `reader`, a command, by one line to `writer`, and follows up all transfers after it; `play`
-/// does the same for a script, where each line is one step and nothing happens by itself. They have
-/// the same options; with a log, each line is in it before its reply is written, and the lines that
-/// it has come first. `log` tells what one has, and `next` begins one with the books of another.
-/// `check` tells which command lines of `reader` no hub of these settings takes, and answers none.
-/// `drill` reads nothing, and drills a hub of these settings by threads: `writer` gets what each
-/// opening came to, and `errors` how far it is, where `is_watched`. `explain` tells what a fault
-/// usually means. Answers the exit status: 0 where what was asked for is done, 2 for words or
-/// settings that are wrong and for a log that isn't taken, 3 for what failed, also for a help text
-/// that can't be written, and where memory was wanting before it began. What is wrong is told on
-/// `errors`: a text, or one line `fault <number> <name>`. What `errors` doesn't take is lost. Its
-/// time is in the bytes of the input and of the log.
+/// Does what the words of the command line ask for, and returns the exit status. The first word is
+/// the program's name.
+///
+/// - `run` answers each line of `reader`, a command, by one line to `writer`, with the follow-ups
+///   after each. With a log, each line is synced to it before its reply is written, and the log's
+///   lines come first.
+/// - `play` does the same for a script of steps, without follow-ups.
+/// - `check` writes which lines of `reader` no hub of these settings takes, and answers none.
+/// - `drill` reads nothing and drills a hub with threads. `writer` gets the result of each opening,
+///   `errors` the progress if `is_watched`.
+/// - `log` writes the contents of a log, and `next` makes a log that begins with the books of
+///   another.
+/// - `explain` writes the usual meaning of a fault.
+///
+/// The exit status is 0 if this was done; 2 if the words or settings are wrong or a log is refused;
+/// 3 if something failed, also a help text that can't be written, or an allocation before the task
+/// began. `errors` gets a text, or a line `fault <number> <name>`; output that it doesn't accept is
+/// lost.
+///
+/// Blocks on the reader, the writers and, in a drill, on threads. The time is linear in the bytes
+/// of the input and the log.
+///
+/// Only tests show that an answered run doesn't end with 3, that a word which names a fault ends
+/// with 0 and another one with 2, and that `log` refuses a file whose first line isn't a log's.
 pub fn program<
     H: Threads + Wait + Sync + AllocGlobal,
     L: Logs,
@@ -53,7 +64,7 @@ pub fn program<
     E: Write + Drop,
 >(rt: &H, logs: &mut L, words: Vec<String>, console: &mut Console<R, W, E>) -> u8
     requires none_out { AllAreIn (L.files logs.old) }
-    // What the words ask for is done, is refused, or has failed.
+    // What the words ask for was done, was refused, or failed.
     ensures ends { Ends (map string_bytes words.items)
         (streams R.Read W.Write console.old.reader console.new.reader console.old.writer
         console.new.writer)
@@ -71,8 +82,8 @@ pub fn program<
     }
 }
 
-/// Tells why the words ask for nothing, and answers the exit status. A text that they ask for goes
-/// to `writer`.
+/// Prints why the words ask for no task, and returns the exit status. Help and version go to
+/// `writer`.
 fn tell_error<W: Write, E: Write>(
     alloc: Global,
     error: WordsError<'_>,
@@ -102,19 +113,20 @@ fn tell_error<W: Write, E: Write>(
     }
 }
 
-/// Tells which option is bad, its value and what it may be. Nothing is told if an allocation fails.
+/// Prints the option that is bad, its value and the allowed values. Prints nothing if an allocation
+/// fails.
 fn tell_option<E: Write>(alloc: Global, bad: BadOption<'_>, errors: &mut E) {
     if let Ok(value) = excerpt(alloc, bad.value.as_bytes()) {
         let _ = writeln!(
             errors,
-            "--{} is '{value}' and may be {}",
+            "--{} is '{value}'; it must be {}",
             bad.name, bad.range
         );
     }
 }
 
-/// Tells that the words of the command line can't be read, and answers the exit status: 3 where
-/// memory was wanting, and 2 for a word that is no text.
+/// Prints that the words of the command line can't be read, and returns the exit status: 3 for an
+/// allocation failure, 2 for a word that isn't text.
 pub fn words_failed<E: Write>(error: &io::Error, errors: &mut E) -> u8
     ensures memory { error_kind error.now ≡ IoErrorKind.OutOfMemory →
         result ≡ status_of Fault.Memory }
@@ -123,25 +135,25 @@ pub fn words_failed<E: Write>(error: &io::Error, errors: &mut E) -> u8
     match error.kind() {
         IoErrorKind::OutOfMemory => tell(Fault::Memory, errors),
         _ => {
-            let _ = writeln!(errors, "error: a word of the command line is no text");
+            let _ = writeln!(errors, "error: a word of the command line isn't UTF-8");
             2
         }
     }
 }
 
-/// What a hub is asked for beyond its settings, where it is drilled.
+/// What a drill requires of its settings and numbers.
 const DRILL: &str = "\
-    a drill wants 2 participants or more, 1 to 1024 transfers and at most the places, with 100 cents each at most \
-    the ceiling, and 1 to 10 openings";
+    a drill needs at least 2 participants, 1 to 1024 transfers and at most --places, a --ceiling of at least 100 cents \
+    for each transfer, and 1 to 10 openings";
 
-/// Tells why the program ends, and answers the exit status.
+/// Prints why the program ends, and returns the exit status.
 fn tell_ending<E: Write>(ending: ExitReason, errors: &mut E) -> u8
     ensures { result ≡ status_of_ending ending }
 {
     match ending {
         ExitReason::Fault(fault) => {
             let status = tell(fault, errors);
-            // Words that choose settings are refused by a drill alone.
+            // Settings that were parsed are refused only by a drill.
             if fault == Fault::BadSettings {
                 let _ = writeln!(errors, "{DRILL}");
             }
@@ -173,7 +185,7 @@ fn tell_ending<E: Write>(ending: ExitReason, errors: &mut E) -> u8
     }
 }
 
-/// Writes the line of a fault, and answers its exit status.
+/// Prints the line of a fault, and returns its exit status.
 fn tell<E: Write>(fault: Fault, errors: &mut E) -> u8
     ensures { result ≡ status_of fault }
 {
@@ -181,7 +193,7 @@ fn tell<E: Write>(fault: Fault, errors: &mut E) -> u8
     if fault == Fault::BadSettings { 2 } else { 3 }
 }
 
-/// Does what words ask for.
+/// Does what the words ask for.
 fn serve<
     H: Threads + Wait + Sync + AllocGlobal,
     L: Logs,
@@ -247,7 +259,8 @@ fn serve<
     }
 }
 
-/// Answers the lines of the console at a hub, with a log or without, and sums up what is asked for.
+/// Answers the lines of the console, with a log or without, and prints a summary if one is asked
+/// for.
 fn answer<L: Logs, R: Read + Drop, W: Write + Drop, E: Write + Drop>(
     logs: &mut L,
     alloc: Global,
@@ -275,7 +288,7 @@ fn answer<L: Logs, R: Read + Drop, W: Write + Drop, E: Write + Drop>(
     }
 }
 
-/// Answers the lines of the console at a hub, and keeps none.
+/// Answers the lines of the console without a log.
 fn answer_unkept<R: Read + Drop, W: Write + Drop, E: Write + Drop>(
     alloc: Global,
     task: &LineTask,
@@ -304,7 +317,7 @@ fn answer_unkept<R: Read + Drop, W: Write + Drop, E: Write + Drop>(
     Ok(())
 }
 
-/// Tells which lines of `reader` no hub of these settings takes.
+/// Writes which lines of `reader` no hub of these settings takes.
 fn check<R: Read, W: Write>(
     alloc: Global,
     settings: &Settings,
@@ -320,7 +333,7 @@ fn check<R: Read, W: Write>(
     Ok(())
 }
 
-/// Tells what the fault of this number or name usually means, and what to do.
+/// Writes the usual meaning of the fault of this number or name, and what to do.
 fn explain<W: Write>(word: &str, writer: &mut W) -> Result<(), ExitReason>
     ensures ok { OnOk result (Explains word.now (W.contents writer.old) (W.contents writer.new)) }
     ensures err { IfErr result (IsUnexplained word.now (writer.new ≡ writer.old)) }

@@ -1,4 +1,4 @@
--- Two files in memory.
+-- Two files in memory, named `a` and `b`.
 use Rattle.std.specs.Prelude.{◌≡◌, ℕ, true, cond, List, [], Option, Some, None, IsTrue, IfSome}
 use Rattle.std.specs.Prelude.{option_map, bytes_eq, codes}
 use Rattle.std.specs.Option.{option_map_or}
@@ -11,23 +11,23 @@ use Rattle.inst_program_tests.specs.declared.memory_logs.MemoryFile.{MemoryFile}
 use Rattle.inst_program_tests.specs.declared.memory_logs.Which.{Which}
 use Rattle.inst_program_tests.specs.declared.memory_logs.Which.TheVariants.{First, Second}
 
--- the file of this name
+-- The file of this name, if it is `a` or `b`.
 abbrev pub which_of : List ℕ → Option Which
 which_of name =
     cond (bytes_eq name (codes "a")) (Some First)
     (cond (bytes_eq name (codes "b")) (Some Second) None)
 
--- its name
+-- The name of a file.
 abbrev pub log_name : Which → List ℕ
 log_name First = codes "a"
 log_name Second = codes "b"
 
--- which of the two it is
+-- Chooses one of the two files.
 abbrev pub file_at : MemoryFile → MemoryFile → Which → MemoryFile
 file_at first second First = first
 file_at first second Second = second
 
--- Each file has what its disk has. A file of another name has nothing.
+-- The contents of the files by name: a file has the bytes of its disk, and any other name has none.
 abbrev pub memory_files : Ghosts (Fuse Memory) → MemoryFile → MemoryFile → Option Which → Files
 memory_files disks first second out =
     let file_of : List ℕ → Option MemoryFile =
@@ -41,7 +41,7 @@ memory_files disks first second out =
       is_clean = true;
     }
 
--- a disk that has these bytes, on which they are
+-- A disk has these bytes, and a crash can't leave any others.
 pub record IsCopy {D : Type 0} (disks : Ghosts D) (bytes : List ℕ) (log : D) : Type 0 where
   pub usable : IsTrue (disks.is_usable log)
   pub same : disks.seen log ≡ bytes

@@ -23,7 +23,7 @@ pub(crate) enum Which {
     Second,
 }
 
-/// The calls that a machine stops at.
+/// The calls at which a machine stops.
 #[derive(Clone, Copy, Debug, PartialEq, Eq)]
 pub(crate) enum Calls {
     /// Those of the disk of a file.
@@ -46,16 +46,16 @@ fn find(name: &str) -> Option<Which>
 /// A file in memory.
 #[derive(Drop)]
 struct MemoryFile {
-    /// Its disk. While the log is open, the disk as it was before.
+    /// Its disk; while the log is open, the disk as it was before.
     disk: Fuse<Memory>,
-    /// `true` once the file is there.
+    /// `true` once the file exists.
     is_made: bool,
-    /// How many calls of the disk succeed after the log is opened.
+    /// How many calls to the disk succeed after the log is opened.
     calls: u64,
 }
 
 impl MemoryFile {
-    /// Returns a file that isn't there.
+    /// Returns a file that doesn't exist.
     fn new(alloc: Global) -> MemoryFile {
         MemoryFile {
             disk: Fuse::new(Memory::new(alloc), u64::MAX),
@@ -64,7 +64,7 @@ impl MemoryFile {
         }
     }
 
-    /// Returns `true` if the file is there.
+    /// Returns `true` if the file exists.
     fn is_there(&self) -> bool
         ensures { result ≡ false → (⟦<Fuse<Memory> as Disk>⟧).seen self.now.disk ≡ [] }
     {
@@ -83,7 +83,7 @@ fn put(memory: &mut Memory, bytes: &[u8]) -> io::Result<()>
     Ok(())
 }
 
-/// Returns a disk that has these bytes. So many of its calls succeed.
+/// Returns a disk with these bytes, on which `calls` calls succeed.
 fn disk_with(alloc: Global, bytes: &[u8], calls: u64) -> Result<Fuse<Memory>, LogsError>
     ensures copy { IfOk result (IsCopy ⟦<Fuse<Memory> as Disk>⟧ bytes.now) }
     ensures cause { IfErr result (IsLogsError ⊥ ⊥) }
@@ -110,7 +110,7 @@ fn spend(calls_left: &mut u64) -> Result<(), LogsError>
     Ok(())
 }
 
-/// A machine with two files in memory. It can stop at any call and come back.
+/// A machine with two files in memory, which can stop at any call and restart.
 #[derive(Drop)]
 pub(crate) struct MemoryLogs {
     alloc: Global,
@@ -123,7 +123,7 @@ pub(crate) struct MemoryLogs {
 }
 
 impl MemoryLogs {
-    /// Returns a machine on which neither file is there.
+    /// Returns a machine on which neither file exists.
     pub(crate) fn new(alloc: Global) -> MemoryLogs
         ensures { result.out ≡ None }
     {
@@ -145,17 +145,17 @@ impl MemoryLogs {
         }
     }
 
-    /// Returns `true` if this file is there.
+    /// Returns `true` if this file exists.
     pub(crate) fn is_made(&self, which: Which) -> bool {
         self.file(which).is_made
     }
 
-    /// Returns what this file has.
+    /// Returns the bytes of this file.
     pub(crate) fn bytes(&self, which: Which) -> &[u8] {
         self.file(which).disk.inner().bytes()
     }
 
-    /// Puts these bytes into the first file.
+    /// Gives the first file these bytes.
     pub(crate) fn put_first(&mut self, bytes: &[u8]) -> Result<(), LogsError>
         ensures { self.new.out ≡ self.old.out }
     {
@@ -164,8 +164,8 @@ impl MemoryLogs {
         Ok(())
     }
 
-    /// Lets so many of these calls succeed, and each one after them fail. Those of a disk count
-    /// from when it is opened.
+    /// Lets `count` of these calls succeed, and each later one fail. The calls to a disk are
+    /// counted from when it is opened.
     pub(crate) fn stop_after(&mut self, calls: Calls, count: u64)
         ensures { self.new.out ≡ self.old.out }
     {
@@ -176,7 +176,7 @@ impl MemoryLogs {
         }
     }
 
-    /// Stops the machine and brings it back. Each file loses the bytes that weren't synced, and all
+    /// Stops the machine and restarts it. Each file loses the bytes that weren't synced, and all
     /// calls succeed again.
     pub(crate) fn crash(&mut self)
         ensures { self.new.out ≡ None }

@@ -4,7 +4,7 @@ use crate::memory_logs::MemoryLogs;
 use crate::scene::{LINES, NEXT, REPLIES, RUN, run_to};
 use std::test::Fail;
 
-/// What the task `log` writes of the first log. `sha256sum` prints the digest for the bytes from
+/// The output of the task `log` for the first log. `sha256sum` prints the digest for the bytes from
 /// the first mark up to the second one.
 const SHOWN: &[u8] =
     b"settings {\"ahead\":1000,\"base\":0,\"ceiling\":99999999999,\"fundings\":256,\"limit\":10000,\

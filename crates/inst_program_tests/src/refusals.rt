@@ -1,4 +1,4 @@
-//! Logs that are refused, and left as they are.
+//! Logs that are refused and left unchanged.
 ghost use Rattle.std.specs.Prelude.{◌≡◌, None};
 
 use crate::memory_logs::{MemoryLogs, Which};
@@ -30,7 +30,7 @@ fn an_empty_log_stays_empty(rt: HostRuntime) -> Result<(), Fail> {
     Ok(())
 }
 
-/// Runs a task that refuses the damaged log. It leaves the log as it is, and makes no second one.
+/// Runs a task that refuses the damaged log. It leaves the log unchanged and makes no second one.
 fn is_refused<H: Threads + Wait + Sync + AllocGlobal + Abort>(
     rt: &H,
     logs: &mut MemoryLogs,
@@ -47,7 +47,7 @@ fn is_refused<H: Threads + Wait + Sync + AllocGlobal + Abort>(
     Ok(())
 }
 
-/// Where a log has the amount of the first line. The settings and their mark are 241 bytes.
+/// The position of the first line's amount in a log. The settings and their mark are 241 bytes.
 const AMOUNT: usize = 241 + 16;
 
 #[test]

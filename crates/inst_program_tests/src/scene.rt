@@ -1,4 +1,4 @@
-//! One hub with its lines, and the program that is run on logs in memory.
+//! The lines of one hub, and runs of the program with logs in memory.
 ghost use Rattle.std.specs.Prelude.{◌≡◌, None};
 
 use crate::memory_logs::MemoryLogs;
@@ -15,7 +15,7 @@ pub(crate) const RUN: &str = "run --participants AAAADEFF,BBBBFRPP,CCCCITMM --lo
 /// The next opening, whose log is the second file.
 pub(crate) const NEXT: &str = "next --log a --to b";
 
-/// Lines of a transfer that is accepted, and one that is refused.
+/// The lines of a transfer that is accepted, and one line that is refused.
 pub(crate) const LINES: &[u8] =
     b"{\"at\":0,\"cents\":50000,\"cmd\":\"fund\",\"ref\":\"F1\",\"who\":\"AAAADEFF\"}\n\
     {\"at\":1000,\"cents\":20000,\"cmd\":\"submit\",\"id\":\"T1\",\"stamp\":1000,\"to\":\"BBBBFRPP\",\
@@ -33,7 +33,7 @@ pub(crate) const REPLIES: &[u8] = b"{\"ref\":\"F1\",\"reply\":\"done\"}\n\
     {\"from\":\"AAAADEFF\",\"id\":\"T1\",\"reply\":\"state\",\"state\":\"accepted\"}\n\
     {\"available\":20000,\"position\":20000,\"reply\":\"position\",\"reserved\":0}\n";
 
-/// How the program ended, and what it wrote.
+/// The exit status of the program, and its outputs.
 #[derive(Drop)]
 pub(crate) struct EndedRun {
     pub(crate) status: u8,
@@ -41,7 +41,7 @@ pub(crate) struct EndedRun {
     pub(crate) errors: Vec<u8>,
 }
 
-/// Runs the program on these logs. Its words are cut at each space.
+/// Runs the program on these logs. `words` are its arguments, separated by spaces.
 pub(crate) fn run<H: Threads + Wait + Sync + AllocGlobal, R: Read + Drop>(
     rt: &H,
     logs: &mut MemoryLogs,
@@ -71,7 +71,7 @@ pub(crate) fn run<H: Threads + Wait + Sync + AllocGlobal, R: Read + Drop>(
     })
 }
 
-/// Runs the program, and compares its status and what it writes.
+/// Runs the program, and compares its status and outputs.
 pub(crate) fn run_to<H: Threads + Wait + Sync + AllocGlobal + Abort>(
     rt: &H,
     logs: &mut MemoryLogs,

@@ -1,4 +1,4 @@
-//! A drill writes its script to a new file, and to no file that has bytes.
+//! A drill writes its script only to a file that is new or empty.
 use crate::memory_logs::{MemoryLogs, Which};
 use crate::scene::{LINES, REPLIES, RUN, run, run_to};
 use std::test::Fail;
@@ -13,8 +13,8 @@ const DRILLED: &[u8] = b"jobs 4 answered 4\ndecided 2\ndisagree 0\nnet 200 sum 2
 
 const NOT_EMPTY: &[u8] = b"error: the file that --script names is not empty; name a new one\n";
 
-/// How many events the books have: a funding, and of each transfer one that it was taken, one that
-/// it came, and an outcome on both sides.
+/// The number of events in the books: a funding, and for each transfer the submission, the
+/// forwarding, and an outcome on both sides.
 const EVENTS: usize = 9;
 
 #[test]

@@ -1,4 +1,4 @@
-//! A machine stops at each call of a disk or of the files in turn, and comes back without the bytes
+//! A machine stops at each call to a disk or to the files in turn, and restarts without the bytes
 //! that weren't synced.
 ghost use Rattle.std.specs.Prelude.{◌≡◌, None};
 
@@ -14,8 +14,8 @@ use std::thread::Threads;
 /// More calls than a task makes.
 const MOST_CALLS: u64 = 100;
 
-/// Returns a reader of these lines, which gives at most 100 bytes a read, so that they come in
-/// several batches.
+/// Returns a reader of these lines with at most 100 bytes in a read, so that they come in several
+/// batches.
 fn in_pieces(bytes: &[u8]) -> Pieces<'_> {
     Pieces {
         bytes,
@@ -24,12 +24,12 @@ fn in_pieces(bytes: &[u8]) -> Pieces<'_> {
     }
 }
 
-/// Returns how many newlines a text has.
+/// Returns the number of newlines of a text.
 fn newlines(text: &[u8]) -> usize {
     text.iter().filter(|byte| **byte == b'\n').count()
 }
 
-/// Returns the lines after the first ones.
+/// Returns the lines after the first `count`.
 fn lines_after(text: &[u8], count: usize) -> &[u8] {
     let mut rest = text;
     for _ in 0..count {
@@ -41,13 +41,13 @@ fn lines_after(text: &[u8], count: usize) -> &[u8] {
     rest
 }
 
-/// Returns the first lines of a text, so many of them.
+/// Returns the first `count` lines of a text.
 fn first_lines(text: &[u8], count: usize) -> &[u8] {
     let rest = lines_after(text, count);
     &text[..text.len().saturating_sub(rest.len())]
 }
 
-/// Returns the number in the line `lines` of what the task `log` writes.
+/// Returns the number in the line `lines` of the output of the task `log`.
 fn lines_told(alloc: Global, output: &[u8]) -> Result<Option<usize>, Fail> {
     let output = String::from_utf8_lossy(alloc, output)?;
     for line in output.lines() {
@@ -77,7 +77,7 @@ fn kept_lines<H: Threads + Wait + Sync + AllocGlobal + Abort>(
     Ok(lines.unwrap_or(0))
 }
 
-/// Returns `true` if the task was done. Otherwise it ended with a fault of the disk.
+/// Returns `true` if the task was done. Otherwise it must have ended with `DiskFault`.
 fn is_done<H: Abort>(rt: &H, calls: Calls, count: u64, ended: &EndedRun) -> bool {
     if ended.status == 0 {
         return true;
@@ -88,8 +88,8 @@ fn is_done<H: Abort>(rt: &H, calls: Calls, count: u64, ended: &EndedRun) -> bool
     false
 }
 
-/// Resumes a run that was stopped, for a client that has these replies, with the lines that its log
-/// doesn't have. The client then has each reply once.
+/// Resumes a stopped run for a client that has the replies `before`, with the lines that the log
+/// doesn't have. Checks that the client then has each reply once.
 fn resume<H: Threads + Wait + Sync + AllocGlobal + Abort>(
     rt: &H,
     logs: &mut MemoryLogs,
@@ -112,7 +112,7 @@ fn resume<H: Threads + Wait + Sync + AllocGlobal + Abort>(
     Ok(())
 }
 
-/// Stops a run after so many of these calls, and resumes it. If the client `loses` replies, it has
+/// Stops a run after `count` of these calls, and resumes it. If the client `loses` replies, it has
 /// the first half of them. Returns whether the run was done, and how many replies the client had.
 fn stop_run<H: Threads + Wait + Sync + AllocGlobal + Abort>(
     rt: &H,
@@ -131,8 +131,8 @@ fn stop_run<H: Threads + Wait + Sync + AllocGlobal + Abort>(
     Ok((is_done, told))
 }
 
-/// Stops a run at each of these calls in turn, and resumes it. Returns how many stops came after a
-/// reply, and how many there were.
+/// Stops a run at each of these calls in turn, and resumes it. Returns the number of stops after a
+/// reply, and of all stops.
 fn stop_runs<H: Threads + Wait + Sync + AllocGlobal + Abort>(
     rt: &H,
     calls: Calls,
@@ -164,8 +164,8 @@ fn a_run_resumes_after_each_stop(rt: HostRuntime) -> Result<(), Fail> {
     Ok(())
 }
 
-/// Stops the task `next` after so many of these calls, and runs it again. Both leave the first log
-/// as it is, and the second log gets the bytes that it gets without a stop. Returns `true` if the
+/// Stops the task `next` after `count` of these calls, and runs it again. Both leave the first log
+/// unchanged, and the second log gets the bytes that it gets without a stop. Returns `true` if the
 /// task was done the first time.
 fn stop_next<H: Threads + Wait + Sync + AllocGlobal + Abort>(
     rt: &H,
@@ -188,7 +188,7 @@ fn stop_next<H: Threads + Wait + Sync + AllocGlobal + Abort>(
     Ok(is_done)
 }
 
-/// Stops the task `next` at each of these calls in turn. Returns how many stops there were.
+/// Stops the task `next` at each of these calls in turn. Returns the number of stops.
 fn stop_nexts<H: Threads + Wait + Sync + AllocGlobal + Abort>(
     rt: &H,
     calls: Calls,

@@ -1,4 +1,4 @@
--- A row that has ended, while the values are taken out. This hub's own choice.
+-- A row that has ended, while the values are taken out. A choice of this hub.
 use Rattle.std.specs.Prelude.{◌≡◌, ◌≢◌, ℕ, true, false, slice_index_or, Some}
 use Rattle.std.specs.Mem.Slots.{slots_items, slots_filled}
 use mathlib.Core.Option.{some}
@@ -7,19 +7,20 @@ use Rattle.inst_row.specs.declared.ended.EndedRow.{EndedRow}
 use Rattle.inst_row.specs.Place.{place}
 
 module _ {T : Type 0} where
+  -- The number of locks that the row had.
   abbrev pub locks_of : EndedRow T → ℕ
   locks_of e = e.locks
 
-  -- this value still lies behind the lock p
+  -- The value of lock p is still there.
   pub record Lies (p : ℕ) (x : T) (e : EndedRow T) : Type 0 where
     pub there : slice_index_or (slots_filled e.closed.slots) (place p) false ≡ true
     pub value : get_elem? (slots_items e.closed.slots) (place p) ≡ some (Some x)
 
-  -- what lay behind the lock p was taken out
+  -- The value of lock p was taken out.
   abbrev pub IsOut : ℕ → EndedRow T → Type 0
   IsOut p e = slice_index_or (slots_filled e.closed.slots) (place p) false ≡ false
 
-  -- what lay behind the other locks is as it was
+  -- The values of the other locks are as they were.
   pub record OthersStay (p : ℕ) (old new : EndedRow T) : Type 0 where
     pub locks : locks_of new ≡ locks_of old
     pub there : (q : ℕ) (x : T) → q ≢ p → Lies q x old → Lies q x new

@@ -1,8 +1,8 @@
--- Where the word of a lock lies, and its slot: so far from those of other locks that each has a
--- cache line of its own. This hub's own choice.
+-- The places of a lock's word and slot: a cache line apart from those of other locks. A choice of
+-- this hub.
 use Rattle.std.specs.Prelude.{ℕ, ◌*◌}
 use Rattle.inst_row.specs.declared.row.TheConstants.{STRIDE}
 
--- the number of the lock's word, and of its slot
+-- The number of the lock's word, and of its slot.
 abbrev pub place : ℕ → ℕ
 place p = p * STRIDE

@@ -1,5 +1,5 @@
--- What holds of a row of locks and of all its seats between any two steps. That a participant's
--- books lie behind a lock is this hub's own choice.
+-- The rule that holds of a row of locks and of all its seats between any two steps. Keeping a
+-- participant's books behind a lock is a choice of this hub.
 use Rattle.std.specs.Prelude.{◌≡◌, ℕ, zero, suc, ◌<◌, List, [], length, slice_index, Contains}
 use Rattle.std.specs.Prelude.{Option, Some}
 use mathlib.Core.Option.{some}
@@ -12,13 +12,12 @@ use Rattle.inst_row.specs.Place.{place}
 use Rattle.inst_row.specs.View.{front, seats_with_lock, parts}
 use Rattle.inst_row.specs.declared.row.TheConstants.{MOST_SEATS}
 
--- how many seats have a lock whose word is this: it is free at 0, and else one has it, at 2 while
--- others may sleep until it is given back
+-- How many seats have a lock with this word: none at 0, else one.
 abbrev pub takers : ℕ → ℕ
 takers zero = 0
 takers (suc n) = 1
 
--- a seat that has a part has seen this beginning of the history behind the lock p
+-- A seat with a part has seen this prefix of the history behind lock p.
 pub record IsSeen {E K : Type 0} (views : List (RowView E K)) (p : ℕ) (h : List E) : Type 0 where
   pub id : ℕ
   pub view : RowView E K
@@ -26,16 +25,17 @@ pub record IsSeen {E K : Type 0} (views : List (RowView E K)) (p : ℕ) (h : Lis
   pub part : 0 < view.parts
   pub sees : Contains view.fronts (front p h)
 
--- Each lock has a latest history.
--- sized: there is a slot for each word
--- counted: one seat has a lock, where its word isn't 0, and else none
--- home: where no seat has it, the value lies in its slot, keeps its law, and has the latest history
--- seen: a seat has seen that history, since it left the value there
--- known: what a seat has seen is a beginning of the latest history
--- mine: who has a lock found its latest history
--- dealt: all seats together have all parts
--- holder: who has no part has no lock
--- named: a seat knows what the row was told
+-- The rule of a row. Each lock has a latest history.
+-- - sized: there is a slot for each word.
+-- - counted: one seat has the lock if its word is not 0, else none.
+-- - home: if no seat has the lock, the value is in its slot, keeps its law and has the latest
+-- history.
+-- - seen: and a seat with a part has seen that history.
+-- - known: what a seat has seen is a prefix of the latest history.
+-- - mine: a seat that has a lock found its latest history.
+-- - dealt: all seats together have all parts.
+-- - holder: a seat without parts has no lock.
+-- - named: the key that a seat knows is the row's.
 pub record Guarded {T E K : Type 0} (law : K → ℕ → T → Type 0) (history : T → List E) (key : K)
     (s : State (Option T) (RowView E K)) : Type 0 where
   pub latest : ℕ → List E

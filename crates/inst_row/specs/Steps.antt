@@ -1,4 +1,4 @@
--- What the steps on a lock tell the seat that takes them. This hub's own choice.
+-- What each step on a lock shows to the seat that takes it. A choice of this hub.
 use Rattle.std.specs.Prelude.{◌≡◌, ◌≢◌, ℕ, List, ◌∷◌, Contains, Option, Some}
 use mathlib.Core.List.{IsPrefix}
 use Rattle.atomic_table.specs.Table.{Me, Step, rest}
@@ -8,12 +8,13 @@ use Rattle.inst_row.specs.Place.{place}
 use Rattle.inst_row.specs.View.{took, gave}
 
 module _ {T E K : Type 0} where
+  -- The seat has and has seen what it had.
   abbrev pub tells_nothing : Step (Option T) → Me (Option T) (RowView E K) → ℕ →
       Me (Option T) (RowView E K) → Type 0
   tells_nothing step m n new = (new.0 ≡ m.0) × (new.1 ≡ m.1)
 
-  -- nothing, where a seat has the lock; else its value keeps its law, and its history goes on from
-  -- what was seen
+  -- If the word was 0, the value keeps its law and its history extends what was seen; else nothing
+  -- changes.
   abbrev pub takes_lock : (K → ℕ → T → Type 0) → (T → List E) → Step (Option T) →
       Me (Option T) (RowView E K) → ℕ →
       Me (Option T) (RowView E K) → Type 0
@@ -23,7 +24,7 @@ module _ {T E K : Type 0} where
       × (new.0 ≡ took m.0 p (history x)) × (new.1 ≡ (place p, Some x) ∷ m.1))
       × (n ≢ 0 → tells_nothing step m n new)
 
-  -- the value that the hand holds has its history seen
+  -- The history of the value that is given back counts as seen.
   abbrev pub gives_lock : (T → List E) → Step (Option T) → Me (Option T) (RowView E K) → ℕ →
       Me (Option T) (RowView E K) →
       Type 0

@@ -1,4 +1,4 @@
-//! A row of locks that has ended.
+//! The values of a row of locks that has ended.
 ghost use Rattle.std.specs.Prelude.{◌≡◌, ◌≢◌, ℕ, ◌<◌, ◌%◌, ◌^◌, true, false, slice_index_or};
 ghost use Rattle.std.specs.Mem.Slots.{slots_items, slots_filled, slots_len, IsFull};
 ghost use Rattle.inst_row.specs.declared.row.TheConstants.{STRIDE};
@@ -8,8 +8,8 @@ use crate::row::STRIDE;
 use atomic_table::Closed;
 use std::alloc::Global;
 
-/// The values of a row that has ended, by the numbers of their locks. Take each one out, and then
-/// call `free`.
+/// The values of a row that has ended, by the numbers of their locks. Take out each one, then call
+/// [`free`](EndedRow::free).
 pub struct EndedRow<T> {
     closed: Closed<Option<T>, Global>,
     locks: usize,
@@ -22,7 +22,7 @@ pub struct EndedRow<T> {
 impl<T: Drop> EndedRow<T> {
     ghost use Rattle.inst_row.specs.Ended.{Lies, IsOut, OthersStay, locks_of};
 
-    /// Empties the slots between those of the locks, so that only the values are left to take out.
+    /// Empties the slots between those of the locks, so that only the values are left.
     pub(crate) fn of(mut closed: Closed<Option<T>, Global>, locks: usize) -> EndedRow<T>
         requires slots { slots_len closed.slots ≡ place locks }
         requires full { IsFull closed.slots }
@@ -39,14 +39,14 @@ impl<T: Drop> EndedRow<T> {
         EndedRow { closed, locks }
     }
 
-    /// How many locks there were.
+    /// Returns the number of locks that the row had.
     pub fn len(&self) -> usize
         ensures { result ≡ locks_of self.now }
     {
         self.locks
     }
 
-    /// Takes out the value that lies behind the lock.
+    /// Takes out the value of the lock.
     pub fn take(&mut self, lock: usize) -> T
         requires lock { lock < locks_of self.old }
         requires lies { (x : T) × Lies lock x self.old }
@@ -60,7 +60,7 @@ impl<T: Drop> EndedRow<T> {
         value
     }
 
-    /// Gives the memory back, once each value was taken out.
+    /// Frees the memory, once every value is taken out.
     pub fn free(self)
         requires out { (p : ℕ) → p < locks_of self → IsOut p self }
     {

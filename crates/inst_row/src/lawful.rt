@@ -1,11 +1,12 @@
+//! The law and the history of a value behind a lock.
 ghost use Rattle.std.specs.Prelude.{ℕ, List};
 
-/// What a row keeps of the values behind its locks. Contracts speak of it; no value of it is made.
+/// The law that a row keeps for its values, and their history. Only contracts use it; it has no
+/// value at run time.
 pub trait Lawful<T, E, K> {
-    // What holds of the value behind the lock with this number, of a row that was told this when it
-    // was made.
+    // The law of the value behind the lock with this number, in a row opened with this key.
     ghost law: { K → ℕ → T → Type 0 };
 
-    // What has happened to a value, in order. It only grows.
+    // The events of a value, oldest first. It only grows.
     ghost history: { T → List E };
 }

@@ -1,5 +1,5 @@
-//! A row of locks over values that each keep a law and have a history that only grows. Whoever
-//! takes a lock finds a history that goes on from all that it has seen.
+//! A row of locks over values, each with a law and a history that only grows. A seat that takes a
+//! lock finds a history that extends all that the seat has seen of it.
 #![tactic(auto)]
 
 mod ended;

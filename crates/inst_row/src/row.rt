@@ -1,3 +1,4 @@
+//! The row of locks.
 ghost use Rattle.std.specs.Prelude.{◌≡◌, ◌<◌, ◌^◌};
 ghost use Rattle.inst_row.specs.Place.{place};
 
@@ -13,17 +14,18 @@ use crate::view::RowView;
 use atomic_table::Table;
 use std::alloc::Global;
 
-/// How many parts a row has, and so the most seats that can take its locks at the same time.
+/// How many parts a row has, and so the most seats that can take its locks.
 pub const MOST_SEATS: u64 = 16;
 
-/// How many words of 8 bytes a cache line of 64 has. The words of the locks lie so many words
-/// apart, and their slots so many slots: threads that take different locks would contend for a line
-/// that two locks share.
+/// The words of 8 bytes in a cache line of 64. The words of two locks are this far apart, and so
+/// are their slots: threads that take different locks would contend for a shared line.
 pub(crate) const STRIDE: usize = 8;
 
-/// Values behind locks, by number from 0. Threads share it by reference, each with a seat of its
-/// own. Only `open` takes memory, and only `take` waits. `T` is a value, `E` an entry of its
-/// history, `K` what the row is told when it is made; `L` says what is kept of the values.
+/// Values behind locks, by number from 0. Threads share the row by reference, each with its own
+/// [`RowSeat`].
+///
+/// `T` is a value, `E` an entry of its history, `K` the key that the row is opened with; `L` is the
+/// law of the values. Only `open` allocates, and only `take` blocks.
 ///
 /// ```text
 /// let (row, mut seat) = LockRow::open(alloc, values, &about)?;

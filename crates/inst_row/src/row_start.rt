@@ -1,9 +1,11 @@
+//! The key of a row's table.
 use std::snapshot::Snapshot;
 
-/// What a row is told when it is made, and the values that lie behind its locks then. It has no
-/// bytes: contracts speak of it.
+/// The key that a row is opened with, and its first values. It has no bytes; only contracts use it.
 #[derive(Drop)]
 pub struct RowStart<T, K> {
+    /// The key.
     pub about: Snapshot<K>,
+    /// The first values.
     pub values: Snapshot<Vec<Option<T>>>,
 }

@@ -1,12 +1,14 @@
+//! The rule of a row's table.
 use crate::lawful::Lawful;
 use crate::row_start::RowStart;
 use crate::view::RowView;
 use atomic_table::TableRule;
 use std::marker::PhantomData;
 
-/// What holds of the locks and of all seats between any two steps of any threads: a lock's word is
-/// 0 while its value lies in its slot, lawful; else a seat has the lock, and at 2 others may sleep
-/// until it is given back.
+/// The rule that holds of the locks and of all seats between any two steps of any threads.
+///
+/// The word of a lock is 0 while its value is in its slot and keeps its law. Otherwise a seat has
+/// the lock; at 2 others may sleep until it is given back.
 pub struct Guarding<L> {
     law: PhantomData<L>,
 }

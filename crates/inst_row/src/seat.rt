@@ -1,8 +1,9 @@
+//! Seats.
 use crate::view::RowView;
 use atomic_table::Seat;
 
-/// A place on a row of locks, for one caller: with at least one of the row's parts it may take a
-/// lock, and it knows the histories that it has found and left.
+/// One caller's access to a row of locks. It knows the histories that it found and left; with at
+/// least one part it may take a lock.
 #[derive(Drop)]
 pub struct RowSeat<T, E, K> {
     pub(crate) seat: Seat<Option<T>, RowView<E, K>>,

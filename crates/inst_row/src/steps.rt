@@ -1,10 +1,10 @@
-//! The kinds of step on a row, and what each tells the seat that takes it.
+//! The kinds of step on a row. Each type's contract says what the seat that takes the step learns.
 use crate::lawful::Lawful;
 use crate::view::RowView;
 use atomic_table::{Join, Play, Split};
 use std::marker::PhantomData;
 
-/// The exchange that takes a lock, or finds it taken.
+/// The compare-exchange that takes a lock, or finds it taken.
 pub struct LockTaking<L> {
     law: PhantomData<L>,
 }
@@ -15,7 +15,7 @@ impl<T, E, K, L: Lawful<T, E, K>> Play<Option<T>, RowView<E, K>> for LockTaking<
     ghost then = { takes_lock L.law L.history };
 }
 
-/// The exchange that says that a seat waits for it.
+/// The compare-exchange that marks a lock as awaited.
 pub struct Awaiting;
 
 impl<T, E, K> Play<Option<T>, RowView<E, K>> for Awaiting {
@@ -24,7 +24,7 @@ impl<T, E, K> Play<Option<T>, RowView<E, K>> for Awaiting {
     ghost then = { tells_nothing };
 }
 
-/// The exchange that gives it back.
+/// The swap that gives a lock back.
 pub struct Giving<L> {
     law: PhantomData<L>,
 }
@@ -35,7 +35,7 @@ impl<T, E, K, L: Lawful<T, E, K>> Play<Option<T>, RowView<E, K>> for Giving<L> {
     ghost then = { gives_lock L.history };
 }
 
-/// A new seat has seen as much, and gets one part.
+/// The split that makes a new seat with one part, which has seen as much.
 pub struct TellFront;
 
 impl<E, K> Split<RowView<E, K>> for TellFront {
@@ -46,7 +46,7 @@ impl<E, K> Split<RowView<E, K>> for TellFront {
     ghost right = { informed_row_view };
 }
 
-/// One seat has seen what both had seen, with the parts of both.
+/// The join of two seats into one that has the parts of both and has seen what both had seen.
 pub struct UniteSeats;
 
 impl<E, K> Join<RowView<E, K>> for UniteSeats {

@@ -1,20 +1,23 @@
+//! What a seat has and has seen, for contracts.
 use std::collections::LinkedList;
 
-/// The beginning of a history of the value behind a lock. Contracts speak of it; no value of it is
-/// made.
+/// A prefix of the history of the value behind a lock. Only contracts use it; it has no value at
+/// run time.
 pub struct Front<E> {
+    /// The number of the lock.
     pub lock: u64,
+    /// The events, oldest first.
     pub history: LinkedList<E>,
 }
 
-/// What a seat on the row has and has seen. Contracts speak of it; no value of it is made.
+/// What a seat of a row has and has seen. Only contracts use it; it has no value at run time.
 pub struct RowView<E, K> {
-    /// What the row was told when it was made; a seat that was joined away knows nothing of it.
+    /// The key that the row was opened with; `None` for a seat that was joined into another.
     pub about: Option<K>,
     /// How many of the row's parts it has.
     pub parts: u64,
     /// The locks that it has, with the histories that it found.
     pub held: LinkedList<Front<E>>,
-    /// What it has seen of histories.
+    /// The prefixes of histories that it has seen.
     pub fronts: LinkedList<Front<E>>,
 }

@@ -1,8 +1,8 @@
--- How participants are numbered: by the place of their code (BIC, ISO 9362) among the codes of a
--- hub. This hub's own choice.
+-- The number of a participant: the index of its code (BIC, ISO 9362) among the codes of a hub. A
+-- choice of this hub.
 use Rattle.std.specs.Prelude.{ℕ, List, position, Option}
 use Rattle.inst_settings.specs.Settings.{same_text}
 
--- the number of the participant with this code
+-- The number of the participant with this code.
 abbrev pub index_of : List ℕ → List (List ℕ) → Option ℕ
 index_of code codes = position (same_text code) codes

@@ -1,4 +1,4 @@
--- Which settings a hub can have. The ranges are this hub's own choice.
+-- The settings that a hub can have. The ranges are a choice of this hub.
 use Rattle.std.specs.Prelude.{◌≡◌, ℕ, ◌<◌, ◌≤◌, Bool, true, ◌&&◌, not, List, [], ◌∷◌, length}
 use Rattle.std.specs.List.{list_all, list_any}
 use Rattle.inst_base.specs.Text.{is_code}
@@ -8,7 +8,7 @@ use Rattle.inst_settings.specs.declared.ranges.TheConstants.{MOST_PARTICIPANTS, 
 use Rattle.inst_settings.specs.declared.ranges.TheConstants.{MOST_FUNDINGS, MOST_LIMIT, MOST_AHEAD}
 use Rattle.inst_settings.specs.declared.ranges.TheConstants.{MOST_CEILING, MOST_BASE}
 
--- settings of these values
+-- The settings with these values.
 abbrev pub settings_with : List (List ℕ) → ℕ → ℕ → ℕ → ℕ → ℕ → ℕ → ℕ → HubSettings
 settings_with codes places fundings limit margin ahead ceiling base = record {
   codes = codes;
@@ -21,11 +21,12 @@ settings_with codes places fundings limit margin ahead ceiling base = record {
   base = base;
 }
 
--- the settings of these participants with these numbers, and the numbers of settings
+-- The settings with these participants and numbers.
 abbrev pub settings_from : List (List ℕ) → HubParameters → HubSettings
 settings_from codes n =
     settings_with codes n.places n.fundings n.limit n.margin n.ahead n.ceiling n.base
 
+-- The numbers of settings.
 abbrev pub numbers_of : HubSettings → HubParameters
 numbers_of s = record {
   places = s.places;
@@ -37,13 +38,13 @@ numbers_of s = record {
   base = s.base;
 }
 
--- whether no code stands twice
+-- True if no two codes are equal.
 abbrev pub are_different : List (List ℕ) → Bool
 are_different [] = true
 are_different (code ∷ codes) =
     not (list_any (λ other. same_text other code) codes) && are_different codes
 
--- the settings are in their ranges
+-- The settings are in their ranges, and their codes are different.
 pub record IsSettings (s : HubSettings) : Type 0 where
   pub participants_some : 1 ≤ length s.codes
   pub participants_most : length s.codes ≤ MOST_PARTICIPANTS
@@ -60,7 +61,7 @@ pub record IsSettings (s : HubSettings) : Type 0 where
   pub ceiling_most : s.ceiling ≤ MOST_CEILING
   pub base_most : s.base ≤ MOST_BASE
 
--- a hub can have them: they are in their ranges, and each code is one
+-- A hub can have the settings: `IsSettings`, and each code is well formed.
 pub record AreOfAHub (s : HubSettings) : Type 0 where
   pub lawful : IsSettings s
   pub codes_formed : list_all is_code s.codes ≡ true

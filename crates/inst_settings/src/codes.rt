@@ -1,10 +1,11 @@
+//! Comparing and finding codes in a list.
 ghost use Rattle.std.specs.Prelude.{◌≡◌};
 ghost use Rattle.inst_settings.specs.Codes.{index_of};
 ghost use Rattle.inst_settings.specs.Lawful.{are_different};
 
 use inst_base::Code;
 
-/// Whether no code stands twice. There are few, so each is compared with those after it.
+/// Returns `true` if the codes are pairwise different. Quadratic: there are at most 256.
 pub(crate) fn are_different(codes: &[Code]) -> bool
     ensures { result ≡ are_different codes.now }
 {
@@ -14,7 +15,7 @@ pub(crate) fn are_different(codes: &[Code]) -> bool
     }
 }
 
-/// The index of the code among `codes`.
+/// Returns the index of the code in `codes`.
 pub(crate) fn index_of(codes: &[Code], code: &Code) -> Option<usize>
     ensures { result ≡ index_of code.now codes.now }
 {

@@ -1,4 +1,4 @@
-//! Which participants a code may belong to.
+//! A hash table from a code to the participants that may have it.
 ghost use Rattle.std.specs.Prelude.{◌≡◌, ◌<◌, ◌≤◌, length};
 ghost use Rattle.inst_settings.specs.Finder.{mark_of, bank_of, branch_of, mixed, holders_of};
 ghost use Rattle.inst_settings.specs.Finder.{TellsAll};
@@ -7,20 +7,20 @@ ghost use Rattle.inst_base.specs.declared.code.TheConstants.{CODE_LENGTH};
 
 use inst_base::{BRANCH_CODE_LENGTH, CODE_LENGTH, Code};
 
-/// How many marks there are: 16 for each of 256 participants, so that few codes share one.
+/// The number of marks: 16 for each of 256 participants, so that few codes share one.
 const MARKS: usize = 4096;
 
-/// Whose codes have a mark.
+/// The participants whose codes have a mark.
 #[derive(Clone, Copy)]
 pub(crate) enum Holders {
     Nobody,
-    /// The participant with this number.
+    /// One participant, with this number.
     Only(u8),
     Several,
 }
 
 impl Holders {
-    /// With the participant of this number.
+    /// Adds the participant with this number.
     fn with(self, number: u8) -> Holders
         ensures { result ≡ with_one_more self number }
     {
@@ -31,13 +31,14 @@ impl Holders {
     }
 }
 
-/// The holders of each mark. A code whose mark nobody holds is no participant's.
+/// The holders of each mark. A code belongs to no participant if its mark has no holder.
 #[derive(Clone, Copy, Drop)]
 pub(crate) struct Finder {
     table: [Holders; MARKS],
 }
 
-/// A number that differs for most codes, whether they differ in bank, country, place or branch.
+/// Returns the mark of a code. Codes that differ in bank, country, place or branch mostly have
+/// different marks.
 #[inline(always)]
 fn mark(code: &Code) -> usize
     ensures value { result ≡ mark_of code.now }
@@ -47,7 +48,7 @@ fn mark(code: &Code) -> usize
     mixed(bank(text), branch(text))
 }
 
-/// The first eight characters: bank, country and place.
+/// Returns the first eight characters (bank, country and place) as a number.
 #[inline(always)]
 fn bank(text: &[u8]) -> u64
     requires { CODE_LENGTH ≤ length text.now }
@@ -58,7 +59,7 @@ fn bank(text: &[u8]) -> u64
     ])
 }
 
-/// The three characters of a branch, or 0.
+/// Returns the three characters of the branch as a number, or 0 without a branch.
 #[inline(always)]
 fn branch(text: &[u8]) -> u64
     ensures { result ≡ branch_of text.now }
@@ -69,7 +70,7 @@ fn branch(text: &[u8]) -> u64
     u64::from_be_bytes([0, 0, 0, 0, 0, text[8], text[9], text[10]])
 }
 
-/// The highest twelve bits of a sum of products.
+/// Returns the highest twelve bits of a sum of products.
 #[inline(always)]
 fn mixed(bank: u64, branch: u64) -> usize
     ensures value { result ≡ mixed bank branch }
@@ -82,7 +83,7 @@ fn mixed(bank: u64, branch: u64) -> usize
 }
 
 impl Finder {
-    /// The holders of these codes' marks.
+    /// Makes the table of these codes.
     pub(crate) fn new(codes: &[Code]) -> Finder
         requires { length codes.now ≤ 256 }
         ensures { TellsAll codes.now result.table }
@@ -97,7 +98,7 @@ impl Finder {
         Finder { table }
     }
 
-    /// Those who may have the code.
+    /// Returns the participants that may have the code.
     #[inline(always)]
     pub(crate) fn holders(&self, code: &Code) -> Holders
         ensures { result ≡ holders_of code.now self.now.table }

@@ -1,26 +1,32 @@
+//! The numbers among a hub's settings.
+
 use crate::ranges::MOST_CEILING;
 
-/// The settings of a hub but for its participants.
+/// The settings of a hub without its participants. [`Settings::check`](crate::Settings::check)
+/// checks the ranges.
 #[derive(Clone, Copy, Debug, PartialEq, Eq)]
 pub struct HubParameters {
-    /// How many submissions an originator may have taken.
+    /// The most live transfers of an originator, 1 to 1,024.
     pub places: u16,
-    /// How many fund and defund commands of a participant are kept.
+    /// The most fund and defund commands that are kept for a participant between two openings, 1 to
+    /// 1,024.
     pub fundings: u16,
-    /// From a time stamp to the deadline, in milliseconds.
+    /// The maximum execution time, from time stamp to deadline, in milliseconds: 1 to 3,600,000.
     pub limit: u32,
-    /// Before a deadline, in which nothing is accepted any more, in milliseconds.
+    /// The cut-off before the deadline, within which no transfer is accepted, in milliseconds. Less
+    /// than `limit`.
     pub margin: u32,
-    /// How far a time stamp may lie ahead of the reading, in milliseconds.
+    /// The tolerated clock skew, in milliseconds: how far a time stamp may be after the clock
+    /// reading. At most 60,000.
     pub ahead: u32,
-    /// The largest amount of one command, in cents.
+    /// The largest amount of a command, in cents: 1 to 99,999,999,999.
     pub ceiling: u64,
-    /// The first moment of all, in absolute milliseconds.
+    /// The moment from which the hub counts, in absolute milliseconds. At most 2^62.
     pub base: u64,
 }
 
 impl HubParameters {
-    /// What the program takes where nothing else is asked for.
+    /// The program's settings if no option changes them.
     pub const DEFAULT: HubParameters = HubParameters {
         places: 256,
         fundings: 256,

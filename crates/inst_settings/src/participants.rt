@@ -1,4 +1,4 @@
-//! The participants of a hub as one text.
+//! Parsing a list of participants.
 ghost use Rattle.std.specs.Prelude.{◌≡◌, OkIff, true, IfOk, IfErr, IsOkUnless, map};
 ghost use Rattle.inst_base.specs.Text.{is_code};
 ghost use Rattle.inst_settings.specs.Parts.{parts_of, are_codes, IsRefusal};
@@ -7,9 +7,14 @@ use inst_base::{Code, Fault};
 use std::alloc::{AllocError, Global};
 use std::str;
 
-/// The codes between the commas, in their order. Nothing is trimmed, so an empty part is no code.
-/// `BadSettings` where a part is none, and `Memory` where there is no room for them. Whether a code
-/// stands twice isn't looked at.
+/// Parses codes separated by commas, in their order. Nothing is trimmed, so an empty part is
+/// malformed. Equal codes aren't detected: [`Settings::check`](crate::Settings::check) refuses
+/// them.
+///
+/// # Errors
+///
+/// - [`Fault::BadSettings`] if a part isn't 8 or 11 characters of `A-Z 0-9`.
+/// - [`Fault::Memory`] if an allocation fails.
 pub fn parse_codes(alloc: Global, text: &[u8]) -> Result<Vec<Code>, Fault>
     ensures codes { IfOk result (λ codes. codes.items ≡ parts_of text.now) }
     ensures formed { IfOk result (λ _. are_codes text.now ≡ true) }
@@ -23,7 +28,7 @@ pub fn parse_codes(alloc: Global, text: &[u8]) -> Result<Vec<Code>, Fault>
     Ok(codes)
 }
 
-/// The code of this text. Of bytes that aren't UTF-8 there is none.
+/// Makes a code of this text, which may be any bytes.
 fn code(text: &[u8]) -> Result<Code, Fault>
     ensures code { OkIff result (is_code text.now ≡ true) text.now }
     ensures fault { IsOkUnless result Fault.BadSettings }
@@ -34,7 +39,7 @@ fn code(text: &[u8]) -> Result<Code, Fault>
     Code::new(text).map_err(|_| Fault::BadSettings)
 }
 
-/// The texts between the commas.
+/// Splits the text at its commas.
 fn parts(alloc: Global, text: &[u8]) -> Result<Vec<&[u8]>, AllocError>
     ensures { IfOk result (λ parts. map (λ part. part.now) parts.items ≡ parts_of text.now) }
 {

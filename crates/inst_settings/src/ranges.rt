@@ -2,17 +2,17 @@
 
 use inst_base::MOST_CENTS;
 
-/// Participants of a hub: each has a number of one byte.
+/// The most participants of a hub. A participant's number is one byte.
 pub const MOST_PARTICIPANTS: usize = 256;
-/// Taken submissions of each originator.
+/// The most places of an originator.
 pub const MOST_PLACES: u16 = 1024;
-/// Kept fund and defund commands of each participant.
+/// The most kept fund and defund commands of a participant between two openings.
 pub const MOST_FUNDINGS: u16 = 1024;
-/// From time stamp to deadline, in milliseconds: an hour.
+/// The longest time from time stamp to deadline, in milliseconds: an hour.
 pub const MOST_LIMIT: u32 = 3_600_000;
-/// From reading to time stamp, in milliseconds: a minute.
+/// The furthest that a time stamp may be after the clock reading, in milliseconds: a minute.
 pub const MOST_AHEAD: u32 = 60_000;
-/// The amount of one command, in cents.
+/// The highest ceiling of a command's amount, in cents.
 pub const MOST_CEILING: u64 = MOST_CENTS;
-/// The base of moments, in absolute milliseconds: 2^62.
+/// The latest base of a hub's moments, in absolute milliseconds: 2^62.
 pub const MOST_BASE: u64 = 4_611_686_018_427_387_904;

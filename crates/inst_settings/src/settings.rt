@@ -1,3 +1,4 @@
+//! The checked settings of a hub.
 ghost use Rattle.std.specs.Prelude.{◌≡◌, ◌≢◌, ◌<◌, ◌≤◌, Some, true, false, [], length, get_or};
 ghost use Rattle.std.specs.Prelude.{slice_get, IfOk, OnErr, IsOkUnless};
 ghost use Rattle.std.specs.Option.{option_copied};
@@ -13,11 +14,11 @@ use inst_base::{Code, Fault};
 use std::alloc::AllocError;
 use std::marker::Model;
 
-/// The settings of a hub, in their ranges, with different codes.
+/// The settings of a hub, with all numbers in their ranges and no two equal codes.
 ///
 /// ```text
 /// let codes = vec![in alloc; Code::new("AAAADEFF")?, Code::new("BBBBFRPP")?]?;
-/// let numbers = Numbers { places: 1_024, ..Numbers::DEFAULT };
+/// let numbers = HubParameters { places: 1_024, ..HubParameters::DEFAULT };
 /// let settings = Settings::check(codes, numbers)?;
 /// settings.index_of(&Code::new("BBBBFRPP")?) // Some(1)
 /// ```
@@ -46,10 +47,13 @@ impl Settings {
     ghost use Rattle.inst_settings.specs.Codes.{index_of};
     ghost use Rattle.inst_settings.specs.Lawful.{IsSettings, numbers_of, settings_from};
 
-    /// The settings with these numbers, or `BadSettings` where one is outside its range or a code
-    /// stands twice: 1 to 256 participants, 1 to 1,024 places and fundings, a `limit` of 1 to
-    /// 3,600,000 ms, a `margin` below it, an `ahead` of at most 60,000 ms, a `ceiling` of 1 to
-    /// 99,999,999,999 cents and a `base` of at most 2^62 ms. The codes are compared each with each.
+    /// Makes settings of these codes and numbers. Participants are numbered from 0 in the order of
+    /// the codes. The codes are compared pairwise; nothing is allocated.
+    ///
+    /// # Errors
+    ///
+    /// [`Fault::BadSettings`] if a number is outside its range (see [`HubParameters`]), there are
+    /// no codes or more than 256, or two codes are equal.
     pub fn check(codes: Vec<Code>, numbers: HubParameters) -> Result<Settings, Fault>
         ensures ok { IfOk result (λ s. IsSettings s × (s ≡ settings_from codes.items numbers)) }
         ensures err { OnErr result (¬ IsSettings (settings_from codes.items numbers)) }
@@ -84,7 +88,11 @@ impl Settings {
         })
     }
 
-    /// The same settings once more.
+    /// Copies the settings.
+    ///
+    /// # Errors
+    ///
+    /// [`AllocError`] if the codes can't be copied.
     pub fn copy(&self) -> Result<Settings, AllocError>
         ensures ok { IfOk result (λ s. s ≡ self.now) }
         ensures lawful { IsSettings self.now }
@@ -96,8 +104,9 @@ impl Settings {
         })
     }
 
-    /// The number of the participant with this code. Most codes cost one look into a table, known
-    /// or not; those whose mark several participants share are searched for among all.
+    /// Returns the number of the participant with this code, or `None`. Most codes cost one table
+    /// look-up, known or not; if several participants share the code's mark, all codes are
+    /// searched.
     pub fn index_of(&self, code: &Code) -> Option<u8>
         ensures { result ≡ index_of code.now self.now.codes }
     {
@@ -108,7 +117,7 @@ impl Settings {
         }
     }
 
-    /// Whether this number has this code.
+    /// Returns `true` if the participant with this number has this code.
     #[inline(always)]
     fn has_at(&self, number: u8, code: &Code) -> bool
         ensures here { result ≡ true → Some number ≡ index_of code.now self.now.codes }
@@ -119,14 +128,15 @@ impl Settings {
         number < self.codes.len() && self.codes[number] == *code
     }
 
-    /// The code of the participant with this number, or `None` where there is none.
+    /// Returns the code of the participant with this number, or `None` if there is no such
+    /// participant.
     pub fn code(&self, index: u8) -> Option<&Code>
         ensures { option_copied result ≡ slice_get self.now.codes index }
     {
         self.codes.get(usize::from(index))
     }
 
-    /// How many participants there are.
+    /// Returns the number of participants, 1 to 256.
     pub fn participants(&self) -> u16
         ensures value { result ≡ participants self.now }
         ensures some { 1 ≤ result }
@@ -135,21 +145,21 @@ impl Settings {
         self.codes.len() as u16
     }
 
-    /// Whether a participant has this number.
+    /// Returns `true` if a participant has this number.
     pub fn has_participant(&self, number: u8) -> bool
         ensures { result ≡ is_participant self.now number }
     {
         usize::from(number) < self.codes.len()
     }
 
-    /// The settings but for the participants.
+    /// Returns the settings without the participants.
     pub fn numbers(&self) -> HubParameters
         ensures { result ≡ numbers_of self.now }
     {
         self.numbers
     }
 
-    /// How many submissions each originator may have taken.
+    /// Returns the most live transfers of an originator, 1 to 1,024.
     pub fn places(&self) -> u16
         ensures value { result ≡ self.now.places }
         ensures some { 1 ≤ result }
@@ -158,7 +168,8 @@ impl Settings {
         self.numbers.places
     }
 
-    /// How many fund and defund commands are kept for each participant.
+    /// Returns the most fund and defund commands that are kept for a participant between two
+    /// openings, 1 to 1,024.
     pub fn fundings(&self) -> u16
         ensures value { result ≡ self.now.fundings }
         ensures some { 1 ≤ result }
@@ -167,7 +178,7 @@ impl Settings {
         self.numbers.fundings
     }
 
-    /// From a transfer's time stamp to its deadline, in milliseconds.
+    /// Returns the time from a transfer's time stamp to its deadline, in milliseconds.
     pub fn limit(&self) -> u32
         ensures value { result ≡ self.now.limit }
         ensures some { 1 ≤ result }
@@ -176,7 +187,8 @@ impl Settings {
         self.numbers.limit
     }
 
-    /// How long before its deadline a transfer can't be accepted any more, in milliseconds.
+    /// Returns the cut-off before the deadline, within which no transfer is accepted, in
+    /// milliseconds.
     pub fn margin(&self) -> u32
         ensures value { result ≡ self.now.margin }
         ensures below { result < self.now.limit }
@@ -184,7 +196,7 @@ impl Settings {
         self.numbers.margin
     }
 
-    /// How far a time stamp may lie after the reading, in milliseconds.
+    /// Returns how far a time stamp may be after the clock reading, in milliseconds.
     pub fn ahead(&self) -> u32
         ensures value { result ≡ self.now.ahead }
         ensures most { result ≤ MOST_AHEAD }
@@ -192,7 +204,7 @@ impl Settings {
         self.numbers.ahead
     }
 
-    /// The largest amount of one command, in cents.
+    /// Returns the largest amount of a command, in cents.
     pub fn ceiling(&self) -> u64
         ensures value { result ≡ self.now.ceiling }
         ensures some { 1 ≤ result }
@@ -201,7 +213,7 @@ impl Settings {
         self.numbers.ceiling
     }
 
-    /// Whether one command may move so many cents: 1 to the ceiling.
+    /// Returns `true` if a command may have this amount: 1 cent to the ceiling.
     pub fn allows(&self, cents: u64) -> bool
         ensures value { result ≡ is_within_ceiling self.now cents }
         ensures amount { result ≡ true → is_amount cents ≡ true }
@@ -209,7 +221,7 @@ impl Settings {
         (1..=self.numbers.ceiling).contains(&cents)
     }
 
-    /// The absolute milliseconds from which moments are counted.
+    /// Returns the absolute milliseconds from which moments are counted.
     pub fn base(&self) -> u64
         ensures value { result ≡ self.now.base }
         ensures most { result ≤ MOST_BASE }

@@ -1,7 +1,5 @@
--- What a participant's books have to do with what its board's holder knows, between any two calls
--- of its slot. The live transfers of its own are the places that it opened; a forwarded one is
--- known once its place was found; what is booked is known; and what only its slot can have answered
--- is booked. This hub's own choice.
+-- The relation between a participant's books and what its board's holder knows, between any two
+-- calls of its slot. A choice of this hub.
 use Rattle.std.specs.Prelude.{◌≡◌, ◌≢◌, ◌⊎◌, ℕ, ◌<◌, true, is_some, List, length, slice_get, map}
 use Rattle.std.specs.Prelude.{Contains, Some}
 use Rattle.inst_base.specs.TimeLimit.{deadline_of}
@@ -20,20 +18,20 @@ use Rattle.inst_journal.specs.Opened.{is_live, live_taken}
 use Rattle.inst_slot.specs.declared.arrival.Arrival.{Arrival}
 use Rattle.inst_slot.specs.Book.{Book, place_at, terms_to, live_inbox, arrived_at}
 
--- a live transfer of the participant's own with this identifier lies at this index
+-- The own live transfer at this index has this identifier.
 pub record IsTakenAt (book : Book) (id : List ℕ) (index : ℕ) : Type 0 where
   pub to : ℕ
   pub cents : ℕ
   pub stamp : ℕ
   pub there : slice_get (live_taken book.who book.events) index ≡ Some (Taken id to cents stamp)
 
--- the live transfer lies at this index of its originator's places: it was taken there, or forwarded
--- from there
+-- The live transfer has this index among its originator's places: it was taken there, or forwarded
+-- from there.
 abbrev pub LiesAt : Book → ℕ → List ℕ → ℕ → Type 0
 LiesAt book from id index =
     ((from ≡ book.who) × IsTakenAt book id index) ⊎ (arrived_at from id book.arrivals ≡ Some index)
 
--- an outcome of the transfer is known, at the place where it lies
+-- The outcome of the transfer is known, at its place.
 pub record KnowsEnd {B : Type 0} (knows : B → Fact →
     Type 0) (b : B) (book : Book) (from : ℕ) (id : List ℕ)
     (outcome : Outcome) : Type 0 where
@@ -41,13 +39,15 @@ pub record KnowsEnd {B : Type 0} (knows : B → Fact →
   pub lies : LiesAt book from id index
   pub known : knows b (about (place_at from index) (Decided outcome))
 
--- same_settings, role: the board is of the slot's hub, and its holder has the participant's role
--- truly: what is known of each place is true of one lawful standing taken_known, only_taken: the
--- live transfers of its own are, in their order, the places that it opened arrived: there is an
--- arrival for each live transfer that was forwarded, in order forwarded_known: those whose places
--- were found are known opened, for the participant booked_known: the booked outcome of a live
--- transfer is known answered: each place for the participant that is known accepted or rejected is
--- booked
+-- The books are lawful over the board.
+--
+-- - same_settings, role: the board is of the slot's hub, and its holder has the participant's role
+-- - truly: what is known of each place is true of one lawful state of it (Standing)
+-- - taken_known, only_taken: the own live transfers are, in order, the places that it opened
+-- - arrived: there is an arrival for each live forwarded transfer, in order
+-- - forwarded_known: an arrival with a place is known opened, with the participant as beneficiary
+-- - booked_known: the booked outcome of a live transfer is known
+-- - answered: a place for the participant that is known accepted or rejected is booked
 pub record IsLawfulBoard {B : Type 0} (settings : B → HubSettings) (knows : B → Fact →
     Type 0) (has_role : B → ℕ → Type 0)
     (b : B) (book : Book) : Type 0 where
@@ -72,29 +72,29 @@ pub record IsLawfulBoard {B : Type 0} (settings : B → HubSettings) (knows : B 
       knows b (about k (HasTerms t)) → knows b (about k (Decided outcome)) →
       booked k.owner t.id book.events ≡ Some outcome
 
--- the books of every other participant over the same board have to do with it what they had
+-- The books of every other participant that were lawful over board b are lawful over c.
 abbrev pub KeepsOthers : {B : Type 0} → (B → HubSettings) → (B → Fact → Type 0) → (B → ℕ → Type 0) →
     B → ℕ → B → Type 0
 KeepsOthers settings knows has_role b who c =
     (book : Book) → book.who ≢ who → IsLawfulBoard settings knows has_role b book →
     IsLawfulBoard settings knows has_role c book
 
--- the place of this transfer was found, if it is live and was forwarded
+-- The place of this transfer is known, if it is live and was forwarded.
 abbrev pub IsAdopted : Book → ℕ → List ℕ → Type 0
 IsAdopted book from id =
     is_forwarded from id book.events ≡ true → is_live from id book.events ≡ true →
     is_some (arrived_at from id book.arrivals) ≡ true
 
--- the places of all of them were found
+-- The places of all arrivals are known.
 abbrev pub AllAreAdopted : Book → Type 0
 AllAreAdopted book = (x : Arrival) → Contains book.arrivals x → is_some x.index ≡ true
 
--- A call of a participant's slot leaves its books, and those of all others, as lawful over the
--- board as they were
--- lawful, others: what each book has to do with the board
--- same: the book is of the same hub and participant
--- adopted: if all places were found, they still are
--- holder: the board is the same holder's
+-- After a call of a slot all books are still lawful.
+--
+-- - lawful, others: the slot's own books, and those of every other participant
+-- - same: the book is of the same hub and participant
+-- - adopted: if all places were known, they still are
+-- - holder: the board has the same holder
 pub record KeepsLawful {B : Type 0} (settings : B → HubSettings) (knows : B → Fact → Type 0)
     (has_role : B → ℕ → Type 0) (stays : B → B → Type 0) (b : B) (old : Book) (c : B)
     (new : Book) : Type 0 where
@@ -104,7 +104,7 @@ pub record KeepsLawful {B : Type 0} (settings : B → HubSettings) (knows : B �
   pub adopted : AllAreAdopted old → AllAreAdopted new
   pub holder : stays b c
 
--- the books of all others are as lawful over the board as they were, and it is the same holder's
+-- The books of all other participants are still lawful, and the board has the same holder.
 pub record LeavesOthers {B : Type 0} (settings : B → HubSettings) (knows : B → Fact → Type 0)
     (has_role : B → ℕ → Type 0) (stays : B → B → Type 0) (b : B) (who : ℕ) (c : B)
     : Type 0 where

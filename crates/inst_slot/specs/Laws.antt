@@ -1,7 +1,4 @@
--- The laws of slots over boards: that new books over a board of which nothing is known are lawful;
--- that the place which a slot tells of a transfer is known opened, with that transfer's identifier;
--- that the books of one participant after another may be opened again over one board; that lawful
--- books may move to another board where the same is known. They are this hub's own promises.
+-- Laws of slots over boards (inst_slot::laws). Promises of this hub.
 use Rattle.std.specs.Prelude.{◌≡◌, ◌≢◌, ◌↔◌, ℕ, List, [], Some}
 use Rattle.inst_settings.specs.Settings.{HubSettings}
 use Rattle.inst_terms.specs.declared.terms.Terms.{Terms}
@@ -13,6 +10,7 @@ use Rattle.inst_slot.specs.Book.{Book, place_of}
 use Rattle.inst_slot.specs.LawfulBoard.{IsLawfulBoard}
 use Rattle.inst_slot.specs.Opening.{MayOpenAgain, OpensPlaces}
 
+-- New books are lawful over a board of which nothing is known.
 abbrev pub NewBooksAreLawful : {B : Type 0} → (B → HubSettings) → (B → Fact → Type 0) →
     (B → ℕ → Type 0) → Type 0
 NewBooksAreLawful {B} settings knows has_role =
@@ -20,7 +18,7 @@ NewBooksAreLawful {B} settings knows has_role =
     ((f : Fact) → ¬ knows b f) → book.events ≡ [] → book.arrivals ≡ [] →
     IsLawfulBoard settings knows has_role b book
 
--- the place is known opened, with terms of this identifier
+-- The place is known opened, with terms of this identifier.
 pub record KnowsTransfer {B : Type 0} (knows : B → Fact →
     Type 0) (b : B) (id : List ℕ) (k : Place) : Type 0 where
   pub terms : Terms
@@ -28,6 +26,7 @@ pub record KnowsTransfer {B : Type 0} (knows : B → Fact →
   pub id_is : terms.id ≡ id
   pub known : KnowsOpening knows b k terms deadline
 
+-- The place that a slot returns for a transfer is known opened, with its identifier.
 abbrev pub AToldPlaceIsKnown : {B : Type 0} → (B → HubSettings) → (B → Fact → Type 0) →
     (B → ℕ → Type 0) → Type 0
 AToldPlaceIsKnown {B} settings knows has_role =
@@ -35,14 +34,14 @@ AToldPlaceIsKnown {B} settings knows has_role =
     IsLawfulBoard settings knows has_role b book → place_of book from id ≡ Some k →
     KnowsTransfer knows b id k
 
--- the books of each participant may be opened again over a board of which nothing is known
+-- Over a board of which nothing is known, the books of any participant may be opened again.
 abbrev pub AnyMayOpenFirst : {B : Type 0} → (B → HubSettings) → (B → Fact → Type 0) →
     (B → ℕ → Type 0) → Type 0
 AnyMayOpenFirst {B} settings knows has_role =
     (b : B) (who : ℕ) → has_role b who → ((f : Fact) → ¬ knows b f) →
     MayOpenAgain settings knows has_role b (settings b) who
 
--- where the books of one were opened again, those of another may still be
+-- After the books of one participant were opened again, those of another still may be.
 abbrev pub OthersMayOpen : {B : Type 0} → (B → HubSettings) → (B → Fact → Type 0) →
     (B → ℕ → Type 0) → (B → B → Type 0) → Type 0
 OthersMayOpen {B} settings knows has_role stays =
@@ -52,9 +51,8 @@ OthersMayOpen {B} settings knows has_role stays =
     MayOpenAgain settings knows has_role b book.settings other →
     MayOpenAgain settings knows has_role c book.settings other
 
--- books that are lawful over the board b are lawful over c, which may be a board of another kind:
--- it is of the same hub, its holder has the participant's role, and knows what the holder of b
--- knows
+-- Books that are lawful over board b are lawful over c, which may be of another kind: it is of the
+-- same hub, and its holder has the participant's role and knows what the holder of b knows.
 abbrev pub LawfulWhereTheSameIsKnown : {B C : Type 0} → (B → HubSettings) → (B → Fact → Type 0) →
     (B → ℕ → Type 0) →
     (C → HubSettings) → (C → Fact → Type 0) → (C → ℕ → Type 0) → Type 0

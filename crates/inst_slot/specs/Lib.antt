@@ -1,4 +1,4 @@
--- Public contracts cite these.
+-- Definitions that public contracts cite.
 pub mod Book
 pub mod LawfulBoard
 pub mod Asking
@@ -9,5 +9,5 @@ pub mod OwnState
 pub mod Waiting
 pub mod Laws
 pub mod Arrived
--- Only inner functions and proofs cite these.
+-- Definitions that only private functions and proofs cite.
 pub mod inner

@@ -1,6 +1,6 @@
--- How a participant's slot opens again from its books: its live transfers get the first places, in
--- order of taking, with their terms and deadlines, and the places of those that were forwarded to
--- it are found one by one. This hub's own choice.
+-- Opening a slot again from its books. Its own live transfers get the first places in the order of
+-- taking, with their terms and deadlines. Forwarded ones get their places one by one, by adoption.
+-- A choice of this hub.
 use Rattle.std.specs.Prelude.{◌≡◌, ◌↔◌, ◌⊎◌, ℕ, Bool, false, ◌&&◌, ◌==◌, is_none, if◌then◌else◌}
 use Rattle.std.specs.Prelude.{List, [], ◌∷◌, ◌++◌, map, count_by, slice_get, Some, None}
 use Rattle.std.specs.List.{list_any}
@@ -26,11 +26,11 @@ use Rattle.inst_slot.specs.declared.arrival.Arrival.{Arrival}
 use Rattle.inst_slot.specs.Book.{Book, place_at, terms_to, live_inbox}
 use Rattle.inst_slot.specs.LawfulBoard.{IsLawfulBoard}
 
--- a transfer that was carried over the opening: its place isn't found yet
+-- A carried transfer whose place isn't known yet.
 abbrev pub arrival_without_place : Entry → Arrival
 arrival_without_place entry = record { entry = entry; index = None }
 
--- the participant's book, opened again from this history
+-- The participant's book, opened again from this history.
 abbrev pub opened_again : HubSettings → ℕ → List Event → Book
 opened_again settings who J = record {
   settings = settings;
@@ -39,11 +39,12 @@ opened_again settings who J = record {
   arrivals = map arrival_without_place (live_inbox (J ++ Opened ∷ []));
 }
 
--- The board is one over which the books of `who` may be opened again
--- same_settings, role: it is of the hub, and its holder has the participant's role
--- truly: what is known of each place is true of one lawful standing
--- unopened: no place of the participant's is known opened
--- unanswered: no place for the participant is known accepted or rejected
+-- The books of `who` may be opened again over the board.
+--
+-- - same_settings, role: it is of the hub, and its holder has the participant's role
+-- - truly: what is known of each place is true of one lawful state of it (Standing)
+-- - unopened: no place of the participant is known opened
+-- - unanswered: no place for the participant is known accepted or rejected
 pub record MayOpenAgain {B : Type 0} (settings : B → HubSettings) (knows : B → Fact →
     Type 0) (has_role : B → ℕ → Type 0)
     (b : B) (hub : HubSettings) (who : ℕ) : Type 0 where
@@ -54,8 +55,8 @@ pub record MayOpenAgain {B : Type 0} (settings : B → HubSettings) (knows : B �
   pub unanswered : (k : Place) (t : Terms) (outcome : Outcome) → t.to ≡ who → IsAnswer outcome →
       knows b (about k (HasTerms t)) → ¬ knows b (about k (Decided outcome))
 
--- the fact is of the opening of one of these submissions, which have the first places of `who` in
--- their order
+-- The fact is part of the opening of one of these submissions, which have the first places of `who`
+-- in their order.
 pub record IsOfTakenSubmission (hub : HubSettings) (who : ℕ) (taken : List Event) (f : Fact)
     : Type 0 where
   pub index : ℕ
@@ -67,9 +68,10 @@ pub record IsOfTakenSubmission (hub : HubSettings) (who : ℕ) (taken : List Eve
   pub place_is : f.place ≡ place_at who index
   pub says : Says (pending (terms_to to cents id) (deadline_of hub.limit stamp)) f.about
 
--- From the board b to the board c these submissions were opened, as the first places of `who`
--- known: nothing else is learnt, and nothing forgotten
--- agrees: what was known of such a place is true of the pending transfer
+-- From board b to board c these submissions were opened as the first places of `who`.
+--
+-- - known: nothing else is learnt, and nothing is forgotten
+-- - agrees: what was known of such a place is true of the pending transfer
 pub record OpensPlaces {B : Type 0} (knows : B → Fact →
     Type 0) (hub : HubSettings) (who : ℕ) (taken : List Event) (b c : B) : Type 0 where
   pub known : (f : Fact) → knows c f ↔ (knows b f ⊎ IsOfTakenSubmission hub who taken f)
@@ -78,14 +80,15 @@ pub record OpensPlaces {B : Type 0} (knows : B → Fact →
       (a : About) → knows b (about (place_at who index) a) →
       Says (pending (terms_to to cents id) (deadline_of hub.limit stamp)) a
 
--- the books are sound, and a hub may open from them once more
+-- The books are sound, and a hub may open from them once more.
 pub record IsReopenable (hub : HubSettings) (who : ℕ) (J : List Event) : Type 0 where
   pub sound : IsSound hub who J
   pub few : HasOpeningsLeft J
 
--- from the board b to the board c the slot opened again from these books
--- places: its live transfers got the first places
--- lawful: the slot has to do with the board what it must
+-- From board b to board c the slot was opened again from these books.
+--
+-- - places: its own live transfers got the first places
+-- - lawful: its books are lawful over the board
 pub record OpensAgain {B : Type 0} (settings : B → HubSettings) (knows : B → Fact → Type 0)
     (has_role : B → ℕ → Type 0) (b : B) (hub : HubSettings) (who : ℕ) (J : List Event) (c : B)
     (slot : Book) : Type 0 where
@@ -93,39 +96,37 @@ pub record OpensAgain {B : Type 0} (settings : B → HubSettings) (knows : B →
   pub places : OpensPlaces knows hub who (live_taken who slot.events) b c
   pub lawful : IsLawfulBoard settings knows has_role c slot
 
--- whether the arrival is of this transfer
+-- True if the arrival is of this transfer.
 abbrev pub is_arrival_of : ℕ → List ℕ → Arrival → Bool
 is_arrival_of from id arrival = same_transfer from id arrival.entry.from arrival.entry.id
 
--- whether the place of the arrival isn't found yet
+-- True if the place of the arrival isn't known yet.
 abbrev pub is_unfound : Arrival → Bool
 is_unfound arrival = is_none arrival.index
 
--- whether the place of the arrival isn't found yet, and what is pending at this place is its
--- transfer
+-- True if the arrival has no place yet and its transfer is the one pending at this place.
 abbrev pub awaits : Place → Terms → ℕ → Arrival → Bool
 awaits k t deadline arrival =
     is_arrival_of k.owner t.id arrival && is_unfound arrival && (arrival.entry.cents == t.cents)
     && (arrival.entry.deadline == deadline)
 
--- how many places of carried transfers aren't found yet
+-- The number of carried transfers whose places aren't known yet.
 abbrev pub unfound : Book → ℕ
 unfound book = count_by is_unfound book.arrivals
 
--- whether a look at the place shows a transfer that was carried, is addressed to the participant,
--- and awaits its place
+-- True if a look at the place shows a carried transfer for the participant that awaits its place.
 abbrev pub finds_carried : Book → Place → Look → Bool
 finds_carried book k (Pending t deadline) =
     (t.to == book.who) && list_any (awaits k t deadline) book.arrivals
 finds_carried book k _ = false
 
--- the arrival, which lies at this place where it awaits it
+-- The arrival, with this place if it awaits it.
 abbrev pub arrival_found_at : Place → Terms → ℕ → Arrival → Arrival
 arrival_found_at k t deadline arrival =
     if awaits k t deadline arrival then record { entry = arrival.entry; index = Some k.index }
     else arrival
 
--- the book after a look at the place
+-- The book after a look at the place.
 abbrev pub with_found : Book → Place → Look → Book
 with_found book k (Pending t deadline) =
     if t.to == book.who

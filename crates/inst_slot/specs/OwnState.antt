@@ -1,5 +1,5 @@
--- What a participant's books tell of a place of its own: what is booked of the transfer that was
--- taken there. That a caller may ask by a place is this hub's own choice.
+-- The state of an own place as the participant's books have it. Asking by place is a choice of this
+-- hub.
 use Rattle.std.specs.Prelude.{ℕ, List, slice_get, Option, Some, None}
 use Rattle.inst_command.specs.declared.outcome.Outcome.{Outcome}
 use Rattle.inst_command.specs.declared.outcome.State.{State}
@@ -9,16 +9,17 @@ use Rattle.inst_journal.specs.declared.event.Event.TheVariants.{Taken}
 use Rattle.inst_journal.specs.Booked.{booked}
 use Rattle.inst_journal.specs.Opened.{live_taken}
 
+-- The state of a transfer with this booked outcome.
 abbrev pub booked_state : Option Outcome → State
 booked_state None = Pending
 booked_state (Some outcome) = Decided outcome
 
--- the state of what this event of the originator took
+-- The state of the transfer that this event took.
 abbrev pub state_of_taken : ℕ → List Event → Option Event → State
 state_of_taken who J None = Unused
 state_of_taken who J (Some (Taken id to cents stamp)) = booked_state (booked who id J)
 state_of_taken who J (Some _) = Unused
 
--- the state of the participant's own transfer at this index
+-- The state of the own live transfer at this index.
 abbrev pub own_state : ℕ → List Event → ℕ → State
 own_state who J index = state_of_taken who J (slice_get (live_taken who J) index)

@@ -1,4 +1,4 @@
-//! A command that decides a transfer: one look at the table, one at the board, and one decision.
+//! Commands that decide a transfer: one lookup in the table, one look at the board, one decision.
 ghost use Rattle.std.specs.Prelude.{◌≡◌, false, position};
 ghost use Rattle.inst_journal.specs.Booked.{takes, booked};
 ghost use Rattle.inst_journal.specs.Opened.{live_taken};
@@ -23,8 +23,7 @@ use inst_command::{Ask, Command, Place, Reply, State};
 use inst_ledger::Ledger;
 use inst_transfers::Found;
 
-/// What a command asks of the board: the transfer that was found, where it lies, and what is wished
-/// for it.
+/// A decision that a command asks of the board: the transfer found, its place, and the wish.
 #[derive(Clone, Copy)]
 pub(crate) struct Request {
     pub(crate) found: Found,
@@ -32,7 +31,7 @@ pub(crate) struct Request {
     pub(crate) wish: Wish,
 }
 
-/// The transfer that the command decides, its place, and what it wishes for it.
+/// Returns the decision that a command asks for; `None` if it decides no transfer.
 pub(crate) fn request_of(ledger: &Ledger, arrivals: &[Spot], command: &Command) -> Option<Request>
     requires spots { AreSpots (rows_of ledger.now.book.who ledger.now.book.events) arrivals.now }
     ensures { GivesRequest ledger.now
@@ -53,7 +52,7 @@ pub(crate) fn request_of(ledger: &Ledger, arrivals: &[Spot], command: &Command) 
     }
 }
 
-/// Of a forwarded transfer with nothing booked.
+/// Returns the request for a forwarded transfer without a booked outcome.
 fn answer_to(
     ledger: &Ledger,
     arrivals: &[Spot],
@@ -78,7 +77,7 @@ fn answer_to(
     Some(Request { found, place, wish })
 }
 
-/// Of a taken transfer with nothing booked, which may expire.
+/// Returns the request for an own transfer without a booked outcome: it may expire.
 fn question_about(ledger: &Ledger, id: &Ident) -> Option<Request>
     ensures { GivesRequest ledger.now
         (wish_for Wish.Expire ledger.now.book.who
@@ -97,8 +96,7 @@ fn question_about(ledger: &Ledger, id: &Ident) -> Option<Request>
     Some(Request { found, place, wish })
 }
 
-/// What the participant is answered where the transfer stays pending: a confirmation comes too
-/// late.
+/// Returns the reply if the transfer stays pending. A confirmation is then too late.
 fn pending(wish: &Wish, from: u8, id: Ident) -> Result<Reply, Fault>
     ensures { result ≡ reply_result (pending_for wish.now from id) }
 {
@@ -112,8 +110,9 @@ fn pending(wish: &Wish, from: u8, id: Ident) -> Result<Reply, Fault>
     }
 }
 
-/// Answers a command that decides the transfer of the request. It looks nothing up by its key. All
-/// room is made before the board decides, and after the decision nothing fails.
+/// Answers a command that decides the transfer of a request, without hashing.
+///
+/// All capacity is reserved before the board decides; nothing fails after the decision.
 pub(crate) fn settle<B: Board>(
     ledger: &mut Ledger,
     waiting: &mut Waiting,

@@ -1,5 +1,4 @@
-//! The live transfers that were forwarded to a participant, found by what the one table of its
-//! transfers holds of them.
+//! Arrivals as a slot stores them: by their position in the table of transfers.
 ghost use Rattle.std.specs.Prelude.{◌≡◌, ◌<◌, IfOk, length, map};
 ghost use Rattle.std.specs.List.{list_any};
 ghost use Rattle.inst_journal.specs.Opened.{carried};
@@ -19,16 +18,17 @@ use inst_terms::Terms;
 use inst_transfers::{Found, Side, Transfer};
 use std::alloc::{AllocError, Global};
 
-/// Where the table of transfers holds an arrival, and the index of its place: `None` for one that
-/// was carried over an opening, until its place is found.
+/// An arrival's position in the table of transfers, and the index of its place.
+///
+/// The index is `None` for a carried transfer until it is adopted.
 #[derive(Clone, Copy)]
 pub(crate) struct Spot {
     pub(crate) position: usize,
     pub(crate) index: Option<u16>,
 }
 
-/// Where the spot at this position of the table stands. It takes one step for the last arrival,
-/// else a number that grows with the logarithm of the arrivals.
+/// Returns the index of the spot with this table position: one step for the last arrival, else
+/// O(log n).
 fn spot_at(spots: &[Spot], position: usize) -> Option<usize>
     requires rising { AreRising (positions_of spots.now) }
     ensures { FindsSpot spots.now position result }
@@ -44,21 +44,20 @@ fn spot_at(spots: &[Spot], position: usize) -> Option<usize>
     }
 }
 
-/// The index of the place from which the transfer that was found was forwarded. It looks nothing up
-/// by its key.
+/// Returns the index of the place from which the transfer found was forwarded, without hashing.
 pub(crate) fn arrived_at(ledger: &Ledger, spots: &[Spot], found: &Found) -> Option<u16>
     requires there { IsFound ledger.now.table found.now }
     requires spots { AreSpots (rows_of ledger.now.book.who ledger.now.book.events) spots.now }
     ensures { result ≡ arrived_at found.now.from found.now.id
         (arrivals_of (rows_of ledger.now.book.who ledger.now.book.events) spots.now) }
 {
-    // That no two rows are of the same transfer is known where they are counted.
+    // Counting the rows makes it known to the prover that no two are of the same transfer.
     let _ = ledger.transfers();
     let at = spot_at(spots, found.position)?;
     spots[at].index
 }
 
-/// Keeps the place of the transfer that awaits it, if there is one.
+/// Stores the place of the arrival that awaits it; returns `false` if none does.
 pub(crate) fn find_at(
     ledger: &Ledger,
     spots: &mut Vec<Spot>,
@@ -91,7 +90,7 @@ pub(crate) fn find_at(
     true
 }
 
-/// What is booked of the transfer at this position of the table. It looks nothing up by its key.
+/// Returns the booked outcome of the transfer at this position of the table, without hashing.
 fn booked_at(ledger: &Ledger, position: usize) -> Option<Outcome>
     requires { position < length (rows_of ledger.now.book.who ledger.now.book.events) }
     ensures { result ≡ booked_at ledger.now.book.who ledger.now.book.events position }
@@ -100,8 +99,7 @@ fn booked_at(ledger: &Ledger, position: usize) -> Option<Outcome>
     ledger.at(position).unwrap().transfer.outcome
 }
 
-/// The live transfers that were forwarded, in order of arrival, where the history ends with an
-/// opening.
+/// Returns the live forwarded transfers in order of arrival. The history must end with an opening.
 pub(crate) fn carried_arrivals(alloc: Global, ledger: &Ledger) -> Result<Vec<Spot>, AllocError>
     requires { carried ledger.now.book.events ≡ ledger.now.book.events }
     ensures ok { IfOk result (λ spots.

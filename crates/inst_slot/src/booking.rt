@@ -1,4 +1,4 @@
-//! The outcome of a transfer that was found is booked.
+//! Booking the outcome of a transfer that was found.
 ghost use Rattle.std.specs.Prelude.{◌≡◌, ◌<◌, OnOk, OnErr, IsOk};
 ghost use Rattle.inst_journal.specs.declared.event.Event.{Event};
 ghost use Rattle.inst_journal.specs.Sound.{Fits};
@@ -15,8 +15,8 @@ use inst_ledger::Ledger;
 use inst_transfers::Found;
 use std::alloc::AllocError;
 
-/// Books the outcome of a transfer that was found and lies at this index: one of the participant's
-/// own waits no more. It looks nothing up by its key.
+/// Books the outcome of the transfer found, whose place has this index. An own transfer's deadline
+/// is removed from those that wait. Doesn't hash.
 pub(crate) fn book(
     ledger: &mut Ledger,
     waiting: &mut Waiting,

@@ -1,4 +1,4 @@
-//! What a board makes of a place that a participant asks about.
+//! Asking the board to decide a place, with capacity reserved first.
 ghost use Rattle.std.specs.Prelude.{◌≡◌, ◌<◌, true, is_some, IfOk, OnErr};
 ghost use Rattle.inst_board.specs.declared.look.Look.{Look};
 ghost use Rattle.inst_board.specs.Learning.{MayDecide};
@@ -11,7 +11,7 @@ use inst_command::{Outcome, Place};
 use inst_ledger::Ledger;
 use std::alloc::AllocError;
 
-/// Whether the glance shows a transfer that stays pending whatever becomes of the wish.
+/// Returns `true` if the place is pending and the wish doesn't change that.
 fn stays_pending(margin: u32, wish: &Wish, at: Moment, place_state: &PlaceState) -> bool
     ensures { (look : Look) → place_state.now ≡ place_state_of look →
         result ≡ stays_pending margin wish.now at look }
@@ -22,9 +22,11 @@ fn stays_pending(margin: u32, wish: &Wish, at: Moment, place_state: &PlaceState)
     }
 }
 
-/// What stands at the place after the wish was read at `at`: `None` where it stays pending, which
-/// takes no memory. Else there is room in the ledger for one more event; where that is refused the
-/// board decides nothing.
+/// Returns the outcome at the place after the wish at clock reading `at`; `None` if it stays
+/// pending.
+///
+/// Reserves capacity for one event before the board decides. If that fails, nothing is decided.
+/// Allocates nothing if the place stays pending.
 pub(crate) fn find<B: Board>(
     ledger: &mut Ledger,
     board: &mut B,

@@ -1,4 +1,4 @@
-//! A participant's slot: its books, and what its commands are answered on them, over any board.
+//! A participant's slot: its ledger and the places of its live transfers, over any board.
 #![tactic(auto)]
 
 mod answering;

@@ -1,5 +1,4 @@
-//! What a look at a place teaches a participant of the transfer that lies there, which is looked up
-//! once.
+//! Resolving a look at a place to an outcome that the participant hasn't booked.
 ghost use Rattle.std.specs.Prelude.{◌≡◌};
 ghost use Rattle.inst_transfers.specs.Held.{IsFound};
 ghost use Rattle.inst_slot.specs.inner.Answering.{book_with_spots};
@@ -14,14 +13,15 @@ use inst_command::{Outcome, Place};
 use inst_ledger::Ledger;
 use inst_transfers::Found;
 
-/// A transfer of the participant's that was found with nothing booked, and its outcome.
+/// A transfer of the participant without a booked outcome, and the outcome that the board shows.
 #[derive(Clone, Copy)]
 pub(crate) struct Resolution {
     pub(crate) found: Found,
     pub(crate) outcome: Outcome,
 }
 
-/// Whether the transfer that was found and lies at the place is one of the participant's.
+/// Returns `true` if the participant is the originator of the transfer at the place, or its
+/// beneficiary.
 fn is_party(ledger: &Ledger, spots: &[Spot], place: Place, found: &Found) -> bool
     requires there { IsFound ledger.now.table found.now }
     requires from { found.now.from ≡ place.owner }
@@ -31,7 +31,8 @@ fn is_party(ledger: &Ledger, spots: &[Spot], place: Place, found: &Found) -> boo
     place.owner == ledger.who() || is_at(place.index, arrived_at(ledger, spots, found))
 }
 
-/// What a look at the place teaches, where it shows a transfer decided of which nothing is booked.
+/// Returns the resolution of a look: the outcome of the participant's transfer, if it is decided
+/// and not booked.
 pub(crate) fn resolution_of(
     ledger: &Ledger,
     spots: &[Spot],

@@ -1,3 +1,4 @@
+//! The slot: its fields, opening an empty one, and lookups.
 ghost use Rattle.std.specs.Prelude.{◌≡◌, [], IfOk, IfSome, IsTrue, position};
 ghost use Rattle.inst_settings.specs.Lawful.{IsSettings};
 ghost use Rattle.inst_settings.specs.Settings.{is_participant};
@@ -26,15 +27,17 @@ use inst_transfers::{Side, Transfer};
 use std::alloc::{AllocError, Global};
 use std::marker::Model;
 
-/// The books of one participant, over a board that holds its role. Its history is sound, always.
-/// What a command is answered comes from running totals and tables, and so does the place of a
-/// transfer.
+/// The books of one participant, over a board whose holder has its role.
 ///
 /// ```text
 /// let mut slot = Slot::open(alloc, &settings, 1)?;
-/// slot.deliver(&mut board, place)?   // true: a transfer of another's came
+/// slot.deliver(&mut board, place)?   // true: a transfer was forwarded
 /// slot.apply(&mut board, &confirm)?  // its state, decided
 /// ```
+///
+/// Calls that require a lawful board (`IsLawfulBoard`) require that its holder has the
+/// participant's role and that the books fit what the holder knows. Each call keeps this, for this
+/// slot and the others.
 #[derive(Drop)]
 pub struct Slot {
     alloc: Global,
@@ -66,7 +69,11 @@ impl Model for Slot {
 }
 
 impl Slot {
-    /// The slot of the participant `who`, with no history. It has a copy of the settings.
+    /// Opens the slot of participant `who` with an empty history. It copies the settings.
+    ///
+    /// # Errors
+    ///
+    /// [`AllocError`] if the ledger can't be allocated.
     pub fn open(alloc: Global, settings: &Settings, who: u8) -> Result<Slot, AllocError>
         ensures ok { IfOk result (λ slot. (slot.settings ≡ settings.now) × (slot.who ≡ who)
             × (slot.events ≡ []) × (slot.arrivals ≡ [])) }
@@ -79,7 +86,7 @@ impl Slot {
         })
     }
 
-    /// The participant's history. It is sound.
+    /// Returns the participant's history.
     pub fn journal(&self) -> &Journal
         ensures events { result.now.events ≡ self.now.events }
         ensures lawful { IsSettings self.now.settings }
@@ -88,7 +95,7 @@ impl Slot {
         self.ledger.journal()
     }
 
-    /// The settings of its hub.
+    /// Returns the hub's settings.
     pub fn settings(&self) -> &Settings
         ensures settings { result.now ≡ self.now.settings }
         ensures lawful { IsSettings self.now.settings }
@@ -96,14 +103,14 @@ impl Slot {
         self.ledger.settings()
     }
 
-    /// The participant's number.
+    /// Returns the participant's number.
     pub fn who(&self) -> u8
         ensures { result ≡ self.now.who }
     {
         self.ledger.who()
     }
 
-    /// The beneficiary of the participant's own transfer with this identifier.
+    /// Returns the beneficiary of the participant's own transfer with this identifier.
     pub fn beneficiary_of(&self, id: &Ident) -> Option<u8>
         ensures value { result ≡ beneficiary_of id.now self.now.events }
         ensures participant { IfSome result (λ to. IsTrue (is_participant self.now.settings to)) }
@@ -111,14 +118,14 @@ impl Slot {
         self.ledger.beneficiary_of(id)
     }
 
-    /// The index of the participant's live transfer with this identifier.
+    /// Returns the index of the place of the own live transfer with this identifier.
     fn own_index(&self, id: &Ident) -> Option<u16>
         ensures { result ≡ position (takes id.now) (live_taken self.now.who self.now.events) }
     {
         self.ledger.own_index(id)
     }
 
-    /// The index of the place from which this transfer was forwarded.
+    /// Returns the index of the place from which this transfer was forwarded.
     fn arrived_at(&self, from: u8, id: &Ident) -> Option<u16>
         ensures { result ≡ arrived_at from id.now self.now.arrivals }
     {
@@ -127,8 +134,8 @@ impl Slot {
         arrived_at(&self.ledger, self.arrivals.as_slice(), &found)
     }
 
-    /// The place of a live transfer of the originator `from`: of the participant's own, or of one
-    /// that was forwarded to it and whose place was found.
+    /// Returns the place of a live transfer of the originator `from`: an own one, or a forwarded
+    /// one whose place is known.
     pub fn place_of(&self, from: u8, id: &Ident) -> Option<Place>
         ensures { result ≡ place_of self.now from id.now }
     {

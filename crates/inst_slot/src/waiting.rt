@@ -1,4 +1,4 @@
-//! The own live transfers with nothing booked, in the order in which they are due.
+//! Own live transfers without a booked outcome, in the order of their deadlines.
 ghost use Rattle.std.specs.Prelude.{◌≡◌, ℕ, ◌<◌, ◌^◌, ◌++◌, ◌∷◌, [], ◌+◌, ◌&&◌, nat_eq, not};
 ghost use Rattle.std.specs.Prelude.{length, IfOk, OnOk, OnErr};
 ghost use Rattle.inst_due.specs.Due.{has, Adds, IsLeast, comes_after};
@@ -12,8 +12,8 @@ use inst_ledger::Ledger;
 use std::alloc::{AllocError, Global};
 use std::marker::Model;
 
-/// The deadlines of the own live transfers in the order of their places, and of those that wait the
-/// pairs of a deadline and an index.
+/// The deadlines of the own live transfers in the order of their places, and the pairs of deadline
+/// and index of those without a booked outcome.
 #[derive(Drop)]
 pub(crate) struct Waiting {
     deadlines: Vec<Moment>,
@@ -32,7 +32,7 @@ impl Model for Waiting {
 }
 
 impl Waiting {
-    /// No transfers.
+    /// Returns an empty value; allocates nothing.
     pub(crate) fn new(alloc: Global) -> Self
         ensures { (result.deadlines ≡ []) × (result.pairs ≡ []) }
     {
@@ -42,7 +42,7 @@ impl Waiting {
         }
     }
 
-    /// Adds the next transfer. Where memory is refused it stays as it was.
+    /// Adds the next transfer. On allocation failure nothing changes.
     pub(crate) fn add(&mut self, deadline: Moment) -> Result<(), AllocError>
         requires { length self.old.deadlines < 2 ^ 16 }
         ensures deadlines { OnOk result (self.new.deadlines ≡ self.old.deadlines ++ deadline ∷ []) }
@@ -57,7 +57,7 @@ impl Waiting {
         Ok(())
     }
 
-    /// Takes out the pair at this index.
+    /// Removes the pair with this index.
     pub(crate) fn take_out(&mut self, index: u16)
         ensures deadlines { self.new.deadlines ≡ self.old.deadlines }
         ensures pairs { (d k : ℕ) →
@@ -68,7 +68,7 @@ impl Waiting {
         }
     }
 
-    /// The first pair after this one.
+    /// Returns the first pair after this one.
     pub(crate) fn after(&self, pair: Option<(Moment, u16)>) -> Option<(Moment, u16)>
         ensures { IsLeast self.now.pairs (comes_after pair) result }
     {
@@ -76,7 +76,7 @@ impl Waiting {
     }
 }
 
-/// What waits, where the history ends with an opening.
+/// Returns the deadlines that are live in books that end with an opening.
 pub(crate) fn carried_waiting(alloc: Global, ledger: &Ledger) -> Result<Waiting, AllocError>
     requires { carried ledger.now.book.events ≡ ledger.now.book.events }
     ensures ok { IfOk result (λ w.

@@ -1,5 +1,5 @@
--- A statement that is kept line by line: the lines since the last opening, and the position that
--- they begin at. This hub's own choice.
+-- A statement that is stored line by line: the lines since the last opening, and the position
+-- before them. A choice of this hub.
 use Rattle.std.specs.Prelude.{◌≡◌, ℕ, ◌+◌, ◌<◌, ◌≤◌, ◌^◌, List, [], ◌∷◌, ◌++◌, length}
 use Rattle.inst_command.specs.declared.line.Line.{Line}
 use Rattle.inst_journal.specs.declared.event.Event.{Event}
@@ -10,32 +10,32 @@ use Rattle.inst_statement.specs.declared.kept_line.KeptLine.{KeptLine}
 use Rattle.inst_statement.specs.declared.movement.Movement.{Movement}
 use Rattle.inst_statement.specs.KeptLine.{AreNamed, MoveByAmounts, lines_at, reached}
 
--- what a contract sees of a statement: its lines as they are kept, the position before the first
--- one in cents, and for how many more lines it has room
+-- A contract's view of a statement: its stored lines, the position before the first one in cents,
+-- and the free capacity in lines.
 pub record Stated : Type 0 where
   pub lines : List KeptLine
   pub begun : ℕ
   pub room : ℕ
 
--- each line moves the position by an amount, and its number has 32 bits
+-- Each line changes the position by an amount, and its number fits 32 bits.
 pub record IsStatement (begun : ℕ) (lines : List KeptLine) : Type 0 where
   pub moved : MoveByAmounts begun lines
   pub few : length lines < 2 ^ 32
 
--- the position after the last line
+-- The position after the last line.
 abbrev pub position_of : Stated → ℕ
 position_of stated = reached stated.begun stated.lines
 
--- its lines, as the history tells them
+-- The lines of the statement, made with the history.
 abbrev pub lines_of_statement : List Event → Stated → List Line
 lines_of_statement J stated = lines_at J 1 stated.begun stated.lines
 
--- the movement leads from one position to another
+-- The movement changes the position `before` to the position `after`.
 abbrev pub LeadsOn : ℕ → Movement → ℕ → Type 0
 LeadsOn before movement after =
     after + lowered movement.kind movement.cents ≡ before + raised movement.kind movement.cents
 
--- the line of a movement, by the event of this index
+-- The stored line of a movement, with the index of its event.
 abbrev pub line_with : ℕ → ℕ → Movement → KeptLine
 line_with event after movement = record {
   event = event;
@@ -44,8 +44,8 @@ line_with event after movement = record {
   position = after;
 }
 
--- there is room for the line of the movement, the position covers it and stays within 64 bits, and
--- its number has 32
+-- There is capacity for the movement's line, the position covers it and fits 64 bits, and the
+-- line's number fits 32.
 pub record MayAdd (before : Stated) (movement : Movement) : Type 0 where
   pub room : 0 < before.room
   pub covered : lowered movement.kind movement.cents
@@ -53,15 +53,15 @@ pub record MayAdd (before : Stated) (movement : Movement) : Type 0 where
   pub fits : position_of before + raised movement.kind movement.cents < 2 ^ 64
   pub few : length before.lines + 1 < 2 ^ 32
 
--- the movement leads on, and has the next line
+-- The position changes by the movement, and its line is the next one.
 pub record AddsLine (before : Stated) (event : ℕ) (movement : Movement)
     (after : Stated) : Type 0 where
   pub begun : after.begun ≡ before.begun
   pub leads : LeadsOn (position_of before) movement (position_of after)
   pub line : after.lines ≡ before.lines ++ line_with event (position_of after) movement ∷ []
 
--- the lines are those of the history's statement, each by an event of it, and the position is the
--- history's
+-- The lines are those of the history's statement, each with an event of it, and the position is the
+-- history's.
 pub record IsStatementOf (J : List Event) (stated : Stated) : Type 0 where
   pub named : AreNamed J stated.lines
   pub are_lines : lines_of_statement J stated ≡ statement J

@@ -1,5 +1,5 @@
--- A history that some participant of some hub can have. A statement is the same whoever's it is:
--- this hub's own choice.
+-- A history that some participant of some hub can have. The statement doesn't depend on which. A
+-- choice of this hub.
 use Rattle.std.specs.Prelude.{ℕ, List}
 use Rattle.inst_settings.specs.Settings.{HubSettings}
 use Rattle.inst_settings.specs.Lawful.{IsSettings}

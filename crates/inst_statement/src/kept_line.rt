@@ -1,3 +1,4 @@
+//! Stored lines of a statement.
 ghost use Rattle.std.specs.Prelude.{◌≡◌, IsSome, IsTrue};
 ghost use Rattle.std.specs.Int.{abs_diff};
 ghost use Rattle.inst_base.specs.Cents.{is_amount};
@@ -7,8 +8,8 @@ use inst_base::{Cents, Ident};
 use inst_command::{Line, LineKind};
 use inst_journal::Event;
 
-/// A statement line as it is kept. Its number is where it stands, its name is its event's, and its
-/// amount lies between its position and the one before.
+/// A stored statement line. Its number is its index plus 1, its name is that of its event, and its
+/// amount is the difference between its position and the one before.
 #[derive(Clone, Copy)]
 pub(crate) struct KeptLine {
     /// The index of its event in the participant's journal.
@@ -16,12 +17,13 @@ pub(crate) struct KeptLine {
     pub(crate) kind: LineKind,
     /// The other participant's number, for a transfer.
     pub(crate) other: Option<u8>,
-    /// The position after the entry, in cents.
+    /// The position after the line, in cents.
     pub(crate) position: u64,
 }
 
 impl KeptLine {
-    /// The line with this number, after the position `before`, by the events of the journal.
+    /// Makes the line with this number, after the position `before`, from the events of the
+    /// journal.
     pub(crate) fn line(&self, events: &[Event], number: u32, before: u64) -> Line
         requires named { IsSome (name_at events.now self.now.event) }
         requires amount { IsTrue (is_amount (abs_diff self.now.position before)) }
@@ -39,7 +41,7 @@ impl KeptLine {
     }
 }
 
-/// The name in the line of an event that may have one.
+/// Returns the name in the line of an event that may have one.
 fn name_of(event: &Event) -> Option<Ident>
     ensures { result ≡ line_name event.now }
 {

@@ -1,3 +1,4 @@
+//! The stored statement of a ledger.
 ghost use Rattle.std.specs.Prelude.{◌≡◌, ◌<◌, ◌≤◌, Some, [], take, drop, length, slice_get};
 ghost use Rattle.std.specs.Prelude.{slice_range, IfOk, OnOk, IsOk, IsTrue};
 ghost use Rattle.std.specs.Int.{abs_diff};
@@ -13,13 +14,13 @@ use inst_journal::Event;
 use std::alloc::{AllocError, Global};
 use std::marker::Model;
 
-/// A participant's statement since the last opening, kept line by line beside the participant's
-/// journal. A part of it is made of the journal's events, and costs its lines.
+/// A participant's statement since the last opening, stored line by line next to the participant's
+/// journal.
 ///
 /// ```text
 /// let mut statement = KeptStatement::new(alloc);
 /// statement.reserve()?;
-/// statement.add(0, funded); // event 0, 500 cents: line 1, position 500
+/// statement.add(0, &funded); // event 0, 500 cents: line 1, position 500
 /// statement.part(alloc, events, 0, 10)
 /// ```
 #[derive(Drop)]
@@ -45,7 +46,7 @@ impl Model for KeptStatement {
 }
 
 impl KeptStatement {
-    /// No lines, at position 0. It takes no memory.
+    /// Makes a statement without lines, at position 0; doesn't allocate.
     pub fn new(alloc: Global) -> Self
         ensures lines { result.lines ≡ [] }
         ensures begun { result.begun ≡ 0 }
@@ -56,7 +57,7 @@ impl KeptStatement {
         }
     }
 
-    /// The position before the line at this index, or after the last line, in cents.
+    /// Returns the position before the line at this index, or after the last line, in cents.
     fn position_before(&self, index: usize) -> u64
         requires { index ≤ length self.now.lines }
         ensures { result ≡ reached self.now.begun (take index self.now.lines) }
@@ -67,14 +68,14 @@ impl KeptStatement {
         self.lines[index - 1].position
     }
 
-    /// The position after the last line, in cents.
+    /// Returns the position after the last line, in cents.
     pub fn position(&self) -> u64
         ensures { result ≡ position_of self.now }
     {
         self.position_before(self.lines.len())
     }
 
-    /// Begins anew at an opening, at the position that was reached.
+    /// Begins a new statement at an opening: drops the lines and keeps the position.
     pub fn begin(&mut self)
         ensures lines { self.new.lines ≡ [] }
         ensures begun { self.new.begun ≡ position_of self.old }
@@ -83,8 +84,11 @@ impl KeptStatement {
         self.lines.clear();
     }
 
-    /// Makes room for one more line. Where there is room it takes no memory. The lines stay as they
-    /// are.
+    /// Reserves capacity for one more line; doesn't allocate if there is some.
+    ///
+    /// # Errors
+    ///
+    /// [`AllocError`] if the capacity can't be allocated. The lines are unchanged.
     pub fn reserve(&mut self) -> Result<(), AllocError>
         ensures lines { self.new.lines ≡ self.old.lines }
         ensures begun { self.new.begun ≡ self.old.begun }
@@ -95,7 +99,7 @@ impl KeptStatement {
         Ok(())
     }
 
-    /// The position after a movement, in cents.
+    /// Returns the position after a movement, in cents.
     fn position_after(&self, movement: &Movement) -> u64
         requires { MayAdd self.now movement.now }
         ensures leads { LeadsOn (position_of self.now) movement.now result }
@@ -109,7 +113,8 @@ impl KeptStatement {
         }
     }
 
-    /// Adds the line of a movement, by the event of this index, in room that was made.
+    /// Adds the line of a movement, whose event has this index in the journal, in capacity that
+    /// [`reserve`](KeptStatement::reserve) made.
     pub fn add(&mut self, event: u32, movement: &Movement)
         requires { MayAdd self.old movement.now }
         ensures { AddsLine self.old event movement.now self.new }
@@ -123,7 +128,7 @@ impl KeptStatement {
         });
     }
 
-    /// The line at this index.
+    /// Returns the line at this index.
     fn line(&self, events: &[Event], index: usize) -> Line
         requires named { AreNamed events.now self.now.lines }
         requires within { index < length self.now.lines }
@@ -132,7 +137,7 @@ impl KeptStatement {
         self.lines[index].line(events, index as u32 + 1, self.position_before(index))
     }
 
-    /// The lines from one index up to another.
+    /// Returns the lines from one index up to another.
     fn lines(
         &self,
         alloc: Global,
@@ -153,8 +158,12 @@ impl KeptStatement {
         Ok(lines)
     }
 
-    /// At most `count` lines after the first `skip`, by the events of the journal. It costs the
-    /// lines that it gives.
+    /// Returns at most `count` lines after the first `skip`, made from the events of the journal.
+    /// Cost: linear in the lines returned.
+    ///
+    /// # Errors
+    ///
+    /// [`AllocError`] if the lines can't be allocated.
     pub fn part(
         &self,
         alloc: Global,

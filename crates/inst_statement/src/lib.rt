@@ -1,4 +1,4 @@
-//! A participant's statement: kept line by line, or made by one walk over its history.
+//! A participant's statement, stored line by line or computed from its history in one pass.
 #![tactic(auto)]
 
 mod kept_line;

@@ -1,4 +1,4 @@
-//! What a walk knows of the transfers that it has passed, by their keys.
+//! The transfers that a pass over a history has met, by their keys.
 ghost use Rattle.std.specs.Prelude.{◌≡◌, [], ◌∷◌, ◌++◌, List, OnOk};
 ghost use Rattle.inst_journal.specs.declared.event.Event.{Event as Passed};
 ghost use Rattle.inst_journal.specs.Booked.{first_some};
@@ -20,7 +20,7 @@ pub(crate) struct PassedTransfers {
 }
 
 impl PassedTransfers {
-    /// No transfers.
+    /// Makes tables without transfers.
     pub(crate) fn new(alloc: Global) -> Self
         ensures { AreKept [] result.taken result.forwarded }
     {
@@ -30,7 +30,7 @@ impl PassedTransfers {
         }
     }
 
-    /// Keeps the transfer of an event, if it brings one.
+    /// Stores the transfer of an event, if it has one.
     pub(crate) fn keep(&mut self, event: &Event) -> Result<(), AllocError>
         ensures kept { (front : List Passed) → IsNewTransfer front event.now →
             AreKept front self.old.taken self.old.forwarded →
@@ -53,7 +53,7 @@ impl PassedTransfers {
         Ok(())
     }
 
-    /// The amount of a forwarded transfer, where it has come.
+    /// Returns the amount of a forwarded transfer, if it was met.
     fn came(&self, from: u8, id: &Ident) -> Option<Cents>
         ensures { (front : List Passed) → AreKept front self.now.taken self.now.forwarded →
             result ≡ first_some (came from id.now) front }
@@ -61,7 +61,7 @@ impl PassedTransfers {
         self.forwarded.get(&(from, *id)).copied()
     }
 
-    /// The beneficiary and the amount of a taken transfer, where it was sent.
+    /// Returns the beneficiary and the amount of a taken transfer, if it was met.
     fn sent(&self, id: &Ident) -> Option<(u8, Cents)>
         ensures { (front : List Passed) → AreKept front self.now.taken self.now.forwarded →
             result ≡ first_some (sent id.now) front }
@@ -69,7 +69,7 @@ impl PassedTransfers {
         self.taken.get(id).copied()
     }
 
-    /// The movement of an accepted transfer.
+    /// Returns the movement of an accepted transfer.
     fn accepted(&self, from: u8, id: &Ident) -> Option<Movement>
         ensures { (front : List Passed) → AreKept front self.now.taken self.now.forwarded →
             result ≡ accepted_movement front from id.now }
@@ -89,7 +89,7 @@ impl PassedTransfers {
         })
     }
 
-    /// The movement of a booked transfer, if it was accepted.
+    /// Returns the movement of a booked transfer, if it was accepted.
     fn booked(&self, from: u8, id: &Ident, outcome: &Outcome) -> Option<Movement>
         ensures { (front : List Passed) → AreKept front self.now.taken self.now.forwarded →
             result ≡ movement_of front (Passed.Booked from id.now outcome.now) }
@@ -100,7 +100,7 @@ impl PassedTransfers {
         }
     }
 
-    /// The movement of an event, if it has one.
+    /// Returns the movement of an event, if it has one.
     pub(crate) fn movement(&self, event: &Event) -> Option<Movement>
         ensures { (front : List Passed) → AreKept front self.now.taken self.now.forwarded →
             result ≡ movement_of front event.now }

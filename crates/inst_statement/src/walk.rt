@@ -1,3 +1,4 @@
+//! The statement of a history.
 ghost use Rattle.std.specs.Prelude.{◌≡◌, IfOk};
 ghost use Rattle.inst_journal.specs.Statement.{statement_part};
 ghost use Rattle.inst_statement.specs.Someones.{IsSomeones};
@@ -8,9 +9,15 @@ use inst_command::Line;
 use inst_journal::{Event, Journal};
 use std::alloc::{AllocError, Global};
 
-/// At most `count` lines after the first `skip` of a history's statement since its last opening.
-/// For whoever has the history alone: one walk over its events, with the amounts of the transfers
-/// that were passed and the lines held meanwhile.
+/// Returns at most `count` lines after the first `skip` of a history's statement since its last
+/// opening.
+///
+/// For a caller that has only the history. Cost: one pass over the events, with tables of the
+/// transfers met and all lines held meanwhile.
+///
+/// # Errors
+///
+/// [`AllocError`] if the tables or the lines can't be allocated.
 pub fn statement(
     alloc: Global,
     journal: &Journal,
@@ -24,7 +31,7 @@ pub fn statement(
     let mut statement = KeptStatement::new(alloc);
     for (index, event) in journal.events().iter().enumerate() {
         if let Some(movement) = transfers.movement(event) {
-            // That an amount is within the most is known where it is read.
+            // Tells the verifier that the amount is at most the largest one.
             let _ = movement.cents.get();
             statement.reserve()?;
             statement.add(index as u32, &movement);

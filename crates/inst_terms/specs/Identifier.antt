@@ -1,25 +1,25 @@
--- An identifier in four words: nine characters a word, the first character lowest, each by its
--- ASCII value, and 0 past the end. How an identifier lies in words is this hub's own choice; its
--- characters are the scheme's (EPC004-16, chapter 4: attributes).
+-- An identifier in four words: nine characters a word, the first in the lowest digits, each by its
+-- ASCII value, and 0 past the end. The layout is a choice of this hub; the characters are the
+-- scheme's (EPC004-16, chapter 4: attributes).
 use Rattle.std.specs.Prelude.{ℕ, zero, suc, ◌+◌, ◌*◌, ◌^◌, List, [], ◌∷◌, get_or}
 
--- the sum of f j over j below n
+-- The sum of f j over all j below n.
 unfoldable pub sum_below : ℕ → (ℕ → ℕ) → ℕ
 sum_below zero f = 0
 sum_below (suc n) f = sum_below n f + f n
 
--- above each character's value
+-- One more than the largest value of a character.
 abbrev pub base : ℕ
 base = 128
 
--- the number of n characters, the first lowest
+-- The number of n characters, the first in the lowest digit.
 abbrev pub in_base_128 : ℕ → (ℕ → ℕ) → ℕ
 in_base_128 n character = sum_below n (λ j. character j * base ^ j)
 
--- the word of the nine characters from `start` on
+-- The word of the nine characters from `start` on.
 abbrev pub nine_from : List ℕ → ℕ → ℕ
 nine_from text start = in_base_128 9 (λ j. get_or text (start + j) 0)
 
--- the four words of an identifier
+-- The four words of an identifier.
 abbrev pub identifier_words : List ℕ → List ℕ
 identifier_words id = nine_from id 0 ∷ nine_from id 9 ∷ nine_from id 18 ∷ nine_from id 27 ∷ []

@@ -1,4 +1,4 @@
--- Worked values of a place's words, computed from the definitions. They are this hub's own choice.
+-- Worked values of a place's words, computed from the definitions. A choice of this hub.
 use Rattle.std.specs.Prelude.{◌≡◌, ℕ, List, [], ◌∷◌, codes}
 use Rattle.inst_command.specs.declared.outcome.Outcome.TheVariants.{Accepted, Rejected, TimedOut}
 use Rattle.inst_terms.specs.declared.terms.Terms.{Terms}

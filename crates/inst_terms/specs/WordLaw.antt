@@ -1,7 +1,7 @@
--- How the outcome word of a place may change: from unused to pending once, then once to a decided
--- word, which stays. A transfer is accepted or rejected before its deadline and timed out from it
--- on, as in the rulebook (EPC004-16, chapter 4: time cycle); the margin for acceptances, and that
--- one word decides, are this hub's own choices.
+-- The changes of a place's outcome word: once from unused to pending, then once to a decided word,
+-- which stays. A transfer is accepted or rejected before its deadline and timed out from it on, as
+-- in the rulebook (EPC004-16, chapter 4: time cycle); the margin for acceptances, and that one word
+-- decides, are choices of this hub.
 use Rattle.std.specs.Prelude.{◌≡◌, ◌⊎◌, ℕ, ◌≤◌, List, [], ◌∷◌, IsTrue}
 use Rattle.inst_base.specs.TimeLimit.{is_in_time, is_in_time_to_accept, is_due}
 use Rattle.inst_command.specs.declared.outcome.Outcome.{Outcome}
@@ -12,14 +12,14 @@ use Rattle.inst_command.specs.declared.outcome.State.TheVariants.{Pending as See
 use Rattle.inst_terms.specs.declared.word.Word.{Word}
 use Rattle.inst_terms.specs.declared.word.Word.TheVariants.{Unused, Pending, Decided as DecidedWord}
 
--- the outcome of a transfer with this deadline, decided at the moment, is in time, with this margin
--- for acceptances
+-- The outcome of a transfer with this deadline, decided at this moment, is in time with this
+-- margin.
 abbrev pub InTime : ℕ → Outcome → ℕ → ℕ → Type 0
 InTime margin Accepted deadline moment = IsTrue (is_in_time_to_accept margin deadline moment)
 InTime margin (Rejected reason) deadline moment = IsTrue (is_in_time deadline moment)
 InTime margin TimedOut deadline moment = IsTrue (is_due deadline moment)
 
--- one exchange leads from the first word to the second
+-- One compare-and-exchange may change the first word to the second.
 abbrev pub MovesWord : ℕ → Word → Word → Type 0
 MovesWord margin Unused Unused = ⊥
 MovesWord margin Unused (Pending deadline) = 1 ≤ deadline
@@ -30,24 +30,24 @@ MovesWord margin (Pending deadline) (DecidedWord outcome moment) =
     InTime margin outcome deadline moment
 MovesWord margin (DecidedWord outcome moment) word = ⊥
 
--- the words that a place has one after another, after the word `before`: each is the one before it,
--- or moves from it
+-- The words of a place, one after another, after the word `before`: each is equal to the one before
+-- it, or one move from it.
 abbrev pub Follow : ℕ → Word → List Word → Type 0
 Follow margin before [] = Unit {0}
 Follow margin before (word ∷ words) =
     ((word ≡ before) ⊎ MovesWord margin before word) × Follow margin word words
 
--- the words of a place from the opening of the hub on
+-- The words of a place since the hub was opened.
 abbrev pub AreLawful : ℕ → List Word → Type 0
 AreLawful margin words = Follow margin Unused words
 
--- what a word shows
+-- The state that a word shows.
 abbrev pub word_state : Word → State
 word_state Unused = SeenUnused
 word_state (Pending deadline) = SeenPending
 word_state (DecidedWord outcome moment) = Decided outcome
 
--- what is seen later is at least what was seen before
+-- The later state is at least the earlier one.
 abbrev pub IsAtLeast : State → State → Type 0
 IsAtLeast later SeenUnused = Unit {0}
 IsAtLeast SeenUnused SeenPending = ⊥

@@ -1,4 +1,4 @@
-//! An identifier in four words, nine characters a word.
+//! An identifier in four words of nine characters.
 ghost use Rattle.std.specs.Prelude.{◌≡◌, ◌+◌, ◌/◌, ◌%◌, ◌<◌, ◌≤◌, ℕ, List, length, get_or, Some};
 ghost use Rattle.std.specs.Prelude.{IsTrue, true, ◌≢◌, ◌↔◌, nat_lt};
 ghost use Rattle.std.specs.List.{list_all};
@@ -10,14 +10,14 @@ ghost use Rattle.inst_terms.specs.inner.Identifier.{digit, StandsIn};
 use inst_base::Ident;
 use std::str;
 
-/// Four words of nine characters.
+/// The number of characters in four words.
 const ROOM: usize = 36;
-/// The characters of one word.
+/// The number of characters in a word.
 const NINE: usize = 9;
-/// Above the largest word: nine characters below 128 are a number below 128^9 = 2^63.
+/// An upper bound of a word: nine characters below 128 make a number below 128^9 = 2^63.
 const LIMIT: u64 = 1 << 63;
 
-/// The four words of an identifier.
+/// Returns the four words of an identifier.
 pub(crate) fn pack_identifier(id: &Ident) -> [u64; 4]
     ensures words { result ≡ identifier_words id.now }
     ensures form { IsTrue (is_identifier id.now) }
@@ -32,7 +32,7 @@ pub(crate) fn pack_identifier(id: &Ident) -> [u64; 4]
     ]
 }
 
-/// The identifier of four words, or `None` where they are no identifier's.
+/// Returns the identifier with these four words, or `None` if no identifier has them.
 pub(crate) fn read_identifier(words: &[u64; 4]) -> Option<Ident>
     ensures { (id : List ℕ) → (result ≡ Some id) ↔
         (IsTrue (is_identifier id) × (identifier_words id ≡ words.now)) }
@@ -43,14 +43,14 @@ pub(crate) fn read_identifier(words: &[u64; 4]) -> Option<Ident>
     identifier_in(&characters_of(words), length_of(words))
 }
 
-/// Whether each word can be that of nine characters.
+/// Returns `true` if each word is below the bound for nine characters.
 fn are_below_limit(words: &[u64; 4]) -> bool
     ensures { result ≡ list_all (λ word. nat_lt word LIMIT) words.now }
 {
     words.iter().all(|&word| word < LIMIT)
 }
 
-/// The characters of a text, and zeros behind it.
+/// Returns the characters of a text, padded with zeros.
 fn padded(text: &[u8]) -> [u8; ROOM]
     requires { length text.now ≤ ROOM }
     ensures { (k : ℕ) → get_or result k 0 ≡ get_or text.now k 0 }
@@ -60,7 +60,8 @@ fn padded(text: &[u8]) -> [u8; ROOM]
     characters
 }
 
-/// The word of the nine characters from `start` on. Where the text has ended, it is 0 at once.
+/// Returns the word of the nine characters from `start` on, without reading them if the text has
+/// ended.
 fn word_from(characters: &[u8; ROOM], start: usize, len: usize) -> u64
     requires ascii { IsAscii characters.now }
     requires start { start + NINE ≤ ROOM }
@@ -73,7 +74,7 @@ fn word_from(characters: &[u8; ROOM], start: usize, len: usize) -> u64
     nine_from(characters, start)
 }
 
-/// The word of the nine characters from `start` on.
+/// Returns the word of the nine characters from `start` on.
 fn nine_from(characters: &[u8; ROOM], start: usize) -> u64
     requires ascii { IsAscii characters.now }
     requires start { start + NINE ≤ ROOM }
@@ -86,14 +87,14 @@ fn nine_from(characters: &[u8; ROOM], start: usize) -> u64
     word
 }
 
-/// The 36 characters of four words.
+/// Returns the 36 characters of four words.
 fn characters_of(words: &[u64; 4]) -> [u8; ROOM]
     ensures { (k : ℕ) → k < ROOM →
         get_or result k 0 ≡ digit (get_or words.now (k / NINE) 0) (k % NINE) }
 {
     let mut characters = [0; ROOM];
     for index in 0..words.len() {
-        // A word of 0 has nine zeros, which stand there.
+        // A word of 0 has nine zeros, which the array has already.
         if words[index] != 0 {
             put_nine(&mut characters, NINE * index, words[index]);
         }
@@ -101,9 +102,9 @@ fn characters_of(words: &[u64; 4]) -> [u8; ROOM]
     characters
 }
 
-/// Puts the nine characters of a word from `start` on.
-// Inlined for each word, it would have the characters of all four at once, more than there are
-// registers.
+/// Writes the nine characters of a word from `start` on.
+// Kept out of line: inlined for each word, it would hold the characters of all four at once, which
+// are more than there are registers.
 #[inline(never)]
 fn put_nine(characters: &mut [u8; ROOM], start: usize, word: u64)
     requires { start + NINE ≤ ROOM }
@@ -117,7 +118,7 @@ fn put_nine(characters: &mut [u8; ROOM], start: usize, word: u64)
     }
 }
 
-/// The character at `place` of a word.
+/// Returns the character at `place` of a word.
 fn digit(word: u64, place: usize) -> u8
     requires { place < NINE }
     ensures { result ≡ digit word place }
@@ -125,7 +126,7 @@ fn digit(word: u64, place: usize) -> u8
     ((word >> (7 * place)) % 128) as u8
 }
 
-/// The identifier that stands in the characters, with zeros up to their end: it has `len` of them.
+/// Returns the identifier in the first `len` characters; the others are zeros.
 fn identifier_in(characters: &[u8; ROOM], len: usize) -> Option<Ident>
     requires within { len ≤ ROOM }
     requires zeros { (k : ℕ) → len ≤ k → get_or characters.now k 0 ≡ 0 }
@@ -139,7 +140,7 @@ fn identifier_in(characters: &[u8; ROOM], len: usize) -> Option<Ident>
     Ident::new(text).ok()
 }
 
-/// How many characters four words have, without the zeros at the end.
+/// Returns the number of characters in four words, without the zeros at the end.
 fn length_of(words: &[u64; 4]) -> usize
     requires { list_all (λ word. nat_lt word LIMIT) words.now ≡ true }
     ensures within { result ≤ ROOM }
@@ -155,7 +156,7 @@ fn length_of(words: &[u64; 4]) -> usize
     0
 }
 
-/// How many characters a word has, without the zeros at the end.
+/// Returns the number of characters in a word, without the zeros at the end.
 fn length_in(word: u64) -> usize
     requires some { 0 < word }
     requires below { word < LIMIT }

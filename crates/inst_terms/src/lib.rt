@@ -1,5 +1,5 @@
-//! A place's six words, packed and read: five for the terms of a transfer, one for its outcome. No
-//! call takes memory.
+//! The packing of a place's six words: five for the terms of a transfer, one for its outcome. No
+//! call allocates.
 #![tactic(auto)]
 
 mod identifier;

@@ -1,3 +1,4 @@
+//! The outcome word of a place.
 ghost use Rattle.std.specs.Prelude.{◌≡◌, ◌<◌, Some, ◌↔◌, IsTrue};
 ghost use Rattle.inst_base.specs.Moment.{is_moment};
 ghost use Rattle.inst_terms.specs.declared.word.Word.{Word};
@@ -20,11 +21,11 @@ const TIMED_OUT: u64 = 3;
 
 const KINDS: u64 = 4;
 
-/// The reason has 21 bits.
+/// One more than the largest number in the 21 bits of the reason.
 const REASON_ROOM: u64 = 2_097_152;
 
-/// The outcome word, 0 where the place is unused. Different words have different numbers where a
-/// deadline is at least 1.
+/// Returns the number of an outcome word: 0 if the place is unused. Different words have different
+/// numbers, provided that a pending deadline is at least 1.
 pub fn pack_outcome(word: &Word) -> u64
     ensures number { result ≡ word_number word.now }
     ensures form { HasWordForm word.now }
@@ -43,8 +44,9 @@ pub fn pack_outcome(word: &Word) -> u64
     }
 }
 
-/// What this outcome word says, or `None` where no place has such a word: a pending one has moment
-/// 0 or a reason, an accepted or timed out one a reason, a rejected one a reason of 36^4 or more.
+/// Returns the outcome word with this number, or `None` if no place has such a word: a pending one
+/// with moment 0 or with a reason, an accepted or timed out one with a reason, or a rejected one
+/// whose reason is 36^4 or more.
 pub fn read_outcome(word: u64) -> Option<Word>
     ensures { (read : Word) → (result ≡ Some read) ↔ (IsWord read × (word_number read ≡ word)) }
 {
@@ -68,7 +70,7 @@ pub fn read_outcome(word: u64) -> Option<Word>
     }
 }
 
-/// The number with these three parts, the moment highest.
+/// Returns the number with these three parts, the moment in the highest bits.
 fn number(moment: u64, reason: u64, kind: u64) -> u64
     requires moment { IsTrue (is_moment moment) }
     requires reason { reason < reason_room }

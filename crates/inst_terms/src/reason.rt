@@ -7,10 +7,10 @@ ghost use Rattle.inst_terms.specs.inner.Reason.{character_of};
 use inst_base::Reason;
 use std::str;
 
-/// Above the largest number of a reason: 36^4.
+/// The number of reasons: 36^4.
 pub(crate) const REASONS: u64 = 1_679_616;
 
-/// The number of a reason, below 36^4.
+/// Returns the number of a reason, below 36^4.
 pub(crate) fn pack_reason(reason: &Reason) -> u64
     ensures value { result ≡ reason_number reason.now }
     ensures below { result < REASONS }
@@ -22,7 +22,7 @@ pub(crate) fn pack_reason(reason: &Reason) -> u64
     }
 }
 
-/// The reason with this number, or `None` from 36^4 on.
+/// Returns the reason with this number, or `None` from 36^4 on.
 pub(crate) fn read_reason(number: u64) -> Option<Reason>
     ensures { (reason : List ℕ) → (result ≡ Some reason) ↔
         (IsTrue (is_reason reason) × (reason_number reason ≡ number)) }
@@ -42,7 +42,7 @@ pub(crate) fn read_reason(number: u64) -> Option<Reason>
     }
 }
 
-/// The value of a character of `0-9 A-Z`.
+/// Returns the value of a character of `0-9 A-Z`.
 fn digit_of(character: u8) -> u64
     requires { IsTrue (is_code_character character) }
     ensures value { result ≡ digit_of character }
@@ -55,7 +55,7 @@ fn digit_of(character: u8) -> u64
     u64::from(value)
 }
 
-/// The character of `0-9 A-Z` with this value.
+/// Returns the character of `0-9 A-Z` with this value.
 fn character_of(value: u64) -> u8
     requires { value < 36 }
     ensures { result ≡ character_of value }

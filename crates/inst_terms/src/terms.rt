@@ -1,3 +1,4 @@
+//! The terms words of a place.
 ghost use Rattle.std.specs.Prelude.{◌≡◌, Some, ◌↔◌};
 ghost use Rattle.inst_terms.specs.declared.terms.Terms.{Terms};
 ghost use Rattle.inst_terms.specs.Terms.{IsTerms, words_of};
@@ -5,15 +6,15 @@ ghost use Rattle.inst_terms.specs.Terms.{IsTerms, words_of};
 use crate::identifier::{pack_identifier, read_identifier};
 use inst_base::{Cents, Ident};
 
-/// How many beneficiaries the first terms word can name: the factor of the cents in it. A hub has
-/// no more participants than that.
+/// The factor of the cents in the first terms word, so the number of beneficiaries that it can
+/// name. A hub has no more participants.
 pub const BENEFICIARIES: u64 = 256;
 
-/// What stands in a place's terms words: the beneficiary's number, the amount and the originator's
-/// identifier of a transfer. In this order of its fields a value takes 48 bytes.
+/// The contents of a place's terms words: the amount, the originator's identifier and the
+/// beneficiary's number of a transfer. Its size is 48 bytes.
 ///
 /// ```text
-/// let terms = Terms { to: 1, cents: Cents::new(50_000)?, id: Ident::new("T1")? };
+/// let terms = Terms { cents: Cents::new(50_000)?, id: Ident::new("T1")?, to: 1 };
 /// pack(&terms)                           // [12800001, 6356, 0, 0, 0]
 /// unpack(&[12800001, 6356, 0, 0, 0])     // Some(terms)
 /// ```
@@ -24,8 +25,7 @@ pub struct Terms {
     pub to: u8,
 }
 
-/// The five terms words. Different terms have different words where the beneficiaries are below
-/// `BENEFICIARIES`.
+/// Returns the five terms words. Different terms have different words.
 pub fn pack(terms: &Terms) -> [u64; 5]
     ensures words { result ≡ words_of terms.now }
     ensures form { IsTerms terms.now }
@@ -41,9 +41,9 @@ pub fn pack(terms: &Terms) -> [u64; 5]
     ]
 }
 
-/// The terms whose words these are, or `None` where they are no terms' words: the cents aren't 1 to
-/// 99,999,999,999, an identifier's word is 2^63 or more, or the characters are no identifier with
-/// zeros up to their end.
+/// Returns the terms with these words, or `None` if no terms have them: the amount isn't 1 to
+/// 99,999,999,999 cents, a word of the identifier is 2^63 or more, or the characters aren't an
+/// identifier followed by zeros.
 pub fn unpack(words: &[u64; 5]) -> Option<Terms>
     ensures { (terms : Terms) → (result ≡ Some terms) ↔
         (IsTerms terms × (words_of terms ≡ words.now)) }

@@ -1,5 +1,5 @@
--- Public contracts cite these.
+-- Definitions that public contracts cite.
 pub mod State
 pub mod Held
--- Only inner functions and proofs cite these.
+-- Definitions that only private functions and proofs cite.
 pub mod inner

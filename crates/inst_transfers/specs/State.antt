@@ -1,5 +1,5 @@
--- The table of a history: what a participant has of each transfer, with the sums over them. Each
--- event changes it at one key at most. This hub's own choice.
+-- The table of a history: each of a participant's transfers, with the sums over them. An event
+-- changes the table at one key at most. A choice of this hub.
 use Rattle.std.specs.Prelude.{ℕ, ◌+◌, ◌-◌, Bool, ◌==◌, ◌&&◌, cond, is_none, List, [], ◌∷◌, ◌++◌}
 use Rattle.std.specs.Prelude.{fold, Option, Some, None}
 use Rattle.std.specs.List.{filter, filter_map}
@@ -14,20 +14,20 @@ use Rattle.inst_transfers.specs.declared.transfer.Side.{Side}
 use Rattle.inst_transfers.specs.declared.transfer.Side.TheVariants.{Own, Other}
 use Rattle.inst_transfers.specs.declared.transfer.Transfer.{Transfer}
 
--- an originator and an identifier
+-- An originator and an identifier.
 abbrev pub Key : Type 0
 Key = ℕ × List ℕ
 
--- whether two keys are of the same transfer
+-- True if two keys are of the same transfer.
 abbrev pub same_key : Key → Key → Bool
 same_key x y = (x.0 == y.0) && same_text x.1 y.1
 
--- the table, with the transfer at the key
+-- The table with this transfer at the key.
 abbrev pub table_with : (Key → Option Transfer) → Key → Transfer → Key → Option Transfer
 table_with f key t q = cond (same_key key q) (Some t) (f q)
 
--- what a table keeps for good of the transfer that the event brings: of one that is the
--- participant's own, its stamp stands for the deadline
+-- The entry of the transfer that an event brings. For an own transfer its deadline is the time
+-- stamp.
 abbrev pub row_of : ℕ → Event → Option Entry
 row_of who (Taken id to cents stamp) =
     Some (record { from = who; id = id; cents = cents; deadline = stamp })
@@ -35,13 +35,12 @@ row_of who (Forwarded from id cents deadline) =
     Some (record { from = from; id = id; cents = cents; deadline = deadline })
 row_of who _ = None
 
--- of all transfers of a history, in the order in which they came
+-- The entries of all transfers of a history, in order of arrival.
 abbrev pub rows_of : ℕ → List Event → List Entry
 rows_of who J = filter_map (row_of who) J
 
--- what a participant has of each transfer; what it keeps of them for good, in order; the
--- identifiers of its own live ones, in the order of their places; what is reserved, what came and
--- what went, in cents
+-- The transfer at each key; the entries in order of arrival; the identifiers of the own live
+-- transfers in the order of their places; the reserved, received and sent sums in cents.
 pub record State : Type 0 where
   pub found : Key → Option Transfer
   pub rows : List Entry
@@ -50,14 +49,16 @@ pub record State : Type 0 where
   pub credits : ℕ
   pub debits : ℕ
 
+-- The state of an empty table.
 abbrev pub empty_table : State
 empty_table =
     record { found = λ key. None; rows = []; own = []; reserved = 0; credits = 0; debits = 0 }
 
+-- The transfer with this outcome.
 abbrev pub with_outcome : Transfer → Outcome → Transfer
 with_outcome t outcome = record { cents = t.cents; side = t.side; outcome = Some outcome }
 
--- the outcome of a transfer that is there is booked
+-- The state after the outcome of a known transfer is booked.
 abbrev pub table_after_outcome : State → Key → Transfer → Outcome → Side → State
 table_after_outcome st key t outcome (Own to stamp) = record {
   found = table_with st.found key (with_outcome t outcome);
@@ -76,10 +77,12 @@ table_after_outcome st key t outcome (Other deadline) = record {
   debits = st.debits;
 }
 
+-- The state after a booking. One of an unknown transfer changes nothing.
 abbrev pub booked_in : State → Key → Outcome → Option Transfer → State
 booked_in st key outcome None = st
 booked_in st key outcome (Some t) = table_after_outcome st key t outcome t.side
 
+-- The state after a submission.
 abbrev pub taken_in : ℕ → State → List ℕ → ℕ → ℕ → ℕ → State
 taken_in who st id to cents stamp = record {
   found = table_with st.found (
@@ -93,6 +96,7 @@ taken_in who st id to cents stamp = record {
   debits = st.debits;
 }
 
+-- The state after a forwarding.
 abbrev pub forwarded_in : State → ℕ → List ℕ → ℕ → ℕ → State
 forwarded_in st from id cents deadline = record {
   found = table_with st.found (
@@ -106,16 +110,16 @@ forwarded_in st from id cents deadline = record {
   debits = st.debits;
 }
 
--- what is booked of the transfer
+-- The booked outcome of a transfer, if there is one.
 abbrev pub outcome_in : Option Transfer → Option Outcome
 outcome_in None = None
 outcome_in (Some t) = t.outcome
 
--- whether nothing is booked of the participant's own transfer
+-- True if the own transfer of this identifier has no booked outcome.
 abbrev pub waits_in : ℕ → State → List ℕ → Bool
 waits_in who st id = is_none (outcome_in (st.found (who, id)))
 
--- what is settled lives no more
+-- The state after an opening: own transfers with a booked outcome are no longer live.
 abbrev pub opened_in : ℕ → State → State
 opened_in who st = record {
   found = st.found;
@@ -126,7 +130,7 @@ opened_in who st = record {
   debits = st.debits;
 }
 
--- one event more
+-- The state after one more event.
 abbrev pub step : ℕ → State → Event → State
 step who st (Taken id to cents stamp) = taken_in who st id to cents stamp
 step who st (Forwarded from id cents deadline) = forwarded_in st from id cents deadline
@@ -136,6 +140,6 @@ step who st (Funded funding) = st
 step who st (Defunded funding) = st
 step who st (Fetched count) = st
 
--- the table of a history
+-- The table of a history.
 abbrev pub table_of_history : ℕ → List Event → State
 table_of_history who J = fold (step who) empty_table J

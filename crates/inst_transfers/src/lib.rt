@@ -1,5 +1,5 @@
-//! The transfers of one participant in one table: each found once, with its side, amount and
-//! outcome.
+//! The transfers of one participant in one table, each with its side, amount and outcome, and their
+//! sums.
 #![tactic(auto)]
 
 mod transfer;

@@ -1,18 +1,18 @@
-//! What a participant has of one transfer.
+//! A transfer as one participant's history has it, and the result of looking one up.
 ghost use Rattle.std.specs.Prelude.{◌≡◌};
 ghost use Rattle.inst_transfers.specs.Held.{row_in, time_in};
 
 use inst_base::{Cents, Ident, Moment};
 use inst_command::{Entry, Outcome};
 
-/// Whose transfer it is: the participant's own, or one that was forwarded to it.
+/// The participant's role in a transfer: originator (`Own`) or beneficiary (`Other`).
 #[derive(Clone, Copy)]
 pub enum Side {
     Own { to: u8, stamp: Moment },
     Other { deadline: Moment },
 }
 
-/// What the history says of a transfer.
+/// A transfer as the participant's history has it.
 #[derive(Clone, Copy)]
 pub struct Transfer {
     pub cents: Cents,
@@ -20,8 +20,10 @@ pub struct Transfer {
     pub outcome: Option<Outcome>,
 }
 
-/// A transfer that was looked up, and where the table holds it: until the next one comes it need
-/// not be looked up again.
+/// A transfer that was looked up, with its position in the table.
+///
+/// The position stays valid until the next transfer is entered, so no second lookup by key is
+/// needed.
 #[derive(Clone, Copy)]
 pub struct Found {
     pub from: u8,
@@ -31,7 +33,7 @@ pub struct Found {
 }
 
 impl Side {
-    /// The transfer's deadline; of one that is the participant's own, its stamp.
+    /// Returns the deadline in milliseconds since base; for an own transfer, its time stamp.
     pub(crate) fn time(&self) -> Moment
         ensures { result ≡ time_in self.now }
     {
@@ -43,7 +45,7 @@ impl Side {
 }
 
 impl Found {
-    /// What came with it. Of one that is the participant's own, its stamp stands for the deadline.
+    /// Returns the transfer's entry. For an own transfer its `deadline` is the time stamp.
     pub fn entry(&self) -> Entry
         ensures { result ≡ row_in ((self.now.from, self.now.id), self.now.transfer) }
     {

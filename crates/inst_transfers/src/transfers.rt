@@ -1,4 +1,4 @@
-//! A table of transfers by originator and identifier, with what is known of them all together.
+//! A table of transfers by originator and identifier, with their sums.
 ghost use Rattle.std.specs.Prelude.{◌≡◌, ℕ, ◌+◌, ◌<◌, ◌≤◌, ◌^◌, length, slice_get, Some, None};
 ghost use Rattle.std.specs.Prelude.{OnOk, IfSome};
 ghost use Rattle.std.specs.Map.{keys_of};
@@ -18,7 +18,9 @@ use inst_journal::Event;
 use std::alloc::{AllocError, Global};
 use std::marker::Model;
 
-/// The transfers of one participant, by originator and identifier. A step looks each up once.
+/// The transfers of one participant, by originator and identifier.
+///
+/// The table only grows: a transfer keeps its position.
 #[derive(Drop)]
 pub struct Transfers {
     who: u8,
@@ -27,9 +29,9 @@ pub struct Transfers {
     reserved: u128,
     credits: u128,
     debits: u128,
-    /// Where the table holds the transfer that was entered or booked last.
+    /// The position of the transfer that was entered or booked last.
     last: usize,
-    /// For how many there is room to be with the first.
+    /// The number of transfers for which the first reservation makes capacity.
     expected: usize,
 }
 
@@ -54,7 +56,8 @@ impl Model for Transfers {
 }
 
 impl Transfers {
-    /// No transfers, of which so many are expected. It takes no memory.
+    /// Returns an empty table for `who`; allocates nothing. The first
+    /// [`reserve`](Transfers::reserve) makes capacity for `expected` transfers.
     pub fn new(alloc: Global, who: u8, expected: usize) -> Transfers
         ensures who { result.who ≡ who }
         ensures state { state_in result ≡ empty_table }
@@ -71,8 +74,10 @@ impl Transfers {
         }
     }
 
-    /// Looks a transfer up: the one look at the table that a step takes. What was entered or booked
-    /// last, of which a ticket and what follows ask next, is found without its key's hash.
+    /// Returns the transfer with this originator and identifier, or `None`.
+    ///
+    /// Cost: one hash look-up; none for the transfer that was entered or booked last, since tickets
+    /// and follow-ups ask for that one next.
     pub fn find(&self, from: u8, id: &Ident) -> Option<Found>
         ensures { IsLookedUp self.now from id.now result }
     {
@@ -82,7 +87,7 @@ impl Transfers {
         }
     }
 
-    /// The transfer that was entered or booked last, where it is this one.
+    /// Returns the transfer that was entered or booked last if it has this key.
     fn find_last(&self, from: u8, id: &Ident) -> Option<Found>
         ensures { IfSome result (λ found. IsLookedUp self.now from id.now (Some found)) }
     {
@@ -98,7 +103,7 @@ impl Transfers {
         })
     }
 
-    /// Looks a transfer up by its key.
+    /// Looks a transfer up by its key's hash.
     fn find_by_key(&self, from: u8, id: &Ident) -> Option<Found>
         ensures { IsLookedUp self.now from id.now result }
     {
@@ -111,7 +116,7 @@ impl Transfers {
         })
     }
 
-    /// What stands at this position of the table. It looks nothing up by its key.
+    /// Returns the transfer at this position of the table, without hashing.
     pub fn at(&self, position: usize) -> Option<Found>
         ensures { FindsAt self.now position result }
     {
@@ -124,7 +129,7 @@ impl Transfers {
         })
     }
 
-    /// What came with the transfer at this position of the table. It looks nothing up by its key.
+    /// Returns the entry of the transfer at this position of the table, without hashing.
     pub fn entry_at(&self, position: usize) -> Option<Entry>
         ensures { result ≡ slice_get (rows_in self.now.entries) position }
     {
@@ -137,7 +142,7 @@ impl Transfers {
         })
     }
 
-    /// How many transfers there are.
+    /// Returns the number of transfers.
     pub fn len(&self) -> usize
         ensures count { result ≡ length self.now.entries }
         ensures apart { AreApart (rows_in self.now.entries) }
@@ -145,9 +150,13 @@ impl Transfers {
         self.table.len()
     }
 
-    /// Makes room for one more transfer, and with the first one for all that are expected, or
-    /// answers that memory was refused. Nothing else changes. What there is room for is touched as
-    /// it is used.
+    /// Reserves capacity for one more transfer; in an empty table, for all that are expected.
+    ///
+    /// Memory is touched only as it is used.
+    ///
+    /// # Errors
+    ///
+    /// [`AllocError`] if it can't be allocated; only the capacity may have changed.
     pub fn reserve(&mut self) -> Result<(), AllocError>
         ensures same { self.new ≡ record self.old { room = self.new.room } }
         ensures room { OnOk result (0 < self.new.room) }
@@ -161,7 +170,7 @@ impl Transfers {
         self.own.try_reserve(more)
     }
 
-    /// Enters a submission of the participant's own at its next place. It can't fail.
+    /// Enters a submission of the participant's own at its next place. Allocates nothing.
     pub fn take(&mut self, id: Ident, to: u8, cents: Cents, stamp: Moment)
         requires room { 0 < self.old.room }
         requires new { found_at self.old.entries (self.old.who, id) ≡ None }
@@ -182,7 +191,7 @@ impl Transfers {
         self.reserved += u128::from(cents.get());
     }
 
-    /// Enters a transfer of another's that is forwarded to the participant. It can't fail.
+    /// Enters a transfer that is forwarded to the participant. Allocates nothing.
     pub fn deliver(&mut self, from: u8, id: Ident, cents: Cents, deadline: Moment)
         requires room { 0 < self.old.room }
         requires new { found_at self.old.entries (from, id) ≡ None }
@@ -200,7 +209,7 @@ impl Transfers {
         self.last = position;
     }
 
-    /// Books the outcome of a transfer that was found. It takes no memory and looks nothing up.
+    /// Books the outcome of a transfer that was found. Allocates nothing and doesn't hash.
     pub fn book(&mut self, found: &Found, outcome: &Outcome)
         requires there { IsFound self.old found.now }
         requires covers { CoversEntry (state_in self.old) found.now.transfer }
@@ -230,14 +239,17 @@ impl Transfers {
         }
     }
 
-    /// After an opening: what is settled lives no more. The others keep their order.
+    /// Starts an opening: own transfers with a booked outcome are no longer live. The others keep
+    /// their order.
+    ///
+    /// Visits each live own transfer once.
     pub fn begin(&mut self)
         ensures who { self.new.who ≡ self.old.who }
         ensures state { state_in self.new ≡ step self.old.who (state_in self.old) Event.Opened }
         ensures entries { self.new.entries ≡ self.old.entries }
     {
         let table = &self.table;
-        // That the keys are distinct is known where the table's length is read.
+        // Reading the length makes it known to the prover that the keys are distinct.
         let _ = table.len();
         self.own.retain(
             |position: &usize| -> bool
@@ -246,7 +258,7 @@ impl Transfers {
         );
     }
 
-    /// The participant's own live transfer at this place. It looks nothing up by its key.
+    /// Returns the participant's own live transfer at this place, without hashing.
     pub fn own_at(&self, index: u16) -> Option<Found>
         ensures { FindsOwn self.now index result }
     {
@@ -254,9 +266,11 @@ impl Transfers {
         self.at(position)
     }
 
-    /// The index of the place of the participant's own transfer that was found, where it is live.
-    /// It takes one step for the last of the live ones, else a number that grows with the logarithm
-    /// of theirs, and looks nothing up by its key.
+    /// Returns the index of the place of the participant's own transfer that was found; `None` if
+    /// it isn't live.
+    ///
+    /// Takes one step for the last of the live transfers, else O(log n) of their number. Doesn't
+    /// hash.
     pub fn own_index(&self, found: &Found) -> Option<usize>
         requires there { IsFound self.now found.now }
         requires own { found.now.from ≡ self.now.who }
@@ -266,33 +280,33 @@ impl Transfers {
             slice_get (state_in self.now).own k ≡ Some found.now.id }
         ensures within { IfSome result (λ k. k < length self.now.positions) }
     {
-        // That the keys are distinct is known where the table's length is read.
+        // Reading the length makes it known to the prover that the keys are distinct.
         let _ = self.table.len();
         index_of(self.own.as_slice(), found.position)
     }
 
-    /// How many of the participant's own transfers are live.
+    /// Returns the number of the participant's own live transfers.
     pub fn live(&self) -> usize
         ensures { result ≡ length (state_in self.now).own }
     {
         self.own.as_slice().len()
     }
 
-    /// The taken transfers with nothing booked, in cents.
+    /// Returns the reserved amount in cents: own transfers without a booked outcome.
     pub fn reserved(&self) -> u128
         ensures { result ≡ self.now.reserved }
     {
         self.reserved
     }
 
-    /// What came by transfers, in cents.
+    /// Returns the amount received by accepted transfers, in cents.
     pub fn credits(&self) -> u128
         ensures { result ≡ self.now.credits }
     {
         self.credits
     }
 
-    /// What went by transfers, in cents.
+    /// Returns the amount sent by accepted transfers, in cents.
     pub fn debits(&self) -> u128
         ensures { result ≡ self.now.debits }
     {
@@ -300,8 +314,7 @@ impl Transfers {
     }
 }
 
-/// Where this position stands among others that rise. It takes one step for the last of them, else
-/// a number that grows with the logarithm of how many there are.
+/// Returns the index of a position among rising ones: one step for the last, else a binary search.
 fn index_of(positions: &[usize], position: usize) -> Option<usize>
     requires rising { AreRising positions.now }
     ensures { FindsIndex positions.now position result }
@@ -315,7 +328,7 @@ fn index_of(positions: &[usize], position: usize) -> Option<usize>
     }
 }
 
-/// Whether nothing is booked of the transfer at this position.
+/// Returns `true` if the transfer at this position has no booked outcome.
 fn waits(table: &IndexMap<(u8, Ident), Transfer>, position: usize) -> bool
     ensures { result ≡ waits_at table.now.entries position }
 {
@@ -325,7 +338,7 @@ fn waits(table: &IndexMap<(u8, Ident), Transfer>, position: usize) -> bool
     }
 }
 
-/// The amount where the outcome is `Accepted`, else 0.
+/// Returns the amount if the outcome is `Accepted`, else 0.
 fn if_accepted(outcome: &Outcome, cents: u128) -> u128
     ensures value { result ≡ if_accepted (Some outcome.now) cents }
     ensures within { result ≤ cents }

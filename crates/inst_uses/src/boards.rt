@@ -20,16 +20,18 @@ use inst_row::{Lawful, LockRow, RowSeat};
 use inst_slot::Slot;
 use std::sync::Wait;
 
-/// What becomes of a place that its beneficiary accepts.
+/// Lets the beneficiary accept the transfer of a place; returns its outcome and its look
+/// afterwards.
 pub fn board<B: Board>(board: &mut B, place: Place, at: Moment) -> (Option<Outcome>, Look)
     requires { MayDecide B.knows B.has_role board.old place Accept }
 {
-    let outcome = board.decide(place, Wish::Accept, at); // what stands from now on, if anything
+    let outcome = board.decide(place, Wish::Accept, at); // the outcome from now on; `None`: pending
     let look = board.look(place); // `Decided` with that outcome, or still `Pending`
     (outcome, look)
 }
 
-/// What a slot answers, and what it is told and lets expire afterwards.
+/// Lets a slot answer an ask, receive a transfer, learn an outcome and expire; returns the reply
+/// and the position.
 pub fn slot<B: Board>(
     slot: &mut Slot,
     board: &mut B,
@@ -42,14 +44,14 @@ pub fn slot<B: Board>(
     requires asked { AsksAdopted slot.old ask.now.command }
     requires adopted { AllAreAdopted slot.old }
 {
-    let reply = slot.apply(board, ask)?; // or its refusal
-    slot.deliver(board, place)?; // true: a transfer of another's came
+    let reply = slot.apply(board, ask)?; // the reply, which may be a refusal
+    slot.deliver(board, place)?; // true: another's transfer was forwarded
     slot.learn(board, place)?; // true: an outcome was booked
-    slot.expire(board, 0, ask.at)?; // true: the first own transfer was decided and booked
+    slot.expire(board, 0, ask.at)?; // true: the outcome of its transfer 0 was booked
     Ok((reply, slot.position()))
 }
 
-/// What is seen of a place that was told of.
+/// Returns the state of a place that the board knows to be opened.
 pub fn shared_board(board: &mut SharedBoard, sight: &mut Sight, place: Place) -> State
     requires one { AtOneTable board.old (board_of_sight sight.old) }
     requires opened { knows board.old (about place Opened) }
@@ -68,6 +70,6 @@ pub fn row<T, E, K, L: Lawful<T, E, K>, R: Wait>(
     requires some { 0 < size row.now }
     requires free { IsFree seat.old }
 {
-    let value = row.take(rt, seat, 0); // waits for the first lock: its value keeps its law
-    row.give(seat, 0, value); // the same value, or one whose history goes on from it
+    let value = row.take(rt, seat, 0); // blocks until lock 0 is free; its value keeps the law
+    row.give(seat, 0, value); // the same value, or one with an extended history
 }

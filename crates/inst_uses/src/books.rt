@@ -1,4 +1,4 @@
-//! One participant's books, and the books of all.
+//! One participant's books, and the books of all participants.
 ghost use Rattle.std.specs.Prelude.{◌≡◌, true};
 ghost use Rattle.inst_command.specs.Ask.{command_fits};
 ghost use Rattle.inst_settings.specs.Settings.{is_participant};
@@ -15,7 +15,7 @@ use inst_transfers::{Found, Transfers};
 use inst_world::World;
 use std::alloc::Global;
 
-/// What a participant would be answered, by its history alone.
+/// Returns what is available to a participant, and the reply to a command, from its history alone.
 pub fn journal(
     alloc: Global,
     world: &World,
@@ -27,31 +27,31 @@ pub fn journal(
     requires fits { command_fits world.now.board.settings command.now ≡ true }
 {
     let settings = world.settings();
-    let journal = world.journal(who); // kept events, a sound history
+    let journal = world.journal(who); // the stored events, a sound history
     let available = journal.available();
     let reply = reply_of(alloc, settings, who, journal, command, at, None)?;
     Ok((available, reply))
 }
 
-/// The first ten lines of a participant's statement.
+/// Returns the first ten lines of a participant's statement.
 pub fn statement_of(alloc: Global, world: &World, who: u8) -> Result<Vec<Line>, Fault>
     requires participant { is_participant world.now.board.settings who ≡ true }
 {
     let journal = world.journal(who);
-    let lines = statement(alloc, journal, 0, 10)?; // at most 10 lines, after the first 0
+    let lines = statement(alloc, journal, 0, 10)?; // lines 1 to 10, if there are so many
     Ok(lines)
 }
 
-/// A transfer that was taken, found in the table.
+/// Adds a submitted transfer to a table and finds it.
 pub fn transfers(alloc: Global, stamp: Moment) -> Result<Option<Found>, Fault> {
     let id = Ident::new("T1")?;
-    let mut table = Transfers::new(alloc, 0, 1_024); // of participant 0, for which 1,024 are expected
-    table.reserve()?; // room for one more
+    let mut table = Transfers::new(alloc, 0, 1_024); // of participant 0; 1,024 transfers expected
+    table.reserve()?; // capacity for at least one more
     table.take(id, 1, Cents::new(20_000)?, stamp);
-    Ok(table.find(0, &id)) // its side, amount and outcome, with its position
+    Ok(table.find(0, &id)) // its side, amount and outcome, and its row in the table
 }
 
-/// What a ledger answers, and keeps.
+/// Lets a ledger answer a command and stores the event.
 pub fn ledger(
     alloc: Global,
     ledger: &mut Ledger,
@@ -61,22 +61,22 @@ pub fn ledger(
     if !command.fits(ledger.settings()) {
         return Err(Fault::BadField);
     }
-    let Handled { reply, kept } = ledger.handle(alloc, command, at, None)?; // or its refusal
+    let Handled { reply, kept } = ledger.handle(alloc, command, at, None)?; // or a refusal
     if let Some(event) = kept {
         ledger.keep(event)?;
     }
     Ok(reply)
 }
 
-/// Books that were read, as text again.
+/// Reads books and returns their text.
 pub fn books(alloc: Global, settings: &Settings, text: &[u8]) -> Result<Vec<u8>, BookFault> {
     let journals = read_books(alloc, settings, text)?; // or `BadLine`
     let mut lines = Vec::new(alloc);
-    append_books(settings, &journals, &mut lines)?; // one event a line
+    append_books(settings, &journals, &mut lines)?; // one line for each event
     Ok(lines)
 }
 
-/// A hub that opens from journals, if it may.
+/// Opens a hub from journals, if one can open from them.
 pub fn audit(alloc: Global, settings: &Settings, journals: &[Journal]) -> Result<World, Fault> {
     if !can_open(alloc, settings, journals)? {
         return Err(Fault::BadSettings);
@@ -84,7 +84,7 @@ pub fn audit(alloc: Global, settings: &Settings, journals: &[Journal]) -> Result
     Ok(World::open_from(alloc, settings, journals)?)
 }
 
-/// Returns steps that explain journals, if some are found.
+/// Returns steps that explain the journals, if some are found.
 pub fn explained(
     alloc: Global,
     settings: &Settings,

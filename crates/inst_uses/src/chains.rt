@@ -9,7 +9,7 @@ use inst_log::{FileLines, Log, LogError, push_line, survey};
 use sqlite_disk::Disk;
 use std::alloc::{AllocError, Global};
 
-/// A batch of one line and its mark, that isn't closed yet.
+/// Returns a batch of one line and its mark, without the closed byte.
 pub fn marked(alloc: Global, marker: &mut Marker, line: &[u8]) -> Result<Vec<u8>, AllocError>
     requires line { NoNewline line.now }
 {
@@ -19,19 +19,19 @@ pub fn marked(alloc: Global, marker: &mut Marker, line: &[u8]) -> Result<Vec<u8>
     Ok(batch)
 }
 
-/// Whether a log has the mark with this digest.
+/// Returns `true` if a log has the mark with this digest.
 pub fn verified<D: Disk>(alloc: Global, disk: &mut D, text: &str) -> Result<bool, ChainError>
     requires usable { IsTrue (D.Disk.is_usable disk.old) }
 {
     let Some(digest) = Digest::of(text) else {
-        return Ok(false); // a digest has 64 hexadecimal digits
+        return Ok(false); // not 64 hexadecimal digits
     };
-    // `Damaged` counts the lines up to the last mark that is right.
+    // The error `Damaged` counts the lines up to the last correct mark.
     let verified = verify(alloc, disk, Some(digest))?;
     Ok(verified.has_wanted)
 }
 
-/// The first lines of a file, read in one piece.
+/// Returns the lines that end in the first piece of a file.
 pub fn first_piece<D: Disk>(alloc: Global, disk: &mut D) -> Result<Vec<u8>, LogError>
     requires usable { IsTrue (D.Disk.is_usable disk.old) }
 {
@@ -42,7 +42,7 @@ pub fn first_piece<D: Disk>(alloc: Global, disk: &mut D) -> Result<Vec<u8>, LogE
     Ok(Vec::new(alloc))
 }
 
-/// A log is opened in two steps.
+/// Opens a log in three steps, of which only the last one writes.
 pub fn opened<D: Disk>(alloc: Global, log: &mut Log<D>, settings: &[u8]) -> Result<(), LogError>
     requires ready { IsJustOpened D.Disk log.old.disk }
     requires settings { IsBatch settings.now }

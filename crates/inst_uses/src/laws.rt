@@ -1,5 +1,4 @@
-//! Laws of the model, of the books of all participants and of chains of marks: a call of a law is a
-//! proof of what it says.
+//! Laws of the model, of all participants' books and of marks: calling a law proves what it states.
 ghost use Rattle.std.specs.Prelude.{◌≡◌, ◌⊎◌, ◌++◌, ◌∷◌, List, ℕ, true};
 ghost use Rattle.inst_log.specs.Layout.{recovered_lines};
 ghost use Rattle.inst_chain.specs.Chain.{is_mark, IsSealed, Collision};
@@ -15,7 +14,7 @@ use inst_participant::laws::together_books_fit;
 pub fn model()
     ensures { OutcomeStays }
 {
-    a_transfer_has_one_outcome(); // its clauses are known from here on
+    a_transfer_has_one_outcome(); // the prover knows its clauses from here on
 }
 
 /// The books of all participants fit one another.
@@ -25,8 +24,8 @@ pub fn together<B: Board>()
     together_books_fit::<B>();
 }
 
-/// Two logs that share a mark have the same lines before it, or two different texts with one
-/// digest.
+/// Two logs that share a mark have the same lines before it, or contain two different texts with
+/// one digest.
 pub fn chain()
     ensures { (a b : List ℕ) (mark : List ℕ) (old new : List (List ℕ)) (late later : List (List ℕ))
         → IsSealed a → IsSealed b → is_mark mark ≡ true

@@ -1,4 +1,4 @@
-//! What the pages of the crates show: a few lines that call each of them.
+//! The examples on the crates' pages: a few lines that call each crate.
 #![tactic(auto)]
 
 pub mod boards;

@@ -1,4 +1,4 @@
-//! Bytes of lines, and the hub in one thread: step by step, and line by line.
+//! Bytes of lines, and the hub in one thread, by steps and by lines.
 ghost use Rattle.std.specs.Prelude.{◌≡◌, true, IfOk};
 ghost use Rattle.inst_settings.specs.Settings.{is_participant};
 ghost use Rattle.inst_command.specs.Ask.{ask_fits};
@@ -14,17 +14,17 @@ use inst_world::World;
 use std::alloc::{AllocError, Global};
 use std::io::{Read, Write};
 
-/// Hands the first line of some bytes to a writer, and says how long it is.
+/// Writes the first line of some bytes, and returns its length.
 pub fn bytes<W: Write>(bytes: &[u8], writer: &mut W) -> Result<usize, Unwritten> {
     let end = match find_newline(bytes) {
         Some(newline) => newline + 1,
         None => bytes.len(),
     };
-    write_bytes(writer, &bytes[..end])?; // at `Unwritten` a front of the line was written
+    write_bytes(writer, &bytes[..end])?; // on error a prefix of the line was written
     Ok(end)
 }
 
-/// The ask of a line, and the line of a refusal.
+/// Reads the ask of a line, and writes the line of a refusal.
 pub fn json(alloc: Global, settings: &Settings, line: &[u8]) -> Result<(Ask, Vec<u8>), Fault>
     ensures { IfOk result (λ r. ask_fits settings.now r.0 ≡ true) }
 {
@@ -35,37 +35,37 @@ pub fn json(alloc: Global, settings: &Settings, line: &[u8]) -> Result<(Ask, Vec
     Ok((ask, text)) // {"fault":"Shortage","number":13,"reply":"refused"}
 }
 
-/// One step of a hub.
+/// Runs one step of a hub.
 pub fn world(world: &mut World, step: &Step) -> Result<Answer, Fault>
     ensures { IfOk result (λ answer. IsOfModel world.old.board.settings step.now answer) }
 {
     if !step.fits(world.settings()) {
         return Err(Fault::BadField);
     }
-    let answer = world.step(step)?; // the reply of an ask, a refusal too, or whether it was new
+    let answer = world.step(step)?; // a reply, or whether the step changed a history
     Ok(answer)
 }
 
-/// What a participant has, in cents, and the first ten lines of its statement.
+/// Returns a participant's position in cents and the first ten lines of its statement.
 pub fn account(alloc: Global, world: &World, who: u8) -> Result<(u128, Lines), AllocError>
     requires { is_participant world.now.board.settings who ≡ true }
 {
     let position = world.position(who); // in constant time
-    let lines = world.statement(alloc, who, 0, 10)?; // at most 10 lines, after the first 0
+    let lines = world.statement(alloc, who, 0, 10)?; // lines 1 to 10, if there are so many
     Ok((position, lines))
 }
 
-/// An ask, and what follows from it.
+/// Answers an ask and does its follow-ups.
 pub fn runner(runner: &mut Runner, ask: Ask) -> Result<Answer, AllocError>
     requires { ask_fits runner.old.world.board.settings ask ≡ true }
 {
     let at = ask.at;
     let answer = runner.ask(ask)?;
-    follow_up(runner, at)?; // as if each live transfer had been gone over
+    follow_up(runner, at)?; // as if each live transfer were followed up
     Ok(answer)
 }
 
-/// A whole run of lines.
+/// Answers all lines of a reader.
 pub fn run<R: Read, W: Write>(
     alloc: Global,
     settings: &Settings,

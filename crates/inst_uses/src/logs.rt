@@ -13,7 +13,7 @@ use sqlite_disk::{Crash, Disk};
 use std::alloc::Global;
 use std::io::{Read, Write};
 
-/// The lines of a log, which then gets one more.
+/// Returns the lines of a log and appends one.
 pub fn log<D: Disk>(
     alloc: Global,
     log: &mut Log<D>,
@@ -24,15 +24,15 @@ pub fn log<D: Disk>(
     requires settings { IsBatch settings.now }
     requires line { NoNewline line.now }
 {
-    let lines = log.open(alloc, settings)?; // those that are there, the settings first
+    let lines = log.open(alloc, settings)?; // the lines of the file, settings first
     let mut batch = Vec::new(alloc);
     push_line(&mut batch, line)?;
     close_batch(&mut batch)?;
-    log.append(&batch)?; // from now on each crash leaves a file that has the line
+    log.append(&batch)?; // now every file that a crash may leave has the line
     Ok(lines)
 }
 
-/// The replies of a log whose machine stopped once.
+/// Returns the replies of two runs of a log whose machine stopped during the first.
 pub fn restart<D: Crash + Drop, A: Responder + Drop>(
     alloc: Global,
     disk: D,
@@ -47,12 +47,12 @@ pub fn restart<D: Crash + Drop, A: Responder + Drop>(
     requires batches { AllBatches first.batches.now }
     requires more { AllBatches again.batches.now }
 {
-    let machine = Machine { disk, calls: 7 }; // it stops after 7 calls of its disk, and comes back
+    let machine = Machine { disk, calls: 7 }; // stops after 7 calls to its disk, then restarts
     let twice = run_twice(alloc, machine, settings, first, again)?;
-    Ok(twice.told) // what the reader has of both runs
+    Ok(twice.told) // the replies that both runs wrote
 }
 
-/// A run of lines with a log.
+/// Answers all lines of a reader with a log.
 pub fn logged<D: Disk + Drop, R: Read, W: Write>(
     alloc: Global,
     settings: &Settings,
@@ -63,7 +63,7 @@ pub fn logged<D: Disk + Drop, R: Read, W: Write>(
     requires ready { IsJustOpened D.Disk disk }
 {
     let mut hub = NewHub::open(alloc, Version::Two, Mode::Run, settings)?.with_disk(alloc, disk);
-    // All replies of the log were received, and it may have any digest.
+    // The client has all replies to the log's lines, and no digest is required.
     hub.run(None, None, reader, writer)?;
     Ok(())
 }

@@ -1,4 +1,4 @@
-//! The hub that many threads use, and what stands round it.
+//! The hub for many threads, with its desk, crew, closing and drill.
 ghost use Rattle.std.specs.Prelude.{◌≡◌, ◌<◌, true, length};
 ghost use Rattle.inst_command.specs.Ask.{ask_fits};
 ghost use Rattle.inst_model.specs.Opening.{Opening};
@@ -26,7 +26,7 @@ use std::io::Write;
 use std::sync::Wait;
 use std::thread::Threads;
 
-/// What a participant is answered, and how its transfer stands.
+/// Answers an ask, and returns the state of its transfer.
 pub fn hub<R: Wait>(
     rt: &R,
     hub: &Hub,
@@ -36,15 +36,15 @@ pub fn hub<R: Wait>(
     requires of { IsTellerOf hub.now teller.old }
     requires fits { ask_fits hub.now.settings ask.now ≡ true }
 {
-    let (reply, ticket) = hub.call(rt, teller, ask)?; // waits for the asker's lock
+    let (reply, ticket) = hub.call(rt, teller, ask)?; // may wait for two locks, one after the other
     let Some(ticket) = ticket else {
-        return Ok((reply, None)); // it tells of no live transfer
+        return Ok((reply, None)); // the reply concerns no live transfer
     };
-    let state = teller.peek(&ticket); // waits for no lock
+    let state = teller.peek(&ticket); // takes no lock
     Ok((reply, Some(state)))
 }
 
-/// What is done behind one lock.
+/// Answers an ask behind one lock, and sweeps.
 pub fn participant(
     participant: &mut Participant,
     sight: &mut Sight,
@@ -55,46 +55,46 @@ pub fn participant(
     requires fits { ask_fits participant.old.slot.settings ask.now ≡ true }
     requires one { AtOneTable participant.old.board (board_of_sight sight.old) }
 {
-    let (reply, _ticket) = participant.serve(sight, ask)?; // its slot's answer
-    let news = participant.sweep(ask.at)?; // how many events the history then has more
+    let (reply, _ticket) = participant.serve(sight, ask)?; // the slot's reply
+    let news = participant.sweep(ask.at)?; // how many events were stored
     Ok((reply, news))
 }
 
-/// The parts of a hub, each participant told of all that there is for it.
+/// Settles the parts of a hub, so that its books can be closed.
 pub fn parts(parts: &mut Parts) -> Result<(), AllocError>
     requires { (O : Opening) × IsPartsOf O parts.old }
 {
-    parts.settle_all()?; // the books are closed
+    parts.settle_all()?; // now the books are closed
     Ok(())
 }
 
-/// The books of a hub that was closed, and what all positions sum to.
+/// Closes a hub; returns its books and the sum of all positions.
 pub fn closed(alloc: Global, hub: Hub, tellers: Vec<Teller>) -> Result<(Books, u128), CloseFault>
     requires of { AreOf hub tellers.items }
     requires parts { HaveAllParts tellers.items }
     requires opened { (O : Opening) × IsOpenedSo O hub }
 {
-    let books = close(alloc, hub, tellers)?; // or what is left, to be closed again
-    let sum = books.sum(); // the net funding of all
+    let books = close(alloc, hub, tellers)?; // an error has what is left, to be closed again
+    let sum = books.sum(); // the net funding of all participants
     Ok((books, sum))
 }
 
-/// The hub of the next opening, with four tellers.
+/// Opens a hub for the next opening, with four tellers.
 pub fn opened_again(alloc: Global, books: &Books) -> Result<(Hub, Vec<Teller>), Fault> {
     books.open_next(alloc, 4)
 }
 
-/// A job that is put on a desk, and the one that is taken.
+/// Puts a job on a desk and takes one.
 pub fn desk<R: Wait>(rt: &R, desk: &Desk, hand: &mut Hand, job: Job) -> Option<Job>
     requires { IsHandOf desk.now hand.old }
 {
     match desk.put(rt, hand, job) {
-        Ok(()) => desk.take(rt, hand), // the one that lay first
-        Err(job) => Some(job), // the desk was full: the same job, given back
+        Ok(()) => desk.take(rt, hand), // the oldest job
+        Err(job) => Some(job), // the desk is full: the same job is returned
     }
 }
 
-/// What a crew does at a desk.
+/// Runs a crew until a desk is empty.
 pub fn crew<R: Threads + Wait + Sync>(
     rt: &R,
     alloc: Global,
@@ -111,19 +111,19 @@ pub fn crew<R: Threads + Wait + Sync>(
     let place = Workplace {
         hub,
         desk,
-        gate: &Ungated, // nothing is done inside the locks
+        gate: &Ungated, // no callback inside the locks
     };
-    // A thread for each hand, with a teller of its own, and no sweeper.
+    // One thread for each hand and teller, and no sweeper.
     let team = Team {
         hands,
         tellers,
         sweep: None,
     };
     let crew = run_crew(rt, alloc, &place, team)?;
-    Ok(crew) // the jobs that were answered, what was seen, the hands and the tellers
+    Ok(crew) // the answered jobs, what was seen, the hands and the tellers
 }
 
-/// Two openings of 200 transfers each, told in eight lines.
+/// Drills a hub in two openings of 200 transfers each.
 pub fn drilled<R: Threads + Wait + Sync, W: Write>(
     rt: &R,
     alloc: Global,
@@ -134,9 +134,9 @@ pub fn drilled<R: Threads + Wait + Sync, W: Write>(
         settings,
         transfers: 200,
         openings: 2,
-        gate: &Ungated, // nothing is done inside the locks
+        gate: &Ungated, // no callback inside the locks
         is_watched: false,
     };
-    let mut told = Vec::new(alloc); // how many transfers were accepted, and how many timed out
-    drill(rt, alloc, &request, writer, &mut told) // eight lines for the writer
+    let mut told = Vec::new(alloc); // gets the counts of accepted and timed-out transfers
+    drill(rt, alloc, &request, writer, &mut told) // the writer gets eight lines
 }

@@ -1,7 +1,7 @@
--- Public contracts cite these.
+-- Definitions that public contracts cite.
 pub mod HasRun
 pub mod Places
 pub mod Headline
 pub mod NextOpening
--- Only inner functions and proofs cite these.
+-- Definitions that only private functions and proofs cite.
 pub mod inner

@@ -1,5 +1,4 @@
--- What has a place of a hub that has run steps: a transfer that is pending there, and one of this
--- identifier. Places are this hub's own choice.
+-- The transfer at a place of a hub that has run steps. Places are a choice of this hub.
 use Rattle.std.specs.Prelude.{◌≡◌, ℕ, List, Some, None}
 use Rattle.inst_settings.specs.Settings.{HubSettings}
 use Rattle.inst_command.specs.declared.step.Step.{Step}
@@ -8,13 +7,13 @@ use Rattle.inst_model.specs.Opening.{Opening}
 use Rattle.inst_model.specs.Transfer.{Transfer, at_place}
 use Rattle.inst_model.specs.Hub.{history, outcome}
 
--- a transfer without an outcome has the place
+-- The place has a transfer without an outcome.
 abbrev pub IsPendingAt : HubSettings → Opening → List Step → Place → Type 0
 IsPendingAt s O L place =
     (x : Transfer) × (at_place place.owner (history s O L place.owner) place.index ≡ Some x)
     × (outcome s O L place.owner x.id ≡ None)
 
--- the originator's live transfer with this identifier has the place
+-- The place has the originator's live transfer with this identifier.
 abbrev pub IsPlaceOf : HubSettings → Opening → List Step → ℕ → List ℕ → Place → Type 0
 IsPlaceOf s O L from id place =
     (x : Transfer) × (at_place from (history s O L from) place.index ≡ Some x) × (x.id ≡ id)

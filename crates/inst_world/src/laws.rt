@@ -1,9 +1,8 @@
-//! The laws of hubs over journals. A function without a body has the law for its contract, so that
-//! the check proves it.
+//! Laws of hubs over journals: functions without a body, whose contract is the law.
 ghost use Rattle.inst_world.specs.NextOpening.{JournalsCanOpen};
 
-/// A hub can be opened from the journals of its participants where books can open that have the
-/// same.
+/// Law: if books can be opened from, so can journals that have these books, one for each
+/// participant in order, whatever the books say of other numbers.
 pub fn journals_of_books_can_open()
     ensures { JournalsCanOpen }
 {}

@@ -1,4 +1,4 @@
-//! A hub in one thread with all its slots: steps, whole runs of steps, and how it opens again from
+//! A hub in one thread with all its slots: steps, runs of steps, closing, and opening again from
 //! journals.
 #![tactic(auto)]
 

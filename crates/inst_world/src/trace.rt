@@ -1,11 +1,13 @@
+//! The result of a run.
+
 use inst_command::{Answer, Items};
 
 /// Answers in the order of the steps.
 pub type Answers = Items<Answer>;
 
-/// What the steps of a run are answered.
+/// The answers of a run.
 #[derive(Drop)]
 pub struct Trace {
-    /// One for each step.
+    /// One answer for each step.
     pub answers: Answers,
 }

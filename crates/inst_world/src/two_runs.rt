@@ -1,3 +1,4 @@
+//! Two runs, compared for one participant.
 ghost use Rattle.std.specs.Prelude.{◌≡◌, true, IfOk};
 ghost use Rattle.inst_settings.specs.Settings.{is_participant};
 ghost use Rattle.inst_model.specs.Interleaving.{IsInterleaving};
@@ -11,13 +12,21 @@ use inst_command::Step;
 use inst_settings::Settings;
 use std::alloc::{AllocError, Global};
 
-/// Two runs, each of a hub that opens for the first time, in which the participant `who` sees the
-/// same: whatever the others do, it gets the same of both.
+/// Runs two lists of steps, each on a new hub, and returns both hubs with their answers.
+/// Participant `who` gets the same replies, history, position and statement from both, whatever the
+/// other participants do.
+///
+/// Requires steps that fit the settings, and that `who` sees the same in both lists: the same
+/// commands at the same clock readings, the same deliveries and the same outcomes.
 ///
 /// ```text
 /// let (quiet, busy) = run_both(alloc, &settings, 1, &alone, &among_others)?;
 /// // participant 1 has the same replies, position and statement in both
 /// ```
+///
+/// # Errors
+///
+/// [`AllocError`] if an allocation fails; both hubs are dropped.
 pub fn run_both(
     alloc: Global,
     settings: &Settings,

@@ -1,3 +1,4 @@
+//! The hub in one thread: its fields, stepping, lookups, and whole runs.
 ghost use Rattle.std.specs.Prelude.{◌≡◌, ◌<◌, ◌^◌, ℕ, true, List, [], reverse, option_map, Some};
 ghost use Rattle.std.specs.Prelude.{None, IfOk, OnErr, IfSome};
 ghost use Rattle.inst_settings.specs.Settings.{is_participant};
@@ -36,8 +37,10 @@ use std::marker::Model;
 ///
 /// ```text
 /// let mut world = World::open(alloc, &settings)?;
-/// world.step(&step)?            // the answer, a refusal too
-/// world.position(0)             // what participant 0 has
+/// if step.fits(world.settings()) {
+///     world.step(&step)?;       // the answer, which may be a refusal
+/// }
+/// world.position(0)             // the position of participant 0, in cents
 /// ```
 #[derive(Drop)]
 pub struct World {
@@ -62,7 +65,14 @@ impl Model for World {
 }
 
 impl World {
-    /// A hub that opens for the first time.
+    /// Opens a hub for the first time. It copies the settings.
+    ///
+    /// Cost: linear in the participants. Reserves, for each participant, 56 bytes for each of 5 ×
+    /// places + fundings; the memory is used as transfers come.
+    ///
+    /// # Errors
+    ///
+    /// [`AllocError`] if the settings, the board or a slot can't be allocated.
     pub fn open(alloc: Global, settings: &Settings) -> Result<World, AllocError>
         ensures ok { IfOk result (λ world. (world.board.settings ≡ settings.now)
             × HasRun Opening.First [] world) }
@@ -80,14 +90,14 @@ impl World {
         })
     }
 
-    /// The settings of the hub.
+    /// Returns the settings of the hub.
     pub fn settings(&self) -> &Settings
         ensures { result.now ≡ self.now.board.settings }
     {
         &self.settings
     }
 
-    /// The history of a participant, which is sound.
+    /// Returns the history of a participant. Requires `who` below the number of participants.
     pub fn journal(&self, who: u8) -> &Journal
         requires { is_participant self.now.board.settings who ≡ true }
         ensures events { result.now.events ≡ journal_of self.now who }
@@ -99,8 +109,9 @@ impl World {
         self.slots[usize::from(who)].journal()
     }
 
-    /// Returns the position of a participant in cents, in constant time: net funding and credits
-    /// less debits.
+    /// Returns the position of a participant in cents: net funding and credits, less debits.
+    ///
+    /// Requires `who` below the number of participants. Takes constant time.
     pub fn position(&self, who: u8) -> u128
         requires { is_participant self.now.board.settings who ≡ true }
         ensures history { (O : Opening) (L : List Step) → HasRun O L self.now →
@@ -111,11 +122,13 @@ impl World {
     }
 
     /// Returns at most `count` lines of a participant's statement since the last opening, after the
-    /// first `skip`. It costs the lines that it returns.
+    /// first `skip`.
+    ///
+    /// Requires `who` below the number of participants. Cost: linear in the lines returned.
     ///
     /// # Errors
     ///
-    /// Returns `AllocError` if memory is refused.
+    /// [`AllocError`] if the lines can't be allocated.
     pub fn statement(
         &self,
         alloc: Global,
@@ -130,7 +143,7 @@ impl World {
         self.slots[usize::from(who)].statement(alloc, skip, count)
     }
 
-    /// The slots of the participants, by number. The board is dropped.
+    /// Returns the slots of the participants, by number. Drops the board.
     pub fn into_slots(self) -> Vec<Slot>
         ensures slots { result.items ≡ self.books }
         ensures hub { IsWorld self }
@@ -139,8 +152,16 @@ impl World {
         slots
     }
 
-    /// Runs one step. A refused ask is answered by its refusal. Memory may be refused only where an
-    /// event is to be kept, or entries or lines are to be told, and then the hub is as it was.
+    /// Runs one step, and returns its answer. The answer to a refused command is its refusal.
+    ///
+    /// Requires `step.fits(settings)`. Cost: a constant number of hash look-ups, and a sorted
+    /// insertion or removal of a deadline; a statement or a fetch also copies what it returns.
+    ///
+    /// # Errors
+    ///
+    /// [`AllocError`]; the hub is unchanged. It is possible only for a step that needs memory
+    /// (`NeedsMemory`): a command whose event is to be appended or that copies entries or lines,
+    /// and a delivery, learning or expiry that finds something new.
     pub fn step(&mut self, step: &Step) -> Result<Answer, AllocError>
         requires fits { step_fits self.old.board.settings step.now ≡ true }
         ensures ok { IfOk result (λ answer. Runs self.old step.now answer self.new) }
@@ -148,12 +169,12 @@ impl World {
         ensures err { OnErr result (IsUnrun self.old self.new step.now) }
         ensures settings { self.new.board.settings ≡ self.old.board.settings }
     {
-        // The invariant is known only where a field is used.
+        // Using a field makes the type's invariant known to the prover.
         let _ = &self.settings;
         self.run_by_slot(step)
     }
 
-    /// The beneficiary of the transfer at the place, if one was taken there.
+    /// Returns the beneficiary of the transfer at the place, if there is one.
     pub fn beneficiary_at(&mut self, place: Place) -> Option<u8>
         ensures beneficiary { (O : Opening) (L : List Step) → HasRun O L self.old →
             result ≡ option_map (λ x.
@@ -171,7 +192,7 @@ impl World {
         }
     }
 
-    /// The deadline of the transfer at the place, if one is pending there.
+    /// Returns the deadline of the transfer at the place, if it is pending.
     pub fn pending_until(&mut self, place: Place) -> Option<Moment>
         ensures deadline { (O : Opening) (L : List Step) → HasRun O L self.old → (x : Transfer) →
             at_place place.owner (history self.old.board.settings O L place.owner) place.index
@@ -188,7 +209,9 @@ impl World {
         }
     }
 
-    /// The place of the originator's live transfer with this identifier.
+    /// Returns the place of the originator's live transfer with this identifier.
+    ///
+    /// Requires `from` below the number of participants.
     pub fn place_of(&self, from: u8, id: &Ident) -> Option<Place>
         requires participant { is_participant self.now.board.settings from ≡ true }
         ensures place { (O : Opening) (L : List Step) → HasRun O L self.now →
@@ -202,12 +225,15 @@ impl World {
         self.slots[usize::from(from)].place_of(from, id)
     }
 
-    /// Runs the steps in order, at a hub that opens for the first time. Refused memory ends the
-    /// run.
+    /// Runs the steps in order on a new hub. Returns the hub and the answers.
     ///
-    /// What it returns keeps the headline: whoever sees the same in another run gets the same of
-    /// it, a transfer has one outcome, its money is settled or released at most once, the positions
-    /// sum to the net funding and what is untold, and the books fit one another.
+    /// They keep the headline (`KeepsTheHeadline`): isolation, one outcome of each transfer,
+    /// settled or released at most once, sums, books that fit, locality. Requires steps that fit
+    /// the settings.
+    ///
+    /// # Errors
+    ///
+    /// [`AllocError`] from the first step that fails to allocate; the hub is dropped.
     pub fn run(
         alloc: Global,
         settings: &Settings,

@@ -1,4 +1,4 @@
--- Two bits of which both are set.
+-- If both of two bits are set, each is.
 use Rattle.std.proofs.Common.{◌≡◌, Bool, true, false, ◌&&◌, sym, true≢false}
 
 pub second_of : (x y : Bool) → (x && y) ≡ true → y ≡ true

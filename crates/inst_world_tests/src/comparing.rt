@@ -1,14 +1,14 @@
-//! What tests compare.
+//! Comparisons that end a test.
 use std::fmt::{Debug, Display};
 use std::process::Abort;
 use std::test::Fail;
 
-/// Both are the same, or the test ends and tells them.
+/// Ends the test if the two differ, and prints both.
 pub(crate) fn same<T: PartialEq + Debug + Drop>(rt: &impl Abort, found: T, wanted: T) {
     assert_eq!(rt; found, wanted);
 }
 
-/// Both are the same in this case, or the test ends and tells all three.
+/// Ends the test if the two differ, and prints both with the case.
 pub(crate) fn same_at<T: PartialEq + Debug + Drop, C: PartialEq + Debug + Drop>(
     rt: &impl Abort,
     case: C,
@@ -18,7 +18,7 @@ pub(crate) fn same_at<T: PartialEq + Debug + Drop, C: PartialEq + Debug + Drop>(
     same(rt, (&case, found), (&case, wanted));
 }
 
-/// The error tells this.
+/// Checks that the error is printed so.
 pub(crate) fn tells(
     rt: &(impl Abort + AllocGlobal),
     error: &impl Display,

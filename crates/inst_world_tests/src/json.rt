@@ -1,4 +1,4 @@
-//! Tests of what lines of JSON are read as, and of the lines that replies and steps are written as.
+//! Tests of reading lines of JSON, and of writing replies and steps.
 mod breaking;
 mod hub;
 mod reading;

@@ -1,5 +1,5 @@
-//! Worked rows of one participant's books: each is answered by the ledger and, on the same events,
-//! by the plain functions.
+//! Worked rows of one participant's books. The ledger answers each row, and so do the plain
+//! functions on the same events.
 mod answering;
 pub(crate) mod asked;
 mod beneficiary;

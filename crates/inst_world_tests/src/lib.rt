@@ -1,5 +1,5 @@
-//! Tests of what runs in one thread: values, one participant's books and slot, the hub with its
-//! runs of lines, and logs.
+//! Tests of what runs in one thread: values, one participant's books and slot, the hub and its runs
+//! of lines, and logs.
 #![tactic(auto)]
 
 #[cfg(test)]

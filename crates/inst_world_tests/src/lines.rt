@@ -1,4 +1,4 @@
-//! Tests of runs of lines: lines that are cut off, and what readers and writers do to a run.
+//! Tests of runs of lines: lines that are cut off, and readers and writers that fail.
 mod checking;
 mod cuts;
 mod failing;

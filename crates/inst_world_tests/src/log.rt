@@ -1,6 +1,5 @@
-//! Tests of logs of lines: files that open and files that don't, lines that are escaped, what
-//! errors tell, and a machine that stops at each call of its disk, with what it wrote torn at each
-//! byte.
+//! Tests of logs of lines: files that open and files that don't, escapes, error texts, and a
+//! machine that stops at each call to its disk, with the last write torn at each byte.
 mod batches;
 mod errors;
 mod escapes;

@@ -1,7 +1,7 @@
-//! Tests of a hub with a log: a run that is cut after each line or stops at each call of its disk,
-//! and goes on; replies that are told again; lines of each length; logs that aren't taken, and a
-//! reader that fails; logs that begin with the books of others; logs of both versions, logs with a
-//! changed byte or line, and a file that is changed under a running hub.
+//! Tests of a hub with a log: runs that are cut after each line, or stop at each call to the disk,
+//! and are resumed; replies that are written again; lines of each length; files that are refused; a
+//! reader that fails; logs that begin with books; logs of both versions; damaged logs; a file that
+//! another program changes.
 mod audits;
 mod changes;
 mod changing;

@@ -1,3 +1,3 @@
-//! Tests of steps that explain closed books: tables of books, with how many steps explain each.
+//! Tests of steps that explain closed books: tables of books, with the number of steps.
 mod books;
 mod explained;

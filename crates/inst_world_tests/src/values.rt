@@ -1,5 +1,4 @@
-//! Tests of what stands below the books: amounts, settings, statement lines, words, boards,
-//! deadlines and bytes.
+//! Tests of values: amounts, settings, statement lines, words, boards, deadlines and bytes.
 mod boards;
 mod bounds;
 mod bytes;

@@ -1,5 +1,5 @@
-//! Tests of the hub in one thread: worlds step by step, openings, and what is hidden of others'
-//! traffic.
+//! Tests of the hub in one thread: its steps, its openings, and that a participant sees nothing of
+//! others' traffic.
 mod next_openings;
 mod told;
 mod two_runs;

@@ -1,23 +1,23 @@
--- How a run's agenda changes: what is noted, awaited, moved and taken out.
+-- Changes of an agenda.
 use Rattle.std.specs.Prelude.{◌≡◌, ◌⊎◌, ℕ, Bool, true, false, ◌&&◌, ◌||◌, nat_eq, nat_lt, [], ◌∷◌}
 use Rattle.std.specs.Prelude.{Option, Some, None}
 use Rattle.inst_base.specs.TimeLimit.{is_due}
 use Rattle.inst_command.specs.declared.place.Place.{Place}
 use Rattle.inst_agenda.specs.Agenda.{Agenda, is_same_place, is_entry, is_awaited, is_next}
 
--- whether one place comes before another: by originator, and of one originator by index
+-- True if one place comes before another: by originator, then by index.
 abbrev pub place_comes_before : ℕ × ℕ → ℕ × ℕ → Bool
 place_comes_before one other = nat_lt one.0 other.0
     || (nat_eq one.0 other.0 && nat_lt one.1 other.1)
 
--- the place is one of the next, and nothing else changed
+-- The place is one of the next, and nothing else changed.
 pub record Notes (old new : Agenda) (place : Place) : Type 0 where
   pub waiting_is : new.waiting ≡ old.waiting
   pub next_are : (owner index : ℕ) →
       is_next new owner index
       ≡ (is_next old owner index || is_same_place place.owner place.index (owner, index))
 
--- the place waits for the moment, and nothing else changed
+-- The place waits for the moment, and nothing else changed.
 pub record Waits (old new : Agenda) (moment : ℕ) (place : Place) : Type 0 where
   pub next_is : new.next ≡ old.next
   pub waiting_are : (m owner index : ℕ) →
@@ -25,23 +25,23 @@ pub record Waits (old new : Agenda) (moment : ℕ) (place : Place) : Type 0 wher
       ≡ (is_awaited old m owner index
       || is_entry moment place.owner place.index (m, (owner, index)))
 
--- the first that waits is due and was taken out
+-- The first waiting place is due and was removed.
 pub record TakesDue (old new : Agenda) (at moment : ℕ) (place : Place) : Type 0 where
   pub due : is_due moment at ≡ true
   pub next_is : new.next ≡ old.next
   pub first : old.waiting ≡ (moment, (place.owner, place.index)) ∷ new.waiting
 
--- nothing that waits is due
+-- No waiting place is due.
 abbrev pub NothingIsDue : Agenda → ℕ → Type 0
 NothingIsDue agenda at =
     (m owner index : ℕ) → is_awaited agenda m owner index ≡ true → is_due m at ≡ false
 
--- what waits and is due is taken out, if anything is
+-- The first waiting place that is due was removed, if there is one.
 abbrev pub TakesAnyDue : Agenda → Agenda → ℕ → Option (ℕ × Place) → Type 0
 TakesAnyDue old new at None = (new ≡ old) × NothingIsDue old at
 TakesAnyDue old new at (Some taken) = TakesDue old new at taken.0 taken.1
 
--- some that waited are among the next, and nothing else changed
+-- Some waiting places were moved to the next, and nothing else changed.
 pub record Moves (old new : Agenda) : Type 0 where
   pub waits_on : (m owner index : ℕ) → is_awaited new m owner index ≡ true →
       is_awaited old m owner index ≡ true
@@ -52,18 +52,18 @@ pub record Moves (old new : Agenda) : Type 0 where
   pub next_from : (owner index : ℕ) → is_next new owner index ≡ true →
       (is_next old owner index ≡ true) ⊎ ((m : ℕ) × (is_awaited old m owner index ≡ true))
 
--- what was due is among the next
+-- All due places were moved to the next.
 abbrev pub MovesDue : Agenda → Agenda → ℕ → Type 0
 MovesDue old new at = Moves old new × NothingIsDue new at
 
--- the first of the next was taken out, and the others come after it
+-- The first of the next was removed; the others come after it.
 pub record TakesNext (old new : Agenda) (place : Place) : Type 0 where
   pub waiting_is : new.waiting ≡ old.waiting
   pub first : old.next ≡ (place.owner, place.index) ∷ new.next
   pub after : (owner index : ℕ) → is_next new owner index ≡ true →
       place_comes_before (place.owner, place.index) (owner, index) ≡ true
 
--- the first of the next was taken out, if there are any
+-- The first of the next was removed, if there is one.
 abbrev pub TakesAnyNext : Agenda → Agenda → Option Place → Type 0
 TakesAnyNext old new None = (new ≡ old) × (old.next ≡ [])
 TakesAnyNext old new (Some place) = TakesNext old new place

@@ -1,13 +1,12 @@
--- Which transfer a command names, by its originator and its identifier (EPC004-16, chapter 4,
--- attributes: the originator's reference): that which it submits, answers or asks after. This hub's
--- own choice.
+-- The transfer that a command names, by its originator and identifier (EPC004-16, chapter 4,
+-- attributes: the originator's reference). A choice of this hub.
 use Rattle.std.specs.Prelude.{ℕ, List, Option, Some, None}
 use Rattle.inst_command.specs.declared.command.Command.{Command}
 use Rattle.inst_command.specs.declared.command.Command.TheVariants.{Fund, Defund, Submit, Confirm}
 use Rattle.inst_command.specs.declared.command.Command.TheVariants.{Reject, Investigate, Fetch}
 use Rattle.inst_command.specs.declared.command.Command.TheVariants.{Query}
 
--- what a command of `who` names
+-- The transfer that a command of `who` submits, answers or investigates.
 abbrev pub named_by : ℕ → Command → Option (ℕ × List ℕ)
 named_by who (Submit submission) = Some (who, submission.id)
 named_by who (Confirm from id) = Some (from, id)

@@ -1,4 +1,4 @@
--- What going over transfers does to a run's agenda.
+-- The effect of a follow-up on a run's agenda.
 use Rattle.std.specs.Prelude.{◌≡◌, ◌⊎◌, ℕ, true, List, ◌++◌, reverse, Option, Some, None}
 use Rattle.inst_settings.specs.Settings.{is_participant}
 use Rattle.inst_command.specs.declared.step.Step.{Step}
@@ -10,15 +10,15 @@ use Rattle.inst_agenda.specs.Agenda.{Agenda, is_awaited, is_next}
 use Rattle.inst_agenda.specs.FollowUps.{of_transfer}
 use Rattle.inst_world.specs.HasRun.{World, world_settings, HasRun}
 
--- places of this originator are gone over next, and nothing else changed
+-- Places of this originator are among the next, and nothing else changed.
 pub record NotesSome (old new : Agenda) (from : ℕ) : Type 0 where
   pub waiting_is : new.waiting ≡ old.waiting
   pub next_still : (p index : ℕ) → is_next old p index ≡ true → is_next new p index ≡ true
   pub next_from : (p index : ℕ) → is_next new p index ≡ true →
       (is_next old p index ≡ true) ⊎ (p ≡ from)
 
--- the live transfer that is named, if any, is gone over next, and nothing else changed but for
--- places of participants
+-- The live transfer that is named, if there is one, is among the next; nothing else changed but for
+-- places of participants.
 pub record NotesNamed (hub : World) (named : Option (ℕ × List ℕ)) (old new : Agenda) : Type 0 where
   pub waiting_is : new.waiting ≡ old.waiting
   pub next_still : (p index : ℕ) → is_next old p index ≡ true → is_next new p index ≡ true
@@ -28,10 +28,11 @@ pub record NotesNamed (hub : World) (named : Option (ℕ × List ℕ)) (old new 
       at_place p (history (world_settings hub) O L p) index ≡ Some x → named ≡ Some (p, x.id) →
       is_next new p index ≡ true
 
--- The transfer at the place, if there is one, was gone over at this reading
--- none, some: so the hub has run its steps
--- waits_for: where it is pending then, it waits for its deadline
--- waits_still, waits_from: nothing else waits
+-- The transfer at the place, if there is one, was followed up at this clock reading.
+--
+-- - none, some: the hub has run the steps for it
+-- - waits_for: if it is pending then, it waits for its deadline
+-- - waits_still, waits_from: nothing else waits that didn't
 pub record GoesOver (O : Opening) (L : List Step) (at : ℕ) (place : Place) (hub new_hub : World)
     (old new : Agenda) : Type 0 where
   pub none : at_place place.owner (history (world_settings hub) O L place.owner) place.index

@@ -1,4 +1,4 @@
--- What reading one line does to the books.
+-- The effect of reading one line on the books.
 use Rattle.std.specs.Prelude.{◌≡◌, ◌⊎◌, Result, Ok, Err, List}
 use Rattle.inst_journal.specs.declared.event.Event.{Event}
 use Rattle.inst_books.specs.declared.fault.BookFault.{BookFault}
@@ -6,8 +6,7 @@ use Rattle.inst_books.specs.declared.fault.BookFault.TheVariants.{Memory}
 use Rattle.inst_books.specs.Reading.{Entry}
 use Rattle.inst_books.specs.Books.{books_with_event}
 
--- The event that a line says was put into its book, or it is told why not: memory was refused, or
--- the line is a bad one.
+-- The event of the line was appended to its book; or the line is bad, or an allocation failed.
 abbrev pub KeepsEvent : Result Entry BookFault → Result (Unit {0}) BookFault → List (List Event) →
     List (List Event) →
     Type 0

@@ -1,9 +1,9 @@
--- Names of events in books.
+-- Names in events.
 use Rattle.std.specs.Prelude.{ℕ, Bool, List, [], ◌∷◌, codes}
 use Rattle.std.specs.List.{list_any}
 use Rattle.inst_settings.specs.Settings.{same_text}
 
--- the names of fundings, and of outcomes without a reason
+-- The names of fundings, and of outcomes without a reason.
 abbrev pub is_name : List ℕ → Bool
 is_name name =
     list_any (same_text name) (codes "funded" ∷ codes "defunded" ∷ codes "accepted"

@@ -1,4 +1,4 @@
--- Journals that are kept again, each by a ledger of its own. This hub's own choice.
+-- Replayed journals, each in its own ledger. A choice of this hub.
 use Rattle.std.specs.Prelude.{◌≡◌, ℕ, ◌<◌, List, length}
 use Rattle.inst_settings.specs.Settings.{HubSettings}
 use Rattle.inst_journal.specs.declared.event.Event.{Event}
@@ -9,19 +9,19 @@ use Rattle.inst_ledger.specs.Book.{BookAndRoom}
 use Rattle.inst_world.specs.NextOpening.{books_of}
 use Rattle.inst_books.specs.inner.Agreeing.{ledger_histories}
 
--- a history that a participant can open from, whatever the others have
+-- A history that a participant can open from, whatever the others have.
 pub record CanBeBook (s : HubSettings) (who : ℕ) (J : List Event) : Type 0 where
   pub sound : IsSound s who J
   pub few : HasOpeningsLeft J
 
--- the first of the journals can be books, and are kept by the ledgers
+-- As many of the first journals as there are ledgers can be books, and are what the ledgers have.
 pub record AreKeptJournals (s : HubSettings) (journals : List History)
     (ledgers : List BookAndRoom) : Type 0
   where
     pub can : (p : ℕ) → p < length ledgers → CanBeBook s p (books_of journals p)
     pub same : (p : ℕ) → p < length ledgers → ledger_histories ledgers p ≡ books_of journals p
 
--- each of the journals, kept by a ledger
+-- Each of the journals is replayed in a ledger.
 pub record AreAllKept (s : HubSettings) (journals : List History) (ledgers : List BookAndRoom) :
     Type 0 where
   pub one_each : length ledgers ≡ length journals

@@ -1,14 +1,15 @@
-//! A box with its fields in sight of the module above.
+//! A box in parts, whose fields the module above can use.
 ghost use Rattle.std.specs.Prelude.{◌≡◌};
 ghost use Rattle.std.specs.Box.Ownership.{box_owns};
 
 use std::alloc::Allocator;
 use std::marker::Model;
 
-/// A box in parts: its address, and the allocator that it came from.
+/// The parts of a box: its address and its allocator.
 pub struct BoxParts<T, A: Allocator> {
     pub(super) ptr: *mut T,
     pub(super) alloc: A,
+    /// The value at the address, for contracts.
     pub ghost value: { T },
 }
 
@@ -17,7 +18,7 @@ impl<T, A: Allocator> Model for BoxParts<T, A> {
 }
 
 impl<T, A: Allocator> BoxParts<T, A> {
-    /// The parts of a box, which own what it owned: nothing frees that but `into_box`.
+    /// Returns the parts of a box. They own its memory; only `into_box` leads to its release.
     pub fn of(b: Box<T, A>) -> BoxParts<T, A>
     where
         T: Drop,
@@ -27,7 +28,7 @@ impl<T, A: Allocator> BoxParts<T, A> {
         BoxParts { ptr, alloc }
     }
 
-    /// The box that they were.
+    /// Returns the box of these parts.
     pub fn into_box(self) -> Box<T, A>
         ensures { result.value ≡ self.value }
     {

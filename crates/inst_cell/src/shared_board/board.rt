@@ -1,4 +1,4 @@
-//! The shared board as a board.
+//! The trait `Board` for the shared board.
 use super::SharedBoard;
 use crate::words::{pack_terms, read_word};
 use inst_base::Moment;

@@ -1,4 +1,4 @@
-//! What holders at one table tell each other.
+//! Boards of one hub that share or unite what they know.
 ghost use Rattle.std.specs.Prelude.{◌≡◌};
 ghost use Rattle.inst_cell.specs.Held.{view_of, Stays, AtOneTable};
 ghost use Rattle.inst_cell.specs.Meeting.{KnowsBoth, KnowsTruth, Vouches, HasRolesOfBoth};
@@ -7,9 +7,10 @@ use super::SharedBoard;
 use crate::steps::{Tell, Unite, Vouching};
 
 impl SharedBoard {
-    /// Each then knows what either knew. What the other knew of a board's own places, and of the
-    /// answers of its participants, the board knew already. It costs a load for each of the two
-    /// boards.
+    /// Lets each of two boards know what either knew.
+    ///
+    /// A board already knew what the other knew of the openings of its own places, and of its own
+    /// participants' answers (`Vouches`). Costs one atomic load for each board.
     pub fn meet(&mut self, other: &mut SharedBoard)
         requires one { AtOneTable self.old other.old }
         ensures mine { KnowsBoth self.old other.old self.new }
@@ -22,8 +23,10 @@ impl SharedBoard {
         other.inform(self);
     }
 
-    /// One board with the roles of both that knows what both knew. What one knew of the other's own
-    /// places, and of the answers of its participants, the other knew already.
+    /// Unites two boards into one, with the roles and the knowledge of both.
+    ///
+    /// Each already knew what the other knew of the openings of its own places, and of its own
+    /// participants' answers (`Vouches`).
     pub fn join(&mut self, other: SharedBoard)
         requires one { AtOneTable self.old other }
         ensures both { KnowsBoth self.old other self.new }
@@ -40,7 +43,7 @@ impl SharedBoard {
         shared.load::<Vouching>(&mut self.seat, 5);
     }
 
-    /// The other then knows what either knew.
+    /// Lets the other board know what this one knows.
     pub(crate) fn inform(&mut self, other: &mut SharedBoard)
         requires one { AtOneTable self.old other.old }
         ensures yours { KnowsBoth self.old other.old other.new }

@@ -1,5 +1,4 @@
-//! How the words of a hub are made, with a seat for each of its slots, and one for the sight of
-//! each teller.
+//! Opening: makes the words of a hub, the boards of its slots and the sights of its tellers.
 ghost use Rattle.std.specs.Prelude.{◌≡◌, ◌⊎◌, ◌↔◌, Err, IfOk, IfErr};
 ghost use Rattle.inst_cell.specs.View.{first_view};
 ghost use Rattle.inst_board.specs.declared.about.Fact.{Fact};
@@ -18,12 +17,12 @@ use std::alloc::{AllocError, Global};
 use std::snapshot::Snapshot;
 use std::sync::Arc;
 
-/// The most tellers that a hub can open with.
+/// The most tellers that a hub opens with.
 pub const MOST_TELLERS: u8 = 16;
 
 impl SharedBoard {
-    /// A new board of the same table. The step says which roles and what knowledge each of the two
-    /// has.
+    /// Makes a second board of the same table. The split `S` says which roles and what knowledge
+    /// each gets.
     fn beside<S: Split<View>>(&mut self) -> Result<SharedBoard, AllocError>
         requires { CutsView S.Split.left S.Split.right }
         ensures new { IfOk result (λ b. AtOneTable self.old b
@@ -42,7 +41,7 @@ impl SharedBoard {
         })
     }
 
-    /// A board with all roles, which knows nothing.
+    /// Makes a table with all words 0 and a board with all roles, which knows nothing.
     fn whole(alloc: Global, settings: &Settings) -> Result<SharedBoard, AllocError>
         ensures board { IfOk result (λ b. (settings_of b ≡ settings.now)
             × (view_of b ≡ first_view settings.now)) }
@@ -65,7 +64,7 @@ impl SharedBoard {
 }
 
 impl SharedBoard {
-    /// As many sights, which know as much as this board, which is nothing.
+    /// Makes a sight for each teller. The sights know nothing.
     fn admit(&mut self, alloc: Global, tellers: u8) -> Result<Vec<Sight>, AllocError>
         requires { (f : Fact) → ¬ knows self.old f }
         ensures sights { IfOk result (λ all. AreAdmitted self.old tellers all.items) }
@@ -80,9 +79,15 @@ impl SharedBoard {
         Ok(all)
     }
 
-    /// A hub that begins to open: one board with the roles of all participants, which knows
-    /// nothing, and a sight for each teller, which knows nothing. `BadSettings` where tellers are
-    /// not 1 to 16, `Memory` where there is no room.
+    /// Opens the board of a hub: one board with the roles of all participants, and a sight for each
+    /// teller. None of them knows of any place.
+    ///
+    /// Until it is dealt, this one board can open places and decide for all participants.
+    ///
+    /// # Errors
+    ///
+    /// `BadSettings` exactly if `tellers` is not 1 to 16; [`Memory`](Fault::Memory) if allocation
+    /// fails.
     pub fn open_whole(
         alloc: Global,
         settings: &Settings,
@@ -101,8 +106,13 @@ impl SharedBoard {
         Ok((all, sights))
     }
 
-    /// The boards of the participants, by number, each with its role alone: they know what this
-    /// one, which has all roles, knew.
+    /// Splits a board with all roles into one board for each participant, by number.
+    ///
+    /// Each has its participant's role alone, and knows what this board knew.
+    ///
+    /// # Errors
+    ///
+    /// [`AllocError`] if the boards can't be allocated; the board is dropped.
     pub fn deal(self, alloc: Global) -> Result<Vec<SharedBoard>, AllocError>
         requires { HasAllRoles self }
         ensures boards { IfOk result (λ boards. AreDealt self boards.items) }
@@ -116,9 +126,13 @@ impl SharedBoard {
         Ok(boards)
     }
 
-    /// A hub that opens: a board for each participant, by number, with its role and a seat of its
-    /// own, and a sight for each teller, which knows nothing. `BadSettings` where tellers are not 1
-    /// to 16, `Memory` where there is no room.
+    /// Opens the boards of a hub, one for each participant, by number, with that role alone, and a
+    /// sight for each teller. None of them knows of any place.
+    ///
+    /// # Errors
+    ///
+    /// `BadSettings` exactly if `tellers` is not 1 to 16; [`Memory`](Fault::Memory) if allocation
+    /// fails.
     pub fn open(
         alloc: Global,
         settings: &Settings,

@@ -1,4 +1,4 @@
-//! The steps of a seat on the words of a place.
+//! The atomic steps of a board on the words of a place.
 ghost use Rattle.std.specs.Prelude.{false, ◌≡◌, ◌⊎◌, ◌≢◌, ◌≤◌, ◌<◌, ◌+◌, ◌*◌, slice_index, IsTrue};
 ghost use Rattle.inst_base.specs.Moment.{is_moment};
 ghost use Rattle.inst_terms.specs.declared.terms.Terms.{Terms};
@@ -22,7 +22,7 @@ use inst_command::{Outcome, Place};
 use inst_terms::{Terms, unpack};
 
 impl SharedBoard {
-    /// The outcome word.
+    /// Loads the outcome word.
     pub(super) fn load(&mut self, place: Place) -> u64
         requires { IsPlace (settings_of self.old) place }
         ensures stays { Stays self.old self.new }
@@ -34,7 +34,7 @@ impl SharedBoard {
         self.table.shared.load::<Loading>(&mut self.seat, word)
     }
 
-    /// A terms word of a place that is known opened.
+    /// Loads a terms word of a place that is known to be opened.
     fn load_term(&mut self, place: Place, index: usize) -> u64
         requires opened { knows self.old (about place Opened) }
         requires index { index < 5 }
@@ -47,7 +47,7 @@ impl SharedBoard {
         self.table.shared.load::<LoadingTerm>(&mut self.seat, word)
     }
 
-    /// The terms of a place that is known opened, with its terms.
+    /// Loads the terms of a place that is known to be opened.
     pub(super) fn terms(&mut self, place: Place) -> Terms
         requires opened { knows self.old (about place Opened) }
         requires known { (t : Terms) × knows self.old (about place (HasTerms t)) }
@@ -66,7 +66,7 @@ impl SharedBoard {
         }
     }
 
-    /// Writes a terms word of a place that isn't opened.
+    /// Stores a terms word of a place that is not opened.
     pub(super) fn store_term(&mut self, place: Place, index: usize, value: u64)
         requires place { IsPlace (settings_of self.old) place }
         requires index { index < 5 }
@@ -83,7 +83,7 @@ impl SharedBoard {
             .store::<Noting>(&mut self.seat, word, value);
     }
 
-    /// Opens the place.
+    /// Opens the place: stores its outcome word, pending until the deadline.
     pub(super) fn put(&mut self, place: Place, deadline: Moment)
         requires place { IsPlace (settings_of self.old) place }
         requires own { has_role self.old place.owner }
@@ -105,8 +105,8 @@ impl SharedBoard {
             .store::<PlaceOpening>(&mut self.seat, word, pending);
     }
 
-    /// Decides a place that is known pending until the deadline, unless it was decided before. The
-    /// outcome word afterwards.
+    /// Decides a place that is known to be pending until the deadline, unless it is decided
+    /// already. Returns the outcome word afterwards.
     pub(super) fn settle(
         &mut self,
         place: Place,

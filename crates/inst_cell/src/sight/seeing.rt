@@ -1,4 +1,4 @@
-//! What a teller sees of the shared words.
+//! Reading a ticket's place, and sights that share what they know.
 ghost use Rattle.std.specs.Prelude.{◌≡◌, ◌≢◌};
 ghost use Rattle.inst_command.specs.declared.outcome.Outcome.{Outcome};
 ghost use Rattle.inst_command.specs.declared.outcome.State.TheVariants.{Unused};
@@ -15,7 +15,11 @@ use inst_board::{Board, Look};
 use inst_command::State;
 
 impl Sight {
-    /// What the words show of the ticket's place now, which is at least what the sight knows.
+    /// Returns the state of the ticket's place, as its words show it now.
+    ///
+    /// Never returns less than the sight knows: not `Unused` if the place is known to be opened,
+    /// and the outcome if one is known. The sight knows what it read from then on. Costs one atomic
+    /// load, and five more if the place is opened.
     pub fn peek(&mut self, ticket: &Ticket) -> State
         ensures peek { Peeks self.old ticket.now result self.new }
         ensures opened { sight_knows self.old (about ticket.now Opened) → result ≢ Unused }
@@ -32,7 +36,7 @@ impl Sight {
         }
     }
 
-    /// Each then knows what either knew.
+    /// Lets each of two sights know what either knew.
     pub fn meet(&mut self, other: &mut Sight)
         requires one { AtOneTable (board_of_sight self.old) (board_of_sight other.old) }
         ensures mine { KnowsBoth (board_of_sight self.old) (board_of_sight other.old)
@@ -45,7 +49,7 @@ impl Sight {
         self.board.meet(&mut other.board);
     }
 
-    /// One sight that knows what both knew.
+    /// Unites two sights into one that knows what both knew.
     pub fn join(&mut self, other: Sight)
         requires one { AtOneTable (board_of_sight self.old) (board_of_sight other) }
         ensures both { KnowsBoth (board_of_sight self.old) (board_of_sight other)

@@ -1,4 +1,4 @@
-//! What a slot's board tells a sight, and the other way round.
+//! Knowledge that passes between a slot's board and a sight.
 ghost use Rattle.std.specs.Prelude.{◌≡◌, ◌↔◌};
 ghost use Rattle.inst_board.specs.declared.about.About.TheVariants.{Opened};
 ghost use Rattle.inst_board.specs.declared.about.Fact.{Fact};
@@ -12,8 +12,9 @@ use crate::{SharedBoard, Ticket};
 use inst_command::Place;
 
 impl SharedBoard {
-    /// The sight then knows what the board knows of the place, which is known opened, and of all
-    /// others. The ticket names the place. The board has and knows what it had and knew.
+    /// Lets the sight know all that the board knows, and returns a ticket that names the place.
+    ///
+    /// The board must know that the place is opened; the board's own knowledge is unchanged.
     pub fn tell(&mut self, sight: &mut Sight, place: Place) -> Ticket
         requires one { AtOneTable self.old (board_of_sight sight.old) }
         requires opened { knows self.old (about place Opened) }
@@ -27,8 +28,10 @@ impl SharedBoard {
         Ticket::of(place)
     }
 
-    /// The board then knows what the sight knew too. Of its own participants' places that is
-    /// nothing new.
+    /// Lets the board know what the sight knew, and consumes the sight.
+    ///
+    /// The board already knew what the sight knew of the openings of the board's own places, and of
+    /// its own participants' answers (`Vouches`).
     pub fn join_sight(&mut self, sight: Sight)
         requires one { AtOneTable self.old (board_of_sight sight) }
         ensures both { KnowsBoth self.old (board_of_sight sight) self.new }

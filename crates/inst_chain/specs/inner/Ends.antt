@@ -5,6 +5,7 @@ use Rattle.inst_log.specs.declared.file_lines.FileLines.{FileLines}
 use Rattle.inst_chain.specs.Checking.{HasGoneThrough}
 use Rattle.inst_chain.specs.declared.checker.Checker.{Checker}
 
+-- The file was read to the end of its lines, and the checker has taken them all.
 pub record IsChecked (file : List ℕ) (lines : FileLines) (checker : Checker) : Type 0 where
   pub done : List (List ℕ)
   pub reading : IsReading file lines done

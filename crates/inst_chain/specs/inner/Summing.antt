@@ -1,4 +1,4 @@
--- What was read of a log so far.
+-- A log that is being read.
 use Rattle.std.specs.Prelude.{◌≡◌, ◌⊎◌, ◌<◌, ◌^◌, ◌∷◌, ℕ, Bool, true, false, List, [], ◌++◌, length}
 use Rattle.std.specs.Prelude.{drop, Option, Some, Vec, MatchOption, MatchResult, Result}
 use Rattle.std.specs.declared.alloc.Global.{Global}
@@ -17,11 +17,11 @@ use Rattle.inst_chain.specs.declared.summary.Seen.{Seen}
 use Rattle.inst_chain.specs.declared.summary.LineTally.{LineTally}
 use Rattle.inst_chain.specs.declared.summary.Reading.{Reading}
 
--- the first of these lines, if there is one
+-- The first of these lines, if there is one.
 abbrev pub IsFirstOf : Option (Vec ℕ Global) → List (List ℕ) → Type 0
 IsFirstOf first lines = MatchOption first (lines ≡ []) (λ line. HasFirst lines line.items)
 
--- these lines have come
+-- These lines have been taken.
 pub record Sees (seen : Seen) (lines : List (List ℕ)) : Type 0 where
   pub first : IsFirstOf seen.first lines
   pub count : length (blocks lines) < 2 ^ 64 → seen.lines ≡ length (said lines)
@@ -29,19 +29,19 @@ pub record Sees (seen : Seen) (lines : List (List ℕ)) : Type 0 where
       is_mark mark ≡ true → length mark ≡ 67
       → mark ≡ mark_with seen.digest.text
 
--- whatever lines follow these, a file of them is damaged so
+-- A file that begins with these lines is damaged after `right`, whatever lines follow.
 abbrev pub AreDamaged : List (List ℕ) → Prefix → Type 0
 AreDamaged lines right =
     (file : List ℕ) (later : List (List ℕ)) → recovered_lines file ≡ lines ++ later →
     length file < 2 ^ 64
     → IsDamagedAfter file right
 
--- the same, and their marks were checked
+-- These lines have been taken, and their marks were checked.
 pub record Tallies (tally : LineTally) (lines : List (List ℕ)) : Type 0 where
   pub sees : Sees tally.seen lines
   pub checked : MatchOption tally.wrong (HasGoneThrough tally.checker lines) (AreDamaged lines)
 
--- so far the file was read, and this is left
+-- The file was read up to the cutter's position, and `left` is the rest.
 pub record HasRead (reading : Reading) (file : List ℕ) (left : Option (List ℕ)) : Type 0 where
   pub done : List (List ℕ)
   pub cut : HasCut file reading.cutter done
@@ -49,7 +49,7 @@ pub record HasRead (reading : Reading) (file : List ℕ) (left : Option (List �
   pub left_is : left ≡ Some (drop reading.cutter.at file)
   pub fits : reading.cutter.at < 2 ^ 64
 
--- all its lines were read
+-- All lines of the file were read.
 pub record HasReadAll (reading : Reading) (file : List ℕ) : Type 0 where
   pub done : List (List ℕ)
   pub cut : HasCut file reading.cutter done
@@ -57,7 +57,7 @@ pub record HasReadAll (reading : Reading) (file : List ℕ) : Type 0 where
   pub tallies : Tallies reading.tally done
   pub fits : reading.cutter.at < 2 ^ 64
 
--- what a tally says of the marks, and whether the closed byte follows the lines
+-- The result for a tally's marks and for whether the byte 0 follows the lines.
 abbrev pub IsChain : LineTally → Bool → Result Digest Prefix → Type 0
 IsChain tally is_shut result = MatchOption tally.wrong
     (MatchResult result (λ digest. (is_shut ≡ true) × (tally.checker.sealed ≡ true)
@@ -65,7 +65,7 @@ IsChain tally is_shut result = MatchOption tally.wrong
     (λ right. (right ≡ tally.checker.right) × (is_shut ≡ true → tally.checker.sealed ≡ false)))
     (λ right. MatchResult result (λ digest. ⊥) (λ r. r ≡ right))
 
--- a read failed, an allocation did, or the file is too long
+-- A read failed, an allocation failed, or the file is too long.
 abbrev pub IsReadFault : LogError → Type 0
 IsReadFault (Disk error) = Unit {0}
 IsReadFault Memory = Unit {0}

@@ -5,12 +5,12 @@ use Rattle.inst_slot.specs.Book.{Book}
 use Rattle.inst_world.specs.NextOpening.{books_of}
 use Rattle.inst_participant.specs.Together.{histories}
 
--- the journals are copies of the books, by number
+-- The journals are copies of the books, by number.
 pub record AreCopies (books : List Book) (journals : List History) : Type 0 where
   pub one_each : length journals ≡ length books
   pub same : (p : ℕ) → books_of journals p ≡ histories books p
 
--- the journals are copies of the books, by number, and so many empty ones
+-- The journals are copies of the books, by number, followed by so many empty ones.
 pub record AreCopiesAnd (books : List Book) (more : ℕ) (journals : List History) : Type 0 where
   pub one_each : length journals ≡ length books + more
   pub same : (p : ℕ) → books_of journals p ≡ histories books p

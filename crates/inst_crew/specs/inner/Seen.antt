@@ -5,6 +5,7 @@ use Rattle.inst_command.specs.declared.outcome.State.{State}
 use Rattle.inst_hub.specs.declared.teller.Teller.{Teller}
 use Rattle.inst_crew.specs.Seen.{IsOutcomeSeen}
 
+-- The teller knows each of these states.
 abbrev pub AreSeen : Teller → List (Place × State) → Type 0
 AreSeen t states = (i : ℕ) (pair : Place × State) → slice_get states i ≡ Some pair →
     IsOutcomeSeen t pair

@@ -1,4 +1,4 @@
-//! How a desk ends, with all its hands.
+//! Ending a desk, with all its hands.
 ghost use Rattle.std.specs.Prelude.{◌≡◌, [], ◌++◌, vec_capacity};
 ghost use Rattle.crossbeam_queue.specs.Passes.{view, IsPassOf, ruled_capacity};
 ghost use Rattle.inst_desk.specs.Account.{EachAsOften, account, counted};
@@ -13,7 +13,7 @@ use crate::rule::{DeskPass, Gathering, Queue, Taking};
 use crate::tally::Tally;
 use std::sync::Wait;
 
-/// One hand that did what both did.
+/// Joins two hands into one that did what both did.
 fn join(queue: &Queue, hand: Hand, other: Hand) -> Hand
     requires { IsPassOf queue.now hand.seat × IsPassOf queue.now other.seat }
     ensures on { IsPassOf queue.now result.seat }
@@ -32,7 +32,7 @@ fn join(queue: &Queue, hand: Hand, other: Hand) -> Hand
     }
 }
 
-/// The jobs that lie on a desk whose only hand this is.
+/// Takes all jobs off a desk whose only hand this is.
 fn drain<R: Wait>(rt: &R, queue: &Queue, seat: DeskPass, left: &mut Vec<Job>)
     requires on { IsPassOf queue.now seat }
     requires all { (view seat).parts ≡ MOST_HANDS }
@@ -52,7 +52,7 @@ fn drain<R: Wait>(rt: &R, queue: &Queue, seat: DeskPass, left: &mut Vec<Job>)
 }
 
 impl Desk {
-    /// One hand that did what all these did.
+    /// Joins all hands into one that did what all these did.
     fn gather(&self, hands: Vec<Hand>) -> Hand
         requires { AreAllHandsOf self.now hands.items }
         ensures on { IsPassOf self.now.queue result.seat }
@@ -70,8 +70,10 @@ impl Desk {
         whole
     }
 
-    /// Ends the desk with all its hands: what was put was taken or is left, each job as often. It
-    /// takes no memory.
+    /// Ends the desk, given all its hands, and returns the counts and the jobs that are left.
+    ///
+    /// Each job that was put was taken or is left, as often as it was put. May block; doesn't
+    /// allocate.
     pub fn finish<R: Wait>(self, rt: &R, hands: Vec<Hand>) -> Tally
         requires { AreAllHandsOf self hands.items }
         ensures jobs { EachAsOften (put_together hands.items) (taken_together hands.items

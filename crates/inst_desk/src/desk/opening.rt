@@ -1,4 +1,4 @@
-//! How a desk opens, with its hands.
+//! Opening a desk, with its hands.
 ghost use Rattle.std.specs.Prelude.{◌≡◌, ◌⊎◌, ◌↔◌, ◌<◌, ◌≤◌, [], Err, IfOk, IfErr, All, length};
 ghost use Rattle.crossbeam_queue.specs.Passes.{view, IsPassOf};
 ghost use Rattle.inst_desk.specs.Account.{first_account};
@@ -10,13 +10,13 @@ use crate::rule::{Dealing, DeskPass, Queue};
 use inst_base::Fault;
 use std::alloc::{AllocError, Global};
 
-/// How many jobs a desk holds at most.
+/// The most jobs that a desk holds.
 pub const MOST_ROOM: u16 = 4_096;
 
-/// How many hands a desk has at most.
+/// The most hands that a desk has.
 pub const MOST_HANDS: u8 = 16;
 
-/// A hand that neither put nor took.
+/// Makes a hand that neither put nor took.
 fn new_hand(seat: DeskPass) -> Hand
     requires { ((view seat).put ≡ []) × ((view seat).taken ≡ []) }
     ensures { result.seat ≡ seat }
@@ -29,7 +29,7 @@ fn new_hand(seat: DeskPass) -> Hand
 }
 
 impl Desk {
-    /// So many hands, the first with this seat; together they have all its parts.
+    /// Makes so many hands, the last with this seat. Together they have all parts.
     fn hands(&self, alloc: Global, seat: DeskPass, hands: u8) -> Result<Vec<Hand>, AllocError>
         requires on { IsPassOf self.now.queue seat }
         requires first { view seat ≡ first_account }
@@ -48,8 +48,12 @@ impl Desk {
         Ok(all)
     }
 
-    /// A desk with room for so many jobs, 1 to 4,096, and so many hands, 1 to 16. `BadSettings`
-    /// where they are not, `Memory` where there is no room; no other call of a desk takes memory.
+    /// Opens a desk for up to `capacity` jobs, 1 to 4,096, with 1 to 16 hands.
+    ///
+    /// # Errors
+    ///
+    /// `BadSettings` exactly if one of these numbers is out of range; [`Memory`](Fault::Memory) if
+    /// allocation fails.
     pub fn open(alloc: Global, capacity: u16, hands: u8) -> Result<(Desk, Vec<Hand>), Fault>
         ensures capacity { IfOk result (λ r. capacity_of r.0 ≡ capacity) }
         ensures enough { IfOk result (λ r. length r.1.items ≡ hands) }

@@ -1,4 +1,4 @@
-//! What hands do at a desk.
+//! Putting and taking jobs.
 ghost use Rattle.std.specs.Prelude.{◌≡◌, None, IfErr, IfSome, OnOk, OnErr};
 ghost use Rattle.inst_desk.specs.Desk.{IsHandOf, IsSameHand, PutsJob, TakesJob, FindsFull};
 ghost use Rattle.inst_desk.specs.Desk.{FindsEmpty};
@@ -10,8 +10,10 @@ use crate::rule::{Putting, Taking};
 use std::sync::Wait;
 
 impl Desk {
-    /// Puts a job behind all others. It comes back only where the desk was full at a moment of the
-    /// call.
+    /// Appends a job, or returns the same job if the desk is full. May block.
+    ///
+    /// The contract rules out a wrong "full" only for the one hand of a desk; what other hands did
+    /// until then is open.
     pub fn put<R: Wait>(&self, rt: &R, hand: &mut Hand, job: Job) -> Result<(), Job>
         requires of { IsHandOf self.now hand.old }
         ensures of { IsHandOf self.now hand.new }
@@ -25,7 +27,10 @@ impl Desk {
         Ok(())
     }
 
-    /// Takes the oldest job. There is none only where the desk was empty at a moment of the call.
+    /// Takes the oldest job, or returns `None` if the desk is empty. May block.
+    ///
+    /// The contract rules out a wrong `None` only for the one hand of a desk; what other hands did
+    /// until then is open.
     pub fn take<R: Wait>(&self, rt: &R, hand: &mut Hand) -> Option<Job>
         requires of { IsHandOf self.now hand.old }
         ensures of { IsHandOf self.now hand.new }

@@ -1,4 +1,4 @@
--- The plans of drills, and what they ask. Drills are this hub's own choice.
+-- The plans of drills, and their asks. Drills are a choice of this hub.
 use Rattle.std.specs.Prelude.{◌≡◌, ℕ, ◌+◌, ◌/◌, ◌<◌, ◌≤◌, ◌++◌, codes}
 use Rattle.std.specs.Fmt.{decimal}
 use Rattle.inst_base.specs.TimeLimit.{deadline_of}
@@ -10,9 +10,9 @@ use Rattle.inst_hub.specs.declared.teller.Teller.{Teller}
 use Rattle.inst_crew.specs.declared.sweep.Sweep.{Sweep}
 use Rattle.inst_drill.specs.declared.plan.Plan.{Plan}
 
--- The plan is one for a hub of these settings
--- deadline: transfers with the stamp 0 are due then
--- in_time: `last` is the last moment at which they can be confirmed
+-- The plan suits a hub with these settings.
+-- - deadline: that of transfers with stamp 0.
+-- - in_time: `last` is the last moment at which they can be confirmed.
 pub record IsPlan (s : HubSettings) (plan : Plan) : Type 0 where
   pub two : 2 ≤ participants s
   pub some_transfer : 0 < plan.transfers
@@ -22,7 +22,7 @@ pub record IsPlan (s : HubSettings) (plan : Plan) : Type 0 where
   pub deadline : plan.deadline ≡ deadline_of s.limit 0
   pub in_time : plan.last + s.margin + 1 ≡ plan.deadline
 
--- participant 0 submits 100 cents to participant 1, with the stamp 0
+-- Participant 0 submits 100 cents to participant 1, with stamp 0.
 abbrev pub submission_of : ℕ → Ask
 submission_of number =
     record {
@@ -32,13 +32,13 @@ submission_of number =
       at = 0;
     }
 
--- participant 1 confirms them at the last moment
+-- Participant 1 confirms them at the last moment in time.
 abbrev pub confirmation_of : Plan → ℕ → Ask
 confirmation_of plan number =
     record { who = 1; command = Confirm 0 (codes "D" ++ decimal number); at = plan.last }
 
--- the sweep of participant 0 by this teller at the deadline, when half of the transfers are
--- confirmed
+-- The sweep of participant 0 by this teller at the deadline, once half of the transfers are
+-- confirmed.
 pub record IsSweepOf (plan : Plan) (teller : Teller) (sweep : Sweep) : Type 0 where
   pub by : sweep.teller ≡ teller
   pub who : sweep.who ≡ 0

@@ -10,16 +10,17 @@ use Rattle.inst_journal.specs.declared.event.Event.{Event}
 use Rattle.inst_participant.specs.InTheBooks.{state_in_books}
 use Rattle.inst_drill.specs.Report.{books_end}
 
--- the pair is an outcome that the books don't tell
+-- The pair is an outcome that the books don't have.
 abbrev pub Contradicts : (ℕ → List Event) → Place × State → Type 0
 Contradicts J pair =
     (outcome : Outcome) × (pair.1 ≡ Decided outcome) × (state_in_books J pair.0 ≢ Decided outcome)
 
+-- None of these is such an outcome.
 abbrev pub NoneContradicts : (ℕ → List Event) → List (Place × State) → Type 0
 NoneContradicts J states =
     (i : ℕ) (pair : Place × State) → slice_get states i ≡ Some pair → ¬ Contradicts J pair
 
--- so many acceptances and time-outs are counted after one more event
+-- The counts of acceptances and time-outs after one more event.
 abbrev pub counted_after : Event → ℕ → ℕ → ℕ × ℕ
 counted_after event accepted timed_out =
     if is_opening event then (0, 0) else

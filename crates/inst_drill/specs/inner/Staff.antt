@@ -1,4 +1,4 @@
--- Who works in an opening of a drill. This hub's own choice.
+-- The staff of an opening of a drill. A choice of this hub.
 use Rattle.std.specs.Prelude.{◌≡◌, ◌+◌, List, [], ◌∷◌, ◌++◌, length, sum_by}
 use Rattle.inst_desk.specs.declared.desk.Desk.{Desk}
 use Rattle.inst_desk.specs.Desk.{IsHandOf, AreHandsOf, hand_parts as parts_of_hand}
@@ -9,12 +9,12 @@ use Rattle.inst_hub.specs.Opening.{HaveAllParts}
 use Rattle.inst_drill.specs.declared.staff.Staff.{Staff}
 use Rattle.inst_desk.specs.declared.desk.opening.TheConstants.{MOST_HANDS}
 
--- all its tellers, the sweeper's last
+-- All its tellers, the sweeper's last.
 abbrev pub tellers_of : Staff → List Teller
 tellers_of staff = staff.tellers.items ++ staff.sweeper ∷ []
 
--- two hands with a teller each, one more hand and one more teller: all hands of this desk, and all
--- tellers of this hub
+-- Two hands with a teller each, one more hand and one more teller: all hands of this desk, and all
+-- tellers of this hub.
 pub record IsStaffOf (hub : Hub) (desk : Desk) (staff : Staff) : Type 0 where
   pub feeder : IsHandOf desk staff.feeder
   pub hands : AreHandsOf desk staff.hands.items

@@ -1,4 +1,4 @@
--- The two halves of a call: the ask, and what follows from it.
+-- The two halves of a call: the ask and the follow-up.
 use Rattle.std.specs.Prelude.{◌≡◌, List, [], ◌++◌, Option}
 use Rattle.inst_command.specs.declared.ask.Ask.{Ask}
 use Rattle.inst_command.specs.declared.reply.Reply.{Reply}
@@ -11,13 +11,13 @@ use Rattle.inst_hub.specs.Calls.{fronts_seen, IsFollowed, IsCall}
 use Rattle.inst_participant.specs.declared.follow_up.FollowUp.{FollowUp}
 use Rattle.inst_participant.specs.Following.{follow_up_of}
 
--- what followed was seen, nothing else was, and nothing is forgotten
+-- The follow-up's histories were seen and nothing else, and nothing is forgotten.
 pub record Follows (h : Hub) (f : Option FollowUp) (t u : Teller) : Type 0 where
   pub fronts : List (Front Event)
   pub followed : IsFollowed h f t fronts
   pub seen : fronts_seen u ≡ fronts_seen t ++ fronts
 
--- a call, and what is to follow from it
+-- A call without its follow-up, and the follow-up that it causes.
 abbrev pub Asks : Hub → Teller → Ask → (Reply × Option Place) × Option FollowUp → Teller → Type 0
 Asks h t ask r u =
     (call : IsCall h t ask r.0 [] u)

@@ -1,5 +1,5 @@
--- How a hub is taken apart: its tellers are seated on its row, and what was taken out of the locks
--- is what lay behind them.
+-- Taking a hub apart: its tellers are on its row, and what is taken out of the locks is what they
+-- protected.
 use Rattle.std.specs.Prelude.{◌≡◌, ℕ, List, length, slice_get, Some}
 use Rattle.atomic_table.specs.Seated.{TableId}
 use Rattle.inst_hub.specs.declared.initial_state.InitialState.{InitialState}
@@ -15,16 +15,17 @@ use Rattle.inst_hub.specs.declared.teller.Teller.{Teller}
 use Rattle.inst_hub.specs.Founding.{IsSince}
 use Rattle.inst_hub.specs.inner.NextOpening.{seated}
 
--- each sits on this row, and has no lock
+-- The teller has a seat on this row, and no lock.
 pub record IsSeated (id : TableId) (key : InitialState) (t : Teller) : Type 0 where
   pub on : IsOn id key t.seat
   pub free : IsFree t.seat
 
+-- Such tellers.
 abbrev pub AreSeated : TableId → InitialState → List Teller → Type 0
 AreSeated id key tellers = (i : ℕ) (t : Teller) → slice_get tellers i ≡ Some t → IsSeated id key t
 
--- What lay behind a lock
--- goes_on, seen: the seat has seen its history, and nothing beyond it
+-- What a lock protected.
+-- - goes_on, seen: the seat has seen its history, and nothing beyond it.
 pub record IsTakenOut (key : InitialState) (seat : RowSeat (Box Participant) Event InitialState)
     (p : ℕ) (x : Book) (b : SharedBoard) : Type 0 where
   pub since : IsSince key p (seated x b)
@@ -32,7 +33,7 @@ pub record IsTakenOut (key : InitialState) (seat : RowSeat (Box Participant) Eve
   pub goes_on : GoesOn p x.events seat
   pub seen : HasSeen p x.events seat
 
--- so many slots and boards, by number
+-- So many slots and boards, by number.
 pub record AreTakenOut (key : InitialState) (n : ℕ)
     (seat : RowSeat (Box Participant) Event InitialState) (slots : List Book)
     (boards : List SharedBoard) : Type 0 where

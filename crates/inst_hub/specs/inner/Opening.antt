@@ -1,4 +1,4 @@
--- How a hub opens: its boards, and its participants behind their locks.
+-- Opening a hub: its boards, and its participants behind their locks.
 use Rattle.std.specs.Prelude.{◌≡◌, ℕ, ◌<◌, List, [], ◌∷◌, length, slice_get, Option, Some, None}
 use Rattle.std.specs.Global.{Box}
 use Rattle.atomic_table.specs.Seated.{TableId}
@@ -11,18 +11,18 @@ use Rattle.inst_participant.specs.declared.participant.Participant.{Participant}
 use Rattle.inst_participant.specs.LockLaw.{IsBehind}
 use Rattle.inst_hub.specs.Opening.{IsBlank}
 
--- the boards of all participants, by number
+-- The boards of all participants, by number.
 pub record AreBoards (s : HubSettings) (id : TableId) (boards : List SharedBoard) : Type 0 where
   pub enough : length boards ≡ participants s
   pub each : (p : ℕ) (b : SharedBoard) → slice_get boards p ≡ Some b → IsOpened s id p b
 
--- what lies in the boxes
+-- The values in the boxes.
 abbrev pub unboxed : List (Option (Box Participant)) → List (Option Participant)
 unboxed [] = []
 unboxed (None ∷ all) = None ∷ unboxed all
 unboxed (Some x ∷ all) = Some x.value ∷ unboxed all
 
--- the participants, by number, over these words, with these histories
+-- The participants, by number, over these words, with these histories.
 pub record AreBehind (words : SharedBoard) (n : ℕ) (J : ℕ →
     List Event) (all : List (Option Participant)) : Type 0 where
   pub enough : length all ≡ n
@@ -30,7 +30,7 @@ pub record AreBehind (words : SharedBoard) (n : ℕ) (J : ℕ →
       (x : Participant) × (slice_get all p ≡ Some (Some x)) × IsBehind words p x
       × (x.slot.events ≡ J p)
 
--- the participants of these boards, by number, with no history
+-- The participants of these boards, by number, with empty histories.
 pub record AreParticipants (boards : List SharedBoard) (all : List (Option Participant)) : Type 0
   where
     pub enough : length all ≡ length boards
@@ -38,5 +38,6 @@ pub record AreParticipants (boards : List SharedBoard) (all : List (Option Parti
         (x : Participant) × (slice_get all p ≡ Some (Some x)) × IsBehind b p x
         × (x.slot.events ≡ [])
 
+-- Sights over these words that know of no place.
 abbrev pub AreBlank : SharedBoard → List Sight → Type 0
 AreBlank words sights = (i : ℕ) (t : Sight) → slice_get sights i ≡ Some t → IsBlank words t

@@ -1,4 +1,4 @@
-//! Calls of a hub, under the locks of participants.
+//! Calls, under the locks of participants.
 ghost use Rattle.std.specs.Prelude.{◌≡◌, ◌<◌, true, IfOk, IfSome, OnErr};
 ghost use Rattle.inst_command.specs.Ask.{ask_fits};
 ghost use Rattle.inst_hub.specs.Calls.{IsTellerOf, TellerKnowsMore, HasCalled, IsLeftUnanswered};
@@ -15,11 +15,21 @@ use std::alloc::AllocError;
 use std::sync::Wait;
 
 impl Hub {
-    /// What a command is answered, a refusal too, with a ticket where the reply tells of a live
-    /// transfer. It waits while another thread has the asker's lock, and then for the other side's,
-    /// under which what follows is done: the beneficiary gets what was taken, the other side learns
-    /// an outcome. What follows and finds no memory is dropped, and the reply stands. Where memory
-    /// is refused nothing was changed.
+    /// Answers one command.
+    ///
+    /// Returns the reply, which may be a refusal, and a [`Ticket`] if the reply concerns a live
+    /// transfer. Afterwards the follow-up is done under the other side's lock: a taken transfer is
+    /// delivered, or an outcome is learnt. A follow-up that fails to allocate is dropped; a later
+    /// [`sweep`](Hub::sweep) of that participant makes up for it.
+    ///
+    /// Requires a teller of this hub, and `ask.fits(settings)`. Blocks while another thread holds
+    /// the asker's lock, then while one holds the other side's. Cost: a constant number of hash
+    /// look-ups under each lock; a statement or a fetch also copies what it returns.
+    ///
+    /// # Errors
+    ///
+    /// [`AllocError`] if the asker's event or reply can't be allocated. The asker's books are
+    /// unchanged and nothing was decided.
     pub fn call<R: Wait>(
         &self,
         rt: &R,
@@ -33,8 +43,15 @@ impl Hub {
         self.call_with(rt, teller, ask, &Ungated)
     }
 
-    /// The same with a gate, which is passed once, after the event of the asker and before its lock
-    /// is given back.
+    /// Answers one command as [`call`](Hub::call) does, and passes the gate once, after the asker's
+    /// slot answered and before its lock is given back.
+    ///
+    /// Requires a teller of this hub, and `ask.fits(settings)`. Blocks as `call` does.
+    ///
+    /// # Errors
+    ///
+    /// [`AllocError`] as for [`call`](Hub::call), with the same state left. The gate is passed then
+    /// too.
     pub fn call_with<R: Wait, G: Gate>(
         &self,
         rt: &R,
@@ -51,7 +68,7 @@ impl Hub {
         Ok(answer)
     }
 
-    /// What a command is answered under the asker's lock, and what the other side has to do then.
+    /// Answers a command under the asker's lock. Also returns the follow-up.
     pub(crate) fn ask<R: Wait, G: Gate>(
         &self,
         rt: &R,
@@ -76,7 +93,7 @@ impl Hub {
         Ok((answer?, follow_up))
     }
 
-    /// Does what follows under the other side's lock; what finds no memory is dropped.
+    /// Does the follow-up under the other side's lock. Drops it if it fails to allocate.
     fn follow<R: Wait>(&self, rt: &R, teller: &mut Teller, follow_up: Option<FollowUp>)
         requires of { IsTellerOf self.now teller.old }
         requires lock { IfSome follow_up (λ f. f.who < size self.now.row) }

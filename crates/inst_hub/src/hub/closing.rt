@@ -1,4 +1,4 @@
-//! How a hub is taken apart when it closes.
+//! Taking a hub apart when it closes.
 ghost use Rattle.std.specs.Prelude.{◌≡◌, ◌↔◌, ℕ, ◌<◌, ◌≤◌, [], List, map, length, IfOk, IfErr};
 ghost use Rattle.std.specs.Prelude.{vec_capacity};
 ghost use Rattle.inst_journal.specs.declared.event.Event.{Event};
@@ -25,27 +25,29 @@ use std::alloc::{AllocError, Global};
 use std::fmt;
 use thiserror::Error;
 
+/// The row of a hub's locks.
 type Row = LockRow<Box<Participant>, Event, InitialState, LockLaw>;
 
+/// A seat of that row.
 type Seat = RowSeat<Box<Participant>, Event, InitialState>;
 
-/// Why a hub wasn't taken apart.
+/// The error of [`Hub::take_apart`]; returns the hub and its tellers unchanged.
 #[derive(Drop, Error)]
 pub enum TakeFault {
-    /// A growth was refused. The hub and its tellers are as they were.
-    #[error("no memory to take the hub apart, which is as it was")]
+    /// Allocation failed. The hub and its tellers are as they were.
+    #[error("an allocation failed; the hub and its tellers are unchanged")]
     Memory { hub: Hub, tellers: Vec<Teller> },
 }
 
-/// It shows which fault, and nothing of the hub.
+/// Prints which fault it is, and nothing of the hub.
 impl fmt::Debug for TakeFault {
     fn fmt<W: fmt::Write>(&self, f: &mut fmt::Formatter<W>) -> fmt::Result {
         f.write_str("Memory { .. }")
     }
 }
 
-/// One seat with the parts of all tellers' seats, which has seen exactly what one of them had; what
-/// the tellers see with goes into a list with room for it.
+/// Joins the tellers' seats into one with all their parts, and pushes their sights onto a list with
+/// capacity for them.
 fn gather(row: &Row, tellers: Vec<Teller>, sights: &mut Vec<inst_cell::Sight>) -> Seat
     requires some { 0 < size row.now }
     requires seated { AreSeated (row_id row.now) (key_of row.now) tellers.items }
@@ -71,7 +73,7 @@ fn gather(row: &Row, tellers: Vec<Teller>, sights: &mut Vec<inst_cell::Sight>) -
     whole
 }
 
-/// Takes each slot with its board out of its lock, by number, into lists with room for them.
+/// Takes each slot and its board out of its lock, by number, into lists with capacity for them.
 fn empty(row: Row, seat: Seat, slots: &mut Vec<Slot>, boards: &mut Vec<SharedBoard>)
     requires on { IsOn (row_id row) (key_of row) seat }
     requires all { HasAll seat }
@@ -82,7 +84,7 @@ fn empty(row: Row, seat: Seat, slots: &mut Vec<Slot>, boards: &mut Vec<SharedBoa
     let mut ended = row.take_apart(seat);
     for lock in 0..ended.len() {
         let Participant { slot, board } = Box::into_inner(ended.take(lock));
-        // The check is told that a history is sound only by a call.
+        // Calls `journal` because its contract tells the verifier that the history is sound.
         let _ = slot.journal();
         slots.push_reserved(slot);
         boards.push_reserved(board);
@@ -91,10 +93,16 @@ fn empty(row: Row, seat: Seat, slots: &mut Vec<Slot>, boards: &mut Vec<SharedBoa
 }
 
 impl Hub {
-    /// The parts of the hub: the slots of its participants, each with the last history that a
-    /// teller has seen, over one board with the roles of all that knows what each teller knew. It
-    /// waits for no lock, since nobody else has the hub. Where memory is refused it hands the hub
-    /// and its tellers back as they were.
+    /// Takes the hub apart: returns the slots of its participants, each with its last history, and
+    /// one board with all roles that knows what each teller knew. Adds no event.
+    ///
+    /// Requires all tellers of the hub, and so waits for no lock. Cost: linear in the participants
+    /// and tellers; visits no place and no event.
+    ///
+    /// # Errors
+    ///
+    /// [`TakeFault::Memory`] if its lists can't be allocated; it has the hub and its tellers,
+    /// unchanged.
     pub fn take_apart(self, alloc: Global, tellers: Vec<Teller>) -> Result<Parts, TakeFault>
         requires of { AreOf self tellers.items }
         requires parts { HaveAllParts tellers.items }
@@ -116,7 +124,7 @@ impl Hub {
     }
 }
 
-/// Lists with room for what the locks hold and for what the tellers see with.
+/// Allocates the lists for the contents of the locks and for the sights.
 fn rooms(
     alloc: Global,
     locks: usize,

@@ -1,4 +1,4 @@
-//! What tellers see, and what they tell each other.
+//! Peeks, and tellers that share what they know.
 ghost use Rattle.std.specs.Prelude.{◌≡◌, ◌≢◌};
 ghost use Rattle.inst_command.specs.declared.outcome.Outcome.{Outcome};
 ghost use Rattle.inst_command.specs.declared.outcome.State.TheVariants.{Unused};
@@ -15,8 +15,10 @@ use inst_cell::Ticket;
 use inst_command::State;
 
 impl Teller {
-    /// How the ticket's transfer stands now, which is at least what the teller knows. It loads,
-    /// waits for no lock and takes no memory.
+    /// Returns the transfer's current state, never an earlier one than this teller has seen.
+    ///
+    /// A ticket is valid while its hub is open; `Books::told` of `inst_close` returns its state
+    /// afterwards. Reads the outcome word of the place. Doesn't block or allocate.
     pub fn peek(&mut self, ticket: &Ticket) -> State
         ensures peek { Peeks self.old.sight ticket.now result self.new.sight }
         ensures opened { knows_of self.old (about ticket.now Opened) → result ≢ Unused }
@@ -32,8 +34,9 @@ impl Teller {
 }
 
 impl Hub {
-    /// Each of two tellers then knows what either knew, of places and of histories. It waits for no
-    /// lock and takes no memory.
+    /// Lets each of two tellers know what either knew, of places and of histories.
+    ///
+    /// Requires two tellers of this hub. Doesn't block or allocate.
     pub fn meet(&self, one: &mut Teller, two: &mut Teller)
         requires of { IsTellerOf self.now one.old × IsTellerOf self.now two.old }
         ensures of { IsTellerOf self.now one.new × IsTellerOf self.now two.new }

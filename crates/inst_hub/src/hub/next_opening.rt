@@ -1,4 +1,4 @@
-//! A hub that opens again from the journals of its participants.
+//! Opening a hub again, from the journals of its participants.
 ghost use Rattle.std.specs.Prelude.{◌≡◌, ◌⊎◌, ◌↔◌, ℕ, List, Err, IfOk, IfErr, length};
 ghost use Rattle.inst_settings.specs.Settings.{participants};
 ghost use Rattle.inst_board.specs.declared.about.Fact.{Fact};
@@ -45,7 +45,7 @@ fn open_places(slots: &[Slot], whole: &mut SharedBoard)
     }
 }
 
-/// Each slot with its board, by number.
+/// Pairs each slot with its board, by number.
 fn seat(
     alloc: Global,
     slots: Vec<Slot>,
@@ -65,8 +65,8 @@ fn seat(
     Ok(all)
 }
 
-/// The participants with these journals, each carried over an opening, over the words of the board
-/// that has all roles.
+/// Makes participants from these journals, each carried over an opening, over the words of the
+/// board with all roles.
 fn carry_over(
     alloc: Global,
     settings: &Settings,
@@ -87,11 +87,20 @@ fn carry_over(
 }
 
 impl Hub {
-    /// A hub that opens again from these journals, one for each participant by number, with as many
-    /// tellers as are wanted, which know of no place, and that each history begins with its journal
-    /// and an opening. What was pending goes on, what was decided gives its place back. The
-    /// journals stay as they are. `BadSettings` where the tellers are not 1 to 16, `Memory` where
-    /// there is no room for copies of the journals and for the places.
+    /// Opens a hub again from these journals, one for each participant, by number, with 1 to 16
+    /// tellers.
+    ///
+    /// Pending transfers stay pending; decided ones give their places back. Each history is its
+    /// journal with the event `Opened` added; the tellers have seen it and know of no place. The
+    /// journals themselves are copied and stay unchanged.
+    ///
+    /// Requires journals from which a hub with these settings can open (`CanOpenFrom`), as
+    /// `inst_books::can_open` checks. Cost: linear in the events and in all places.
+    ///
+    /// # Errors
+    ///
+    /// - `BadSettings` exactly if `tellers` is not 1 to 16.
+    /// - [`Memory`](Fault::Memory) if allocation fails. The settings are dropped.
     pub fn open_from(
         alloc: Global,
         settings: Settings,

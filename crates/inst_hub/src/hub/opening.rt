@@ -1,4 +1,4 @@
-//! How a hub opens, with its tellers.
+//! Opening a hub, with its tellers.
 ghost use Rattle.std.specs.Prelude.{◌≡◌, ◌⊎◌, ◌↔◌, [], Err, IfOk, IfErr, length, ◌<◌};
 ghost use Rattle.atomic_table.specs.Seated.{TableId};
 ghost use Rattle.inst_cell.specs.Opening.{MayOpen, IsOpened};
@@ -24,7 +24,7 @@ use inst_slot::Slot;
 use std::alloc::{AllocError, Global};
 use std::snapshot::Snapshot;
 
-/// A participant with no history, over its board of a hub that opens.
+/// Makes a participant with an empty history, over its board.
 fn participant(
     alloc: Global,
     settings: &Settings,
@@ -39,7 +39,7 @@ fn participant(
     Ok(Box::new(alloc, Participant { slot, board })?)
 }
 
-/// The participants of these boards, each with no history.
+/// Makes the participants of these boards, each with an empty history.
 fn participants(
     alloc: Global,
     settings: &Settings,
@@ -57,11 +57,13 @@ fn participants(
     Ok(all)
 }
 
+/// The row of a hub's locks.
 type Row = LockRow<Box<Participant>, Event, InitialState, LockLaw>;
 
+/// A seat of that row.
 type Seat = RowSeat<Box<Participant>, Event, InitialState>;
 
-/// The tellers that see so, each with a seat on the row; together they have all its parts.
+/// Makes a teller of each sight, with a seat on the row. Together the tellers have all parts.
 pub(super) fn admit(
     alloc: Global,
     row: &Row,
@@ -93,9 +95,14 @@ pub(super) fn admit(
 }
 
 impl Hub {
-    /// A hub that opens for the first time, with as many tellers as are wanted, which know of no
-    /// place, and that all histories begin empty. `BadSettings` where these are not 1 to 16,
-    /// `Memory` where there is no room.
+    /// Opens a hub for the first time, with 1 to 16 tellers.
+    ///
+    /// All histories are empty, which the tellers have seen; they know of no place.
+    ///
+    /// # Errors
+    ///
+    /// - `BadSettings` exactly if `tellers` is not 1 to 16.
+    /// - [`Memory`](Fault::Memory) if allocation fails. The settings are dropped.
     pub fn open(alloc: Global, settings: Settings, tellers: u8) -> Result<(Hub, Vec<Teller>), Fault>
         ensures settings { IfOk result (λ r. r.0.settings ≡ settings) }
         ensures tellers { IfOk result (λ r. AreFirstTellers r.0 tellers (λ p. []) r.1.items) }

@@ -1,4 +1,4 @@
-//! Sweeps of a hub: what a participant does by itself about all its transfers.
+//! Sweeps.
 ghost use Rattle.std.specs.Prelude.{◌≡◌, true};
 ghost use Rattle.inst_settings.specs.Settings.{is_participant};
 ghost use Rattle.inst_hub.specs.Calls.{IsTellerOf, TellerKnowsMore};
@@ -11,13 +11,18 @@ use std::alloc::AllocError;
 use std::sync::Wait;
 
 impl Hub {
-    /// Under the lock of the participant `who`, for which it waits: each own transfer with nothing
-    /// booked expires if it may at this reading, in order of deadline and place; each forwarded one
-    /// with nothing booked is learnt, in order of arrival; and of each other originator, by number,
-    /// the places from 0 to the first unused one are looked at, and what is new there comes. How
-    /// many of these were new, at most 2^32 - 1. Refused memory ends it: what was done before
-    /// stands, and nothing is done after it. The cost grows with the number of the live transfers
-    /// that came to the participant, and of all places in use.
+    /// Expires, learns and delivers all open work of the participant `who` at clock reading `at`,
+    /// under its lock, in the order of [`Participant::sweep`](crate::Participant::sweep). Returns
+    /// the number of events stored, at most 2^32 - 1.
+    ///
+    /// Requires a teller of this hub, and `who` below the number of participants. Blocks while
+    /// another thread holds the participant's lock. Cost: linear in its own unbooked transfers, its
+    /// live arrivals and the others' used places.
+    ///
+    /// # Errors
+    ///
+    /// [`AllocError`] if an event can't be stored; what was done before is kept, and nothing is
+    /// done after it.
     pub fn sweep<R: Wait>(
         &self,
         rt: &R,

@@ -1,4 +1,4 @@
-//! Ten openings, each from the books of the one before: no key, no outcome and no cent is lost.
+//! Ten openings, each from the books of the one before.
 ghost use Rattle.inst_model.specs.Opening.{Opening};
 ghost use Rattle.inst_hub.specs.Calls.{AreOf};
 ghost use Rattle.inst_hub.specs.Opening.{HaveAllParts};
@@ -17,11 +17,11 @@ use std::alloc::Global;
 use std::process::Abort;
 use std::sync::Wait;
 
-/// What is paid in the openings, one after the other.
+/// The identifiers of the transfers, one for each opening.
 const IDS: [&str; 10] = ["T1", "T2", "T3", "T4", "T5", "T6", "T7", "T8", "T9", "T10"];
 
-/// The books of this opening, in which participant 0 gets 1,000 cents and pays 300 of them to
-/// participant 1.
+/// Runs one opening, in which participant 0 is funded with 1,000 cents and pays 300 of them to
+/// participant 1. Returns its books.
 fn paid<R: Wait + Abort>(
     rt: &R,
     alloc: Global,
@@ -52,7 +52,7 @@ fn paid<R: Wait + Abort>(
     played.and(closed(alloc, hub, tellers))
 }
 
-/// The books of ten openings.
+/// Runs ten openings, and returns the books of the last.
 fn ten_openings<R: Wait + Abort>(rt: &R, alloc: Global) -> Result<Books, Fault> {
     let mut books = paid(rt, alloc, opened(alloc)?, IDS[0])?;
     for id in &IDS[1..] {
@@ -61,7 +61,7 @@ fn ten_openings<R: Wait + Abort>(rt: &R, alloc: Global) -> Result<Books, Fault> 
     Ok(books)
 }
 
-/// The events of a book, counted, and the cents that were funded.
+/// The numbers of events in a book, and the cents that were funded.
 #[derive(Clone, Copy, Debug, PartialEq)]
 struct BookCounts {
     opened: u32,
@@ -71,6 +71,7 @@ struct BookCounts {
     accepted: u32,
 }
 
+/// Counts the events of a book.
 fn counted(journal: &Journal) -> BookCounts {
     let mut counted = BookCounts {
         opened: 0,
@@ -97,7 +98,7 @@ fn counted(journal: &Journal) -> BookCounts {
     counted
 }
 
-/// What the originator is told, once more, of the first and the last that it paid.
+/// Investigations of the first and the last transfer.
 const FIRST_AND_LAST: [ScriptLine<'static>; 2] = [
     ScriptLine(
         0,
@@ -113,8 +114,7 @@ const FIRST_AND_LAST: [ScriptLine<'static>; 2] = [
     ),
 ];
 
-/// Compares what both participants have, what all sum to, and what the originator is told in the
-/// next opening.
+/// Compares the books of both participants, the sums, and two investigations in the next opening.
 fn loses_nothing<R: Wait + Abort>(rt: &R, alloc: Global, books: &Books) -> Result<(), Fault> {
     let originator = BookCounts {
         opened: 9,
@@ -138,6 +138,7 @@ fn loses_nothing<R: Wait + Abort>(rt: &R, alloc: Global, books: &Books) -> Resul
     played(rt, opened_again(alloc, books)?, &FIRST_AND_LAST)
 }
 
+/// Ten openings lose no identifier, no outcome and no cent.
 #[test]
 fn ten_openings_lose_nothing(rt: HostRuntime) -> Result<(), Fault> {
     let books = ten_openings(&rt, rt.alloc())?;

@@ -1,5 +1,5 @@
-//! A hub of two tellers is closed with one transfer confirmed and one pending, and another opens
-//! from its books.
+//! A hub with two tellers closes with one transfer confirmed and one pending, and the next one
+//! opens from its books.
 ghost use Rattle.std.specs.Prelude.{IfOk};
 ghost use Rattle.inst_model.specs.Opening.{Opening};
 ghost use Rattle.inst_hub.specs.Calls.{AreOf};
@@ -18,7 +18,7 @@ use std::alloc::Global;
 use std::process::Abort;
 use std::sync::Wait;
 
-/// The hub of the first opening, with two tellers.
+/// Opens the first hub, with two tellers.
 pub(crate) fn opened(alloc: Global) -> Result<(Hub, Vec<Teller>), Fault>
     ensures of { IfOk result (λ r. AreOf r.0 r.1.items) }
     ensures parts { IfOk result (λ r. HaveAllParts r.1.items) }
@@ -27,7 +27,7 @@ pub(crate) fn opened(alloc: Global) -> Result<(Hub, Vec<Teller>), Fault>
     Hub::open(alloc, settings(alloc)?, 2)
 }
 
-/// The hub of the next opening, with one teller.
+/// Opens the next hub, with one teller.
 pub(crate) fn opened_again(alloc: Global, books: &Books) -> Result<(Hub, Vec<Teller>), Fault>
     ensures of { IfOk result (λ r. AreOf r.0 r.1.items) }
     ensures parts { IfOk result (λ r. HaveAllParts r.1.items) }
@@ -36,7 +36,7 @@ pub(crate) fn opened_again(alloc: Global, books: &Books) -> Result<(Hub, Vec<Tel
     books.open_next(alloc, 1)
 }
 
-/// The books of the hub; `Memory` where there was no room.
+/// Closes the hub; `Memory` if that fails to allocate.
 pub(crate) fn closed(alloc: Global, hub: Hub, tellers: Vec<Teller>) -> Result<Books, Fault>
     requires of { AreOf hub tellers.items }
     requires parts { HaveAllParts tellers.items }
@@ -56,7 +56,7 @@ const SECOND: [ScriptLine<'static>; 1] = [ScriptLine(
     ExpectedCall::Taken(true),
 )];
 
-/// The first is confirmed.
+/// Participant 1 confirms the first.
 const CONFIRMED: [ScriptLine<'static>; 1] = [ScriptLine(
     1,
     Deed::Confirm("T1"),
@@ -64,8 +64,7 @@ const CONFIRMED: [ScriptLine<'static>; 1] = [ScriptLine(
     ExpectedCall::State(ACCEPTED, true),
 )];
 
-/// Participant 0 submits two transfers, and the first is confirmed through the second teller: the
-/// tickets of both.
+/// Submits two transfers and confirms the first, through the second teller. Returns both tickets.
 fn one_confirmed<R: Wait + Abort>(
     rt: &R,
     hub: &Hub,
@@ -82,8 +81,7 @@ fn one_confirmed<R: Wait + Abort>(
     first.zip(second).ok_or(Fault::UnknownTransfer)
 }
 
-/// The books of a hub in which one transfer was confirmed and one stayed pending, with the tickets
-/// of both.
+/// Returns the books of a hub with one transfer confirmed and one pending, and both tickets.
 fn first_books<R: Wait + Abort>(rt: &R, alloc: Global) -> Result<(Books, (Ticket, Ticket)), Fault> {
     let (hub, mut tellers) = opened(alloc)?;
     let tickets = one_confirmed(rt, &hub, &mut tellers);
@@ -94,7 +92,7 @@ fn first_books<R: Wait + Abort>(rt: &R, alloc: Global) -> Result<(Books, (Ticket
     }
 }
 
-/// The positions of three participants by number, what all sum to and the net funding, in cents.
+/// Returns the positions of three participants, their sum and the net funding, in cents.
 fn sums_of(books: &Books) -> Option<[u128; 5]> {
     if books.settings().participants() < 3 {
         return None;
@@ -108,6 +106,7 @@ fn sums_of(books: &Books) -> Option<[u128; 5]> {
     ])
 }
 
+/// The books have the outcome of the confirmed transfer, the pending one, and the right sums.
 #[test]
 fn closes_and_tells(rt: HostRuntime) -> Result<(), Fault> {
     let (books, (first, second)) = first_books(&rt, rt.alloc())?;
@@ -124,7 +123,7 @@ fn closes_and_tells(rt: HostRuntime) -> Result<(), Fault> {
     Ok(())
 }
 
-/// What was pending is confirmed.
+/// Participant 1 confirms the pending transfer.
 const CONFIRMED_LATER: [ScriptLine<'static>; 1] = [ScriptLine(
     1,
     Deed::Confirm("T2"),
@@ -132,7 +131,7 @@ const CONFIRMED_LATER: [ScriptLine<'static>; 1] = [ScriptLine(
     ExpectedCall::State(ACCEPTED, true),
 )];
 
-/// Compares what its confirmation in the next opening tells, and the books of that opening.
+/// Confirms the pending transfer in the next opening, and compares the books of that opening.
 fn moves_on<R: Wait + Abort>(rt: &R, alloc: Global, books: &Books) -> Result<(), Fault> {
     let (hub, mut tellers) = opened_again(alloc, books)?;
     let confirmed = play_by(rt, &hub, &mut tellers, 0, &CONFIRMED_LATER);
@@ -145,13 +144,14 @@ fn moves_on<R: Wait + Abort>(rt: &R, alloc: Global, books: &Books) -> Result<(),
     Ok(())
 }
 
+/// A transfer that was pending at the closing can be confirmed in the next opening.
 #[test]
 fn opens_again_from_its_books(rt: HostRuntime) -> Result<(), Fault> {
     let (books, _) = first_books(&rt, rt.alloc())?;
     moves_on(&rt, rt.alloc(), &books)
 }
 
-/// The hub of the next opening, which one with this code joins, with one teller.
+/// Opens the next hub, with one teller, and lets a participant with this code join.
 fn joined(alloc: Global, books: &Books, code: &str) -> Result<(Hub, Vec<Teller>), Fault>
     ensures { IfOk result (λ r. AreOf r.0 r.1.items) }
 {
@@ -170,13 +170,14 @@ const MONEY: [ScriptLine<'static>; 2] = [
     ScriptLine(3, Deed::Position, 1_002, ExpectedCall::Money(0, 0, 0)),
 ];
 
+/// A participant joins between two openings.
 #[test]
 fn one_joins_between_openings(rt: HostRuntime) -> Result<(), Fault> {
     let (books, _) = first_books(&rt, rt.alloc())?;
     played(&rt, joined(rt.alloc(), &books, "DDDDESMM")?, &MONEY)
 }
 
-/// Neither a code of the opening nor seventeen tellers are taken.
+/// Compares the refusals of an existing code and of seventeen tellers.
 fn refuses(rt: &impl Abort, alloc: Global, books: &Books) {
     let joined = joined(alloc, books, "AAAADEFF").err();
     let opened = books.open_next(alloc, 17).err();
@@ -184,6 +185,7 @@ fn refuses(rt: &impl Abort, alloc: Global, books: &Books) {
     same(rt, [joined, opened], [refused, refused]);
 }
 
+/// An existing code and seventeen tellers are refused.
 #[test]
 fn no_code_joins_twice(rt: HostRuntime) -> Result<(), Fault> {
     let (books, _) = first_books(&rt, rt.alloc())?;

@@ -1,4 +1,4 @@
-//! What no contract says: in which order jobs are taken, and that a call fails only where it must.
+//! The order of jobs, and full and empty desks.
 ghost use Rattle.std.specs.Prelude.{◌≡◌, IfOk};
 ghost use Rattle.inst_desk.specs.Desk.{IsHandOf, hand_parts};
 ghost use Rattle.inst_desk.specs.declared.desk.opening.TheConstants.{MOST_HANDS};
@@ -25,7 +25,7 @@ fn number_of(job: Option<Job>) -> Option<u32> {
     }
 }
 
-/// A desk of two with one hand.
+/// Opens a desk for two jobs, with one hand.
 fn open(alloc: Global) -> Result<(Desk, Hand), Fault>
     ensures { IfOk result (λ r. IsHandOf r.0 r.1 × (hand_parts r.1 ≡ MOST_HANDS)) }
 {
@@ -36,7 +36,7 @@ fn open(alloc: Global) -> Result<(Desk, Hand), Fault>
     Ok((desk, hand))
 }
 
-/// The numbers of the jobs that come back, of three that are put.
+/// Puts three jobs, and returns the numbers of those that come back.
 fn put_three<R: Wait>(rt: &R, desk: &Desk, hand: &mut Hand) -> Result<[Option<u32>; 3], Fault>
     requires { IsHandOf desk.now hand.old }
     ensures of { IfOk result (λ r. IsHandOf desk.now hand.new) }
@@ -48,7 +48,7 @@ fn put_three<R: Wait>(rt: &R, desk: &Desk, hand: &mut Hand) -> Result<[Option<u3
     Ok([number_of(first), number_of(second), number_of(third)])
 }
 
-/// The numbers of the jobs that three takes find.
+/// Takes three times, and returns the numbers of the jobs.
 fn take_three<R: Wait>(rt: &R, desk: &Desk, hand: &mut Hand) -> [Option<u32>; 3]
     requires { IsHandOf desk.now hand.old }
     ensures of { IsHandOf desk.now hand.new }
@@ -61,7 +61,7 @@ fn take_three<R: Wait>(rt: &R, desk: &Desk, hand: &mut Hand) -> [Option<u32>; 3]
     ]
 }
 
-/// What was put, taken and left, with the number of the first that is left.
+/// How many jobs were put, taken and left, and the number of the first that is left.
 type Ending = (u64, u64, usize, Option<u32>);
 
 fn numbers(tally: &Tally) -> Ending {
@@ -81,6 +81,7 @@ fn end<R: Wait>(rt: &R, alloc: Global, desk: Desk, hand: Hand) -> Result<Ending,
     Ok(numbers(&desk.finish(rt, hands)))
 }
 
+/// A desk for two jobs returns the third, and the jobs are taken in order.
 #[test]
 fn desk_of_two(rt: HostRuntime) -> Result<(), Fault> {
     let (desk, mut hand) = open(rt.alloc())?;
@@ -98,6 +99,7 @@ fn desk_of_two(rt: HostRuntime) -> Result<(), Fault> {
     Ok(())
 }
 
+/// A job that nobody took is left when the desk ends.
 #[test]
 fn desk_of_two_with_one_left(rt: HostRuntime) -> Result<(), Fault> {
     let (desk, mut hand) = open(rt.alloc())?;
@@ -111,6 +113,7 @@ fn desk_of_two_with_one_left(rt: HostRuntime) -> Result<(), Fault> {
     Ok(())
 }
 
+/// A desk opens only with 1 to 4,096 jobs and 1 to 16 hands.
 #[test]
 fn desks_that_do_not_open(rt: HostRuntime) {
     for (capacity, hands) in [(0, 1), (4_097, 1), (1, 0), (1, 17)] {
@@ -119,7 +122,7 @@ fn desks_that_do_not_open(rt: HostRuntime) {
     }
 }
 
-/// A desk of two with two hands.
+/// Opens a desk for two jobs, with two hands.
 fn open_for_two(alloc: Global) -> Result<(Desk, Hand, Hand), Fault>
     ensures { IfOk result (λ r. IsHandOf r.0 r.1 × IsHandOf r.0 r.2) }
 {
@@ -133,8 +136,8 @@ fn open_for_two(alloc: Global) -> Result<(Desk, Hand, Hand), Fault>
     Ok((desk, first, second))
 }
 
-// The first hand only puts, and the second one only takes: it gets each job, and no job comes back
-// while there is room.
+// One hand puts while the other takes: each job is taken, and a job comes back only from a full
+// desk.
 #[test]
 fn desk_of_two_hands(rt: HostRuntime) -> Result<(), Fault> {
     let (desk, mut puts, mut takes) = open_for_two(rt.alloc())?;

@@ -8,7 +8,7 @@ use inst_desk::{Desk, Hand, Job};
 use std::alloc::Global;
 use std::sync::Wait;
 
-/// Puts a job for each ask, where there is room.
+/// Puts a job for each ask, as far as the desk has capacity.
 fn put_all<R: Wait>(rt: &R, desk: &Desk, hand: &mut Hand, asks: &[Ask])
     requires { IsHandOf desk.now hand.old }
     ensures { IsHandOf desk.now hand.new }
@@ -25,7 +25,7 @@ fn put_all<R: Wait>(rt: &R, desk: &Desk, hand: &mut Hand, asks: &[Ask])
     }
 }
 
-/// A desk of two with a job for each ask, and so many hands.
+/// Opens a desk for two jobs, with a job for each ask and so many hands.
 pub(crate) fn desk<R: Wait>(
     rt: &R,
     alloc: Global,

@@ -1,4 +1,4 @@
-//! A crew keeps what it saw, and its sweeper sweeps.
+//! A crew keeps the states that it saw, and its sweeper sweeps.
 ghost use Rattle.std.specs.Prelude.{◌≡◌, ◌<◌, IfOk, length};
 ghost use Rattle.inst_desk.specs.Desk.{AreHandsOf};
 ghost use Rattle.inst_hub.specs.Calls.{IsTellerOf, AreOf};
@@ -19,7 +19,7 @@ use std::process::Abort;
 use std::sync::Wait;
 use std::thread::Threads;
 
-/// One sweep of participant 0 at 11000.
+/// Makes a sweep of participant 0 at clock reading 11000.
 fn sweep(hub: &Hub, teller: Teller) -> Result<Sweep, Fault>
     requires { IsTellerOf hub.now teller }
     ensures { IfOk result (MaySweep hub.now) }
@@ -35,13 +35,13 @@ fn sweep(hub: &Hub, teller: Teller) -> Result<Sweep, Fault>
     })
 }
 
-/// The first ticket of a crew, and what was seen of its transfer.
+/// Returns the first ticket of a crew, and the state of its transfer.
 fn first_seen(crew: &Crew) -> Result<(Ticket, State), Fault> {
     crew.states.first().copied().ok_or(Fault::UnknownTransfer)
 }
 
-/// Compares what the crew saw of its one transfer, and what the sweeper's teller sees of it after a
-/// sweep beside another crew.
+/// Compares the state that the crew saw of its transfer, and the state that the sweeper's teller
+/// sees after it swept during another crew.
 fn swept<R: Threads + Wait + Sync + Abort>(
     rt: &R,
     alloc: Global,
@@ -78,7 +78,7 @@ fn swept<R: Threads + Wait + Sync + Abort>(
     Ok(())
 }
 
-/// Compares it of a crew of one that submits one transfer.
+/// Compares the same for a crew of one that submits one transfer.
 fn submitted_and_swept<R: Threads + Wait + Sync + Abort>(
     rt: &R,
     alloc: Global,
@@ -107,7 +107,7 @@ fn submitted_and_swept<R: Threads + Wait + Sync + Abort>(
     swept(rt, alloc, hub, &desk, crew, sweep)
 }
 
-/// The same by two tellers, one of which funds the originator.
+/// Compares the same with two tellers, one of which funds the originator.
 fn funded_and_swept<R: Threads + Wait + Sync + Abort>(
     rt: &R,
     alloc: Global,
@@ -130,6 +130,7 @@ fn funded_and_swept<R: Threads + Wait + Sync + Abort>(
     submitted_and_swept(rt, alloc, hub, tellers, second)
 }
 
+/// A crew sees its transfer pending, and after a sweep it has timed out.
 #[test]
 fn crew_with_a_sweeper(rt: HostRuntime) -> Result<(), Fault> {
     let (hub, tellers) = Hub::open(rt.alloc(), settings(rt.alloc())?, 2)?;

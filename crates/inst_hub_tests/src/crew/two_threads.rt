@@ -1,5 +1,5 @@
-//! Two threads truly run at once: the one that is in the lock of participant 0 waits until the
-//! other is in that of 2.
+//! Two threads of a crew run at the same time: the one that has the lock of participant 0 waits
+//! until the other has that of participant 2.
 ghost use Rattle.std.specs.Prelude.{◌≡◌, length};
 ghost use Rattle.inst_hub.specs.Calls.{AreOf};
 
@@ -25,7 +25,7 @@ const TURNS: u32 = 1_000_000;
 struct Waits {
     /// 1 once it was passed for participant 2.
     other: AtomicU32,
-    /// 1 where that came while it waited.
+    /// 1 if that happened while it waited.
     met: AtomicU32,
 }
 
@@ -37,7 +37,7 @@ impl Waits {
         }
     }
 
-    /// Waits for the other thread: whether it came.
+    /// Waits for the other thread. Returns `true` if it came.
     fn wait(&self) -> bool {
         for _ in 0..TURNS {
             if self.other.load(Ordering::SeqCst) == 1 {
@@ -88,7 +88,7 @@ fn met<R: Threads + Wait + Sync + Abort>(
     Ok(())
 }
 
-// Two questions for positions, at a hub of its own.
+// Two threads of a crew are inside the locks of two participants at the same time.
 #[test]
 fn crew_of_two_threads(rt: HostRuntime) -> Result<(), Fault> {
     let first = asked(0, Deed::Position, 1_000)?;

@@ -11,12 +11,13 @@ use std::process::Abort;
 use std::sync::Wait;
 use std::thread::Threads;
 
-/// How many transfers there are in an opening.
+/// How many transfers an opening has.
 const TRANSFERS: u16 = 20;
 
+/// How many openings there are.
 const OPENINGS: u8 = 10;
 
-/// What the four lines of all openings are.
+/// Returns the four lines of all openings.
 fn expected(alloc: Global) -> Result<Vec<u8>, Fault> {
     let mut lines = Vec::new(alloc);
     for opening in 1..=u64::from(OPENINGS) {
@@ -29,8 +30,8 @@ fn expected(alloc: Global) -> Result<Vec<u8>, Fault> {
     Ok(lines)
 }
 
-/// Both sides have the transfer once, over 100 cents, with one outcome, and the same: whether it is
-/// accepted.
+/// Returns `true` if the transfer is accepted; `None` unless both sides have it once, over 100
+/// cents, with one outcome and the same.
 fn is_accepted(originator: TransferCounts, beneficiary: TransferCounts) -> Option<bool> {
     let accepted = originator.accepted;
     let expected = TransferCounts {
@@ -51,8 +52,7 @@ fn is_accepted(originator: TransferCounts, beneficiary: TransferCounts) -> Optio
     Some(accepted == 1)
 }
 
-/// How many transfers of an opening were accepted; `None` where the books of one aren't as they are
-/// to be.
+/// Counts the accepted transfers of an opening; `None` if the books of one are wrong.
 fn accepted_in(alloc: Global, books: &Books, opening: u32) -> Result<Option<u64>, Fault> {
     let mut accepted = 0u64;
     if books.settings().participants() < 2 {
@@ -72,8 +72,8 @@ fn accepted_in(alloc: Global, books: &Books, opening: u32) -> Result<Option<u64>
     Ok(Some(accepted))
 }
 
-/// How many transfers were accepted over all openings, and the lines that say so of each; `None`
-/// where the books of one aren't as they are to be.
+/// Counts the accepted transfers of all openings, and returns their lines; `None` if the books of
+/// one transfer are wrong.
 fn accepted_in_all(alloc: Global, books: &Books) -> Result<Option<(u64, Vec<u8>)>, Fault> {
     let mut all = 0u64;
     let mut lines = Vec::new(alloc);
@@ -89,8 +89,8 @@ fn accepted_in_all(alloc: Global, books: &Books) -> Result<Option<(u64, Vec<u8>)
     Ok(Some((all, lines)))
 }
 
-/// What the books of both sides are to be, where so much was paid: how often they were opened from,
-/// what was funded, and their positions.
+/// Returns `true` if both books have the right openings, funding and positions, given what was
+/// paid.
 fn are_of(books: &Books, paid: u64) -> bool {
     if books.settings().participants() < 2 {
         return false;
@@ -102,7 +102,7 @@ fn are_of(books: &Books, paid: u64) -> bool {
         && second.position() == u128::from(paid)
 }
 
-/// The books of ten openings, what was written, and what was told of the races.
+/// Runs the drill, and returns the books of its last opening.
 fn drilled<R: Threads + Wait + Sync>(
     rt: &R,
     alloc: Global,
@@ -120,7 +120,7 @@ fn drilled<R: Threads + Wait + Sync>(
     Ok(left.books)
 }
 
-/// What was written is `expected`, and the books have what was paid.
+/// Compares what was written, and the books with what was paid.
 fn lose_nothing(
     rt: &impl Abort,
     alloc: Global,
@@ -137,6 +137,7 @@ fn lose_nothing(
     Ok(())
 }
 
+/// Ten openings by threads lose no transfer, no outcome and no cent; some transfers time out.
 #[test]
 fn ten_openings_by_threads_lose_nothing(rt: HostRuntime) -> Result<(), DrillError> {
     let alloc = rt.alloc();
@@ -149,7 +150,7 @@ fn ten_openings_by_threads_lose_nothing(rt: HostRuntime) -> Result<(), DrillErro
     let paid = accepted.saturating_mul(100);
     lose_nothing(&rt, alloc, &books, written.as_slice(), paid)?;
     same(&rt, progress.as_slice(), lines.as_slice());
-    // Half of each opening is confirmed before its sweep begins.
+    // Half of each opening's transfers are confirmed before its sweep begins.
     let raced = accepted >= 100 && accepted < 200;
     assert_eq!(rt; raced, true);
     Ok(())

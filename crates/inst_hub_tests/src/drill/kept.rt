@@ -1,10 +1,10 @@
-//! What a book has of a transfer, by a walk over its events.
+//! What a book has of a transfer, found by a scan of its events.
 use inst_base::{Fault, Ident};
 use inst_command::Outcome;
 use inst_journal::{Event, Journal};
 use std::alloc::Global;
 
-/// How often a book has a transfer and its outcomes, and what it is over, in cents.
+/// How often a book has a transfer and its outcomes, and its amount in cents.
 #[derive(Clone, Copy, Debug, PartialEq, Eq)]
 pub(crate) struct TransferCounts {
     pub(crate) taken: u32,
@@ -15,7 +15,7 @@ pub(crate) struct TransferCounts {
 }
 
 impl TransferCounts {
-    /// With what the event tells of the transfer with this identifier.
+    /// Adds what the event says of the transfer with this identifier.
     fn with(self, event: &Event, id: &Ident) -> TransferCounts {
         let TransferCounts {
             taken,
@@ -63,8 +63,8 @@ impl TransferCounts {
     }
 }
 
-/// What the book has of the transfer of a drill with this number, which is counted over all
-/// openings from 1.
+/// Returns what the book has of the drill's transfer with this number. Numbers run through all
+/// openings, from 1.
 pub(crate) fn kept_of(
     alloc: Global,
     journal: &Journal,
@@ -85,7 +85,7 @@ pub(crate) fn kept_of(
     Ok(kept)
 }
 
-/// How often the book was opened from, and what was funded in it, in cents.
+/// Returns how often the book was opened from, and the funding in it, in cents.
 pub(crate) fn funded(journal: &Journal) -> (u32, u64) {
     let mut opened = 0u32;
     let mut funded = 0u64;

@@ -1,5 +1,4 @@
-//! A call that has one participant's lock holds up other calls of that participant, and nobody
-//! else.
+//! A call that has one participant's lock holds up other calls of that participant only.
 ghost use Rattle.inst_hub.specs.Calls.{IsTellerOf, AreOf};
 
 use crate::asking::{Deed, answer};
@@ -16,16 +15,16 @@ use std::sync::Wait;
 use std::sync::atomic::{AtomicU32, Ordering};
 use std::thread::{Threads, join, yield_now};
 
-/// How many turns a gate lets others run after all that can be done meanwhile is done.
+/// How many times the gate yields after all that can be done meanwhile is done.
 const LINGERS: u32 = 1_000;
 
 /// A gate that waits inside the lock of participant 0 until two others are done, and notes what it
 /// saw.
 #[derive(Drop)]
 struct Waits {
-    /// The gate and the three other threads are here.
+    /// The gate and the three other threads have arrived.
     begun: StartLine,
-    /// Who isn't held up is done.
+    /// The two that aren't held up are done.
     done: StartLine,
     /// Another call of participant 0 was answered.
     queued: StartLine,
@@ -33,9 +32,9 @@ struct Waits {
     passes: AtomicU32,
     /// For whom it was passed last.
     who: AtomicU32,
-    /// 1 where the two were done inside the lock.
+    /// 1 if the two were done while the lock was held.
     through: AtomicU32,
-    /// 1 where the other call of participant 0 was answered inside it.
+    /// 1 if the other call of participant 0 was answered while the lock was held.
     overtaken: AtomicU32,
 }
 
@@ -52,12 +51,13 @@ impl Waits {
         }
     }
 
-    /// Waits with the three others until all four are here.
+    /// Waits with the three others until all four have arrived.
     fn begin(&self) -> bool {
         self.begun.arrive();
         self.begun.wait_for(4)
     }
 
+    /// Returns what the gate saw.
     fn seen(&self) -> Passed {
         Passed {
             passes: self.passes.load(Ordering::SeqCst),
@@ -77,7 +77,7 @@ struct Passed {
     overtaken: bool,
 }
 
-/// What it is to see: it was passed once, and the others were answered meanwhile, but for the one
+/// What it must see: it was passed once, and the others were answered meanwhile, except the one
 /// that waits for its lock.
 const PASSED: Passed = Passed {
     passes: 1,
@@ -100,7 +100,7 @@ impl Gate for Waits {
     }
 }
 
-/// Asks the position of participant 0, with the gate passed inside its lock.
+/// Asks for the position of participant 0, with the gate passed inside its lock.
 fn held<R: Wait>(rt: &R, hub: &Hub, teller: &mut Teller, gate: &Waits) -> Result<(), Fault>
     requires { IsTellerOf hub.now teller.old }
 {
@@ -108,7 +108,7 @@ fn held<R: Wait>(rt: &R, hub: &Hub, teller: &mut Teller, gate: &Waits) -> Result
     Ok(())
 }
 
-/// Asks the position of a participant meanwhile, and says then that it was answered.
+/// Asks for the position of a participant meanwhile, and then notes that it was answered.
 fn answered<R: Wait>(
     rt: &R,
     hub: &Hub,
@@ -125,7 +125,7 @@ fn answered<R: Wait>(
     Ok(())
 }
 
-/// Peeks meanwhile.
+/// Asks for the position of participant 2 while another thread peeks.
 fn peeked(teller: &mut Teller, ticket: &Ticket, gate: &Waits) -> State {
     gate.begin();
     let state = teller.peek(ticket);
@@ -133,7 +133,8 @@ fn peeked(teller: &mut Teller, ticket: &Ticket, gate: &Waits) -> State {
     state
 }
 
-/// Participant 2 is asked while another thread peeks.
+/// Returns what is seen of the transfer while the positions of participants 0 and 2 are asked for
+/// in two other threads.
 fn apart<R: Threads + Wait + Sync>(
     rt: &R,
     hub: &Hub,
@@ -152,8 +153,8 @@ fn apart<R: Threads + Wait + Sync>(
     answered.map(|_| state)
 }
 
-/// What is seen of the transfer while participant 0 is asked by one thread, and participant 2 by
-/// another.
+/// Returns what is seen of the transfer while one thread asks for participant 0 and another for
+/// participant 2.
 fn meanwhile<R: Threads + Wait + Sync>(
     rt: &R,
     hub: &Hub,
@@ -214,6 +215,8 @@ fn lets_through<R: Threads + Wait + Sync + Abort>(
     Ok(())
 }
 
+/// While a call holds a lock, peeks and other participants' calls are answered, and no other call
+/// of that participant is.
 #[test]
 fn gate_lets_others_through(rt: HostRuntime) -> Result<(), Fault> {
     let (hub, mut tellers) = Hub::open(rt.alloc(), settings(rt.alloc())?, 4)?;

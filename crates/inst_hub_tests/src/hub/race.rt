@@ -18,16 +18,16 @@ use std::thread::{Threads, join};
 /// How many transfers are raced for.
 const TRANSFERS: u16 = 100;
 
-/// What the originator is funded with, in cents.
+/// The funding of the originator, in cents.
 const FUNDS: u64 = 20_000;
 
-/// The identifier of the transfer with this index.
+/// Returns the identifier of the transfer with this index.
 fn name(alloc: Global, index: u16) -> Result<Ident, Fault> {
     let text = format!(in alloc; "T{index}")?;
     Ident::new(text.as_str())
 }
 
-/// Participant 0 is funded, and submits all.
+/// Funds participant 0 and submits all transfers.
 fn submit_all<R: Wait>(rt: &R, alloc: Global, hub: &Hub, teller: &mut Teller) -> Result<(), Fault>
     requires { IsTellerOf hub.now teller.old }
     ensures { IsTellerOf hub.now teller.new }
@@ -41,15 +41,15 @@ fn submit_all<R: Wait>(rt: &R, alloc: Global, hub: &Hub, teller: &mut Teller) ->
     Ok(())
 }
 
-/// How many of its commands were answered accepted, and how many timed out.
+/// How many commands were answered with an acceptance, and how many with a time-out.
 #[derive(Clone, Copy, Debug, PartialEq)]
 struct Count {
     accepted: u16,
     timed_out: u16,
 }
 
-/// What becomes of each transfer, once both sides have started: the originator asks at this reading
-/// how it stands, and the beneficiary confirms it.
+/// Decides each transfer once both sides have started, and counts the outcomes. Participant 0
+/// investigates it at this clock reading; participant 1 confirms it.
 fn decide_all<R: Wait>(
     rt: &R,
     alloc: Global,
@@ -88,8 +88,7 @@ fn decide_all<R: Wait>(
     Ok(count)
 }
 
-/// Compares what both sides are answered in two threads: how many transfers are accepted and how
-/// many time out.
+/// Compares the answers of both sides in two threads: the numbers of acceptances and time-outs.
 fn race<R: Threads + Wait + Sync + Abort>(
     rt: &R,
     alloc: Global,
@@ -109,8 +108,7 @@ fn race<R: Threads + Wait + Sync + Abort>(
     confirmed
 }
 
-/// Compares what the originator and the beneficiary then have, where so many transfers were
-/// accepted.
+/// Compares the money of both sides, given the number of acceptances.
 fn have_money<R: Wait + Abort>(
     rt: &R,
     hub: &Hub,
@@ -138,8 +136,7 @@ fn have_money<R: Wait + Abort>(
     play(rt, hub, teller, &lines).map(|_| ())
 }
 
-/// All transfers are submitted, and raced for by the first two of three tellers: compares what it
-/// comes to.
+/// Submits all transfers, lets the first two of three tellers race, and compares the results.
 fn agree<R: Threads + Wait + Sync + Abort>(
     rt: &R,
     alloc: Global,
@@ -157,8 +154,7 @@ fn agree<R: Threads + Wait + Sync + Abort>(
     have_money(rt, hub, &mut third, count.accepted)
 }
 
-// Both sides are told the same of each transfer, so they count the same, and the money is where it
-// was decided to be.
+// Both sides get the same outcome of each transfer, so their counts and the money agree.
 #[test]
 fn two_threads_agree(rt: HostRuntime) -> Result<(), Fault> {
     let alloc = rt.alloc();

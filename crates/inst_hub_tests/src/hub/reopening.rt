@@ -1,5 +1,5 @@
-//! A hub that opens again from the journals of a hub in one thread, which was closed with a
-//! transfer pending.
+//! A hub that opens from the journals of a hub in one thread, which was closed with a transfer
+//! pending.
 ghost use Rattle.std.specs.Prelude.{◌≡◌, IfOk};
 ghost use Rattle.inst_model.specs.Rows as rows;
 
@@ -13,7 +13,7 @@ use std::alloc::Global;
 use std::process::Abort;
 use std::sync::Wait;
 
-/// Participant 1 gets two transfers of participant 0, and confirms the first.
+/// Participant 1 receives two transfers of participant 0, and confirms the first.
 fn one_settled() -> Result<[Step; 7], Fault>
     ensures { IfOk result (λ steps. steps ≡ rows.one_settled) }
 {
@@ -43,7 +43,7 @@ fn one_settled() -> Result<[Step; 7], Fault>
     ])
 }
 
-/// Plays the lines in the hub that opens from the books of the other one.
+/// Plays the lines in the hub that opens from those books.
 fn plays<R: Wait + Abort>(rt: &R, alloc: Global, lines: &[ScriptLine<'_>]) -> Result<(), Fault> {
     let steps = one_settled()?;
     let settings = settings(alloc)?;
@@ -51,7 +51,7 @@ fn plays<R: Wait + Abort>(rt: &R, alloc: Global, lines: &[ScriptLine<'_>]) -> Re
     played(rt, Hub::open_from(alloc, settings, &books, 1)?, lines)
 }
 
-/// The originator's money, the confirmation of what was pending, and the money afterwards.
+/// The originator's money, the confirmation of the pending transfer, and the money afterwards.
 const GOES_ON: [ScriptLine<'static>; 3] = [
     ScriptLine(
         0,
@@ -73,12 +73,13 @@ const GOES_ON: [ScriptLine<'static>; 3] = [
     ),
 ];
 
+/// A pending transfer can be confirmed in the next opening.
 #[test]
 fn what_was_pending_goes_on(rt: HostRuntime) -> Result<(), Fault> {
     plays(&rt, rt.alloc(), &GOES_ON)
 }
 
-/// An investigation of the settled transfer, which tells no ticket.
+/// An investigation of the settled transfer, which returns no ticket.
 const SETTLED: [ScriptLine<'static>; 1] = [ScriptLine(
     0,
     Deed::Investigate("T1"),
@@ -86,7 +87,7 @@ const SETTLED: [ScriptLine<'static>; 1] = [ScriptLine(
     ExpectedCall::State(ACCEPTED, false),
 )];
 
-// It has no place any more.
+// A settled transfer has no place, and so no ticket.
 #[test]
 fn what_was_settled_has_no_ticket(rt: HostRuntime) -> Result<(), Fault> {
     plays(&rt, rt.alloc(), &SETTLED)

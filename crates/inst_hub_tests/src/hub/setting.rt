@@ -1,4 +1,4 @@
-//! A transfer that is submitted.
+//! A submitted transfer.
 ghost use Rattle.inst_hub.specs.Calls.{IsTellerOf};
 
 use crate::asking::{SUBMITTED, play};
@@ -7,7 +7,7 @@ use inst_hub::{Hub, Teller, Ticket};
 use std::process::Abort;
 use std::sync::Wait;
 
-/// The teller funds participant 0, and submits a transfer of it.
+/// Funds participant 0 and submits one of its transfers, through the teller.
 pub(crate) fn submitted<R: Wait + Abort>(
     rt: &R,
     hub: &Hub,

@@ -1,4 +1,5 @@
-//! Where the threads of a test wait for one another, so that they go on at the same time.
+//! A point at which the threads of a test wait for each other, so that they continue at the same
+//! time.
 use std::sync::atomic::{AtomicU32, Ordering};
 use std::thread::yield_now;
 
@@ -17,12 +18,12 @@ impl StartLine {
         }
     }
 
-    /// Says that this thread is here.
+    /// Notes that this thread has arrived.
     pub(crate) fn arrive(&self) {
         self.arrived.fetch_add(1, Ordering::SeqCst);
     }
 
-    /// Waits until so many are here, with turns that let others run: whether they came.
+    /// Waits until so many have arrived, and yields meanwhile. Returns `true` if they came.
     pub(crate) fn wait_for(&self, threads: u32) -> bool {
         for _ in 0..TURNS {
             if self.arrived.load(Ordering::SeqCst) >= threads {
@@ -33,7 +34,7 @@ impl StartLine {
         false
     }
 
-    /// Whether so many are here already.
+    /// Returns `true` if so many have arrived.
     pub(crate) fn has(&self, threads: u32) -> bool {
         self.arrived.load(Ordering::SeqCst) >= threads
     }

@@ -1,4 +1,4 @@
-//! What sweeps count, and in which order they bring transfers.
+//! How many events sweeps store, and in which order they deliver.
 ghost use Rattle.inst_hub.specs.Calls.{IsTellerOf, AreOf};
 
 use crate::asking::{Deed, ExpectedCall, ScriptLine, answer, play};
@@ -14,9 +14,10 @@ use std::process::Abort;
 use std::sync::Wait;
 use std::thread::{Threads, join};
 
+/// The outcome of a transfer that timed out.
 const TIMED_OUT: State = State::Decided(Outcome::TimedOut);
 
-/// Investigations before the deadline and at it, and then sweeps of both sides.
+/// Investigations before the deadline and at it, then sweeps of both sides.
 const INVESTIGATED: [ScriptLine<'static>; 4] = [
     ScriptLine(
         0,
@@ -34,7 +35,7 @@ const INVESTIGATED: [ScriptLine<'static>; 4] = [
     ScriptLine(1, Deed::Sweep, 11_000, ExpectedCall::New(0)),
 ];
 
-/// Compares what they tell and count of a transfer that is submitted.
+/// Compares their answers for a submitted transfer.
 fn investigates<R: Wait + Abort>(rt: &R, hub: &Hub, teller: &mut Teller) -> Result<(), Fault>
     requires { IsTellerOf hub.now teller.old }
 {
@@ -42,7 +43,7 @@ fn investigates<R: Wait + Abort>(rt: &R, hub: &Hub, teller: &mut Teller) -> Resu
     play(rt, hub, teller, &INVESTIGATED).map(|_| ())
 }
 
-// The call has told the beneficiary, so that a sweep finds nothing.
+// The beneficiary learns the outcome that an investigation finds, so a sweep finds nothing.
 #[test]
 fn what_an_investigation_finds_is_learnt(rt: HostRuntime) -> Result<(), Fault> {
     let alloc = rt.alloc();
@@ -50,11 +51,11 @@ fn what_an_investigation_finds_is_learnt(rt: HostRuntime) -> Result<(), Fault> {
     investigates(&rt, &hub, &mut teller)
 }
 
-/// A gate that waits inside the locks of two originators until a sweep has brought what both
+/// A gate that waits inside the locks of two originators until a sweep has delivered what both
 /// submitted.
 #[derive(Drop)]
 struct Holds {
-    /// Both transfers are taken, and nobody was told of them.
+    /// Both transfers are taken, and not yet delivered.
     held: StartLine,
     /// The sweep is done.
     done: StartLine,
@@ -67,17 +68,17 @@ impl Gate for Holds {
     }
 }
 
-/// What a sweep of participant 1 counts once both transfers are held.
+/// A sweep of participant 1 while both transfers are held.
 const BROUGHT: [ScriptLine<'static>; 1] = [ScriptLine(1, Deed::Sweep, 1_000, ExpectedCall::New(2))];
 
-/// What another counts afterwards, and what is fetched.
+/// Another sweep of participant 1, and its inbox.
 const FETCHED: [ScriptLine<'static>; 2] = [
     ScriptLine(1, Deed::Sweep, 1_000, ExpectedCall::New(0)),
     ScriptLine(1, Deed::Fetch, 1_000, ExpectedCall::Came(0, 2)),
 ];
 
-/// Compares what a sweep of participant 1 counts once both are held, and what another counts and
-/// brings, in order.
+/// Compares what a sweep of participant 1 stores while both transfers are held, what another one
+/// stores, and the order of delivery.
 fn brought<R: Wait + Abort>(
     rt: &R,
     hub: &Hub,
@@ -92,7 +93,7 @@ fn brought<R: Wait + Abort>(
     first.and(play(rt, hub, teller, &FETCHED)).map(|_| ())
 }
 
-/// Submits a transfer of the participant, which its beneficiary isn't told of before the sweep is
+/// Submits a transfer of the participant, which is not delivered by its call before the sweep is
 /// done.
 fn held<R: Wait>(rt: &R, hub: &Hub, teller: &mut Teller, who: u8, gate: &Holds) -> Result<(), Fault>
     requires { IsTellerOf hub.now teller.old }
@@ -102,7 +103,7 @@ fn held<R: Wait>(rt: &R, hub: &Hub, teller: &mut Teller, who: u8, gate: &Holds) 
     Ok(())
 }
 
-/// Participants 2 and 0 submit in two threads.
+/// Submits for participants 2 and 0 in two threads.
 fn both<R: Threads + Wait + Sync>(
     rt: &R,
     hub: &Hub,
@@ -120,13 +121,13 @@ fn both<R: Threads + Wait + Sync>(
     first.and(second)
 }
 
-/// Participants 0 and 2 have money.
+/// Participants 0 and 2 are funded.
 const FUNDED: [ScriptLine<'static>; 2] = [
     ScriptLine(0, Deed::Fund("F1", 50_000), 0, ExpectedCall::Done),
     ScriptLine(2, Deed::Fund("F1", 50_000), 0, ExpectedCall::Done),
 ];
 
-/// Compares what the sweeps of the last of three tellers count and bring.
+/// Compares what the sweeps of the last of three tellers store and deliver.
 fn delivers<R: Threads + Wait + Sync + Abort>(
     rt: &R,
     hub: &Hub,
@@ -151,8 +152,8 @@ fn delivers<R: Threads + Wait + Sync + Abort>(
     submitted.and(brought)
 }
 
-// A sweep gets what a beneficiary wasn't told of yet, by the originators' numbers, and what follows
-// then brings nothing.
+// A sweep delivers what is pending, by the originators' numbers, and the follow-up then finds
+// nothing.
 #[test]
 fn sweep_delivers(rt: HostRuntime) -> Result<(), Fault> {
     let alloc = rt.alloc();
@@ -169,7 +170,7 @@ const EXPIRED: [ScriptLine<'static>; 4] = [
     ScriptLine(0, Deed::Sweep, 11_000, ExpectedCall::New(0)),
 ];
 
-/// Compares what they count, and how the transfer then stands.
+/// Compares how many events they store, and the state of the transfer afterwards.
 fn times_out<R: Wait + Abort>(rt: &R, hub: &Hub, teller: &mut Teller) -> Result<(), Fault>
     requires { IsTellerOf hub.now teller.old }
 {
@@ -179,6 +180,7 @@ fn times_out<R: Wait + Abort>(rt: &R, hub: &Hub, teller: &mut Teller) -> Result<
     Ok(())
 }
 
+/// A sweep of the originator times out a due transfer, and one of the beneficiary learns it.
 #[test]
 fn sweeps_time_out_and_learn(rt: HostRuntime) -> Result<(), Fault> {
     let alloc = rt.alloc();
@@ -186,8 +188,8 @@ fn sweeps_time_out_and_learn(rt: HostRuntime) -> Result<(), Fault> {
     times_out(&rt, &hub, &mut teller)
 }
 
-/// Three transfers, the first of which is due last, with sweeps of participant 0 before the last
-/// deadline and at it, and of participant 1.
+/// Three transfers, the first of which has the last deadline, with sweeps of participant 0 before
+/// that deadline and at it, and of participant 1.
 const DUE: [ScriptLine<'static>; 7] = [
     ScriptLine(0, Deed::Fund("F1", 50_000), 0, ExpectedCall::Done),
     ScriptLine(
@@ -213,6 +215,7 @@ const DUE: [ScriptLine<'static>; 7] = [
     ScriptLine(1, Deed::Sweep, 11_500, ExpectedCall::New(3)),
 ];
 
+/// A sweep times out exactly the transfers that are due, whatever their places.
 #[test]
 fn sweep_goes_by_deadline(rt: HostRuntime) -> Result<(), Fault> {
     let alloc = rt.alloc();

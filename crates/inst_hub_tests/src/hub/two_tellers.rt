@@ -13,7 +13,7 @@ use inst_hub::{Hub, Teller};
 use std::process::Abort;
 use std::sync::Wait;
 
-/// What participant 1 is told by the confirmation.
+/// The confirmation by participant 1.
 const CONFIRMED: [ScriptLine<'static>; 1] = [ScriptLine(
     1,
     Deed::Confirm("T1"),
@@ -21,7 +21,7 @@ const CONFIRMED: [ScriptLine<'static>; 1] = [ScriptLine(
     ExpectedCall::State(ACCEPTED, true),
 )];
 
-/// What participant 0 is told of its money then.
+/// The money of participant 0 afterwards.
 const PAID: [ScriptLine<'static>; 1] = [ScriptLine(
     0,
     Deed::Position,
@@ -29,8 +29,8 @@ const PAID: [ScriptLine<'static>; 1] = [ScriptLine(
     ExpectedCall::Money(30_000, 0, 30_000),
 )];
 
-/// What both see: the first when it has submitted, the second when it has confirmed, and the first
-/// before and after it meets the second.
+/// Returns what both see: the first after it submitted, the second after it confirmed, and the
+/// first before and after it meets the second.
 fn see<R: Wait + Abort>(
     rt: &R,
     hub: &Hub,
@@ -49,7 +49,7 @@ fn see<R: Wait + Abort>(
     Ok([submitted, seen_second, before_meeting, first.peek(&ticket)])
 }
 
-/// Compares what both see, and what participant 0 is told of its money then.
+/// Compares what both see, and the money of participant 0 afterwards.
 fn both_see<R: Wait + Abort>(rt: &R, hub: &Hub, tellers: &mut Vec<Teller>) -> Result<(), Fault>
     requires { AreOf hub.now tellers.old.items }
 {
@@ -60,6 +60,7 @@ fn both_see<R: Wait + Abort>(rt: &R, hub: &Hub, tellers: &mut Vec<Teller>) -> Re
     Ok(())
 }
 
+/// A teller sees an outcome that another teller caused, before and after they meet.
 #[test]
 fn two_tellers(rt: HostRuntime) -> Result<(), Fault> {
     let (hub, mut tellers) = Hub::open(rt.alloc(), settings(rt.alloc())?, 2)?;

@@ -1,5 +1,4 @@
-//! What no contract says: that a peek loads, that two boards of one table see the same words, and
-//! that a hub opens with so many tellers.
+//! Peeks, two boards of one table, and the numbers of tellers.
 ghost use Rattle.std.specs.Prelude.{◌≡◌, ◌≤◌, IfOk, length, slice_get, Some};
 ghost use Rattle.inst_board.specs.declared.about.About.TheVariants.{Opened};
 ghost use Rattle.inst_board.specs.declared.about.Fact.{Fact};
@@ -19,7 +18,7 @@ use inst_terms::Terms;
 use std::alloc::Global;
 use std::process::Abort;
 
-/// A hub of two with two places each.
+/// Makes settings for two participants with two places each.
 fn settings(alloc: Global, margin: u32) -> Result<Settings, Fault>
     ensures { IfOk result (λ s. (participants s ≡ 2) × (s.places ≡ 2)) }
 {
@@ -33,7 +32,7 @@ fn settings(alloc: Global, margin: u32) -> Result<Settings, Fault>
     Settings::check(codes.to_vec(alloc)?, numbers)
 }
 
-/// A transfer to the second participant.
+/// Makes the terms of a transfer to the second participant.
 fn terms() -> Result<Terms, Fault>
     ensures { IfOk result (λ t. t.to ≡ 1) }
 {
@@ -44,7 +43,7 @@ fn terms() -> Result<Terms, Fault>
     })
 }
 
-/// Both boards of a hub of two.
+/// Returns both boards of a hub with two participants.
 fn both(mut boards: Vec<SharedBoard>) -> (SharedBoard, SharedBoard)
     requires { length boards.items ≡ 2 }
     ensures { (slice_get boards.items 0 ≡ Some result.0)
@@ -58,7 +57,7 @@ fn both(mut boards: Vec<SharedBoard>) -> (SharedBoard, SharedBoard)
     (first, second)
 }
 
-/// The boards of a hub of two, and the sight of its teller.
+/// Opens the boards of a hub with two participants, and the sight of its teller.
 fn open_two(alloc: Global, settings: &Settings) -> Result<(SharedBoard, SharedBoard, Sight), Fault>
     requires { participants settings.now ≡ 2 }
     ensures settings { IfOk result (λ r. settings_of r.0 ≡ settings.now) }
@@ -84,8 +83,7 @@ fn submit(board: &mut SharedBoard, place: Place, terms: &Terms, deadline: Moment
     board.open(place, deadline);
 }
 
-/// The boards of a hub of two, where the first participant's place was opened before they were
-/// dealt.
+/// Opens a place of the first participant, then deals the boards of both.
 fn deal_two(
     alloc: Global,
     settings: &Settings,
@@ -105,7 +103,7 @@ fn deal_two(
     Ok(both(boards))
 }
 
-/// What becomes of a transfer to `who` that is pending.
+/// Decides a pending transfer to `who`, and returns the outcome, if any.
 fn answer(board: &mut SharedBoard, who: u8, place: Place, wish: Wish, at: Moment) -> Option<Outcome>
     requires { has_role board.old who }
     ensures { Stays board.old board.new }
@@ -116,7 +114,7 @@ fn answer(board: &mut SharedBoard, who: u8, place: Place, wish: Wish, at: Moment
     }
 }
 
-/// What a glance shows of a place that a look shows opened.
+/// Returns what `place_state` shows of a place that a look shows opened.
 fn glanced(board: &mut SharedBoard, place: Place) -> Option<PlaceState> {
     match board.look(place) {
         Look::Unused => None,
@@ -125,8 +123,8 @@ fn glanced(board: &mut SharedBoard, place: Place) -> Option<PlaceState> {
     }
 }
 
-/// What a caller sees before and after the beneficiary's wish at the reading, which it isn't told
-/// of, and how the transfer stands then.
+/// Returns the state that a caller peeks before and after the beneficiary decides, and the outcome
+/// of that decision.
 fn seen_over(
     first: &mut SharedBoard,
     second: &mut SharedBoard,
@@ -151,7 +149,7 @@ fn seen_over(
     Ok((before, outcome, sight.peek(&ticket)))
 }
 
-/// The same at a hub of its own.
+/// Returns the same for a hub opened for this.
 fn seen(
     alloc: Global,
     margin: u32,
@@ -163,7 +161,7 @@ fn seen(
     seen_over(&mut first, &mut second, &mut sight, wish, at)
 }
 
-/// That is what is seen.
+/// Compares the same.
 fn sees(
     rt: &(impl Abort + AllocGlobal),
     margin: u32,
@@ -175,6 +173,7 @@ fn sees(
     Ok(())
 }
 
+/// A peek shows an acceptance that no board shared with the sight.
 #[test]
 fn a_peek_loads(rt: HostRuntime) -> Result<(), Fault> {
     let wanted = (
@@ -185,6 +184,7 @@ fn a_peek_loads(rt: HostRuntime) -> Result<(), Fault> {
     sees(&rt, 0, Wish::Accept, 10_999, wanted)
 }
 
+/// A peek shows a rejection within the margin.
 #[test]
 fn a_rejection_is_seen(rt: HostRuntime) -> Result<(), Fault> {
     let reason = Reason::new("AC04")?;
@@ -196,18 +196,19 @@ fn a_rejection_is_seen(rt: HostRuntime) -> Result<(), Fault> {
     sees(&rt, 2_000, Wish::Reject(reason), 10_999, wanted)
 }
 
+/// Within the margin an acceptance leaves the transfer pending.
 #[test]
 fn nothing_is_accepted_in_the_margin(rt: HostRuntime) -> Result<(), Fault> {
     let wanted = (State::Pending, None, State::Pending);
     sees(&rt, 2_000, Wish::Accept, 9_000, wanted)
 }
 
-/// What a look and a glance show.
+/// Returns what `look` and `place_state` show.
 fn both_shown(board: &mut SharedBoard, place: Place) -> (Look, Option<PlaceState>) {
     (board.look(place), glanced(board, place))
 }
 
-/// The first board shows the transfer pending, and accepted once the second one decided so.
+/// Compares what the first board shows: pending, and accepted once the second board decided so.
 fn both_decide(
     rt: &impl Abort,
     first: &mut SharedBoard,
@@ -236,6 +237,7 @@ fn both_decide(
     Ok(())
 }
 
+/// Boards that are dealt after an opening know the opened place.
 #[test]
 fn what_was_opened_is_dealt(rt: HostRuntime) -> Result<(), Fault> {
     let place = Place { owner: 0, index: 1 };
@@ -246,13 +248,13 @@ fn what_was_opened_is_dealt(rt: HostRuntime) -> Result<(), Fault> {
     both_decide(&rt, &mut first, &mut second, place, &terms, deadline)
 }
 
-/// How many boards and sights a hub of so many tellers opens with.
+/// Returns how many boards and sights a hub with so many tellers opens with.
 fn lengths(alloc: Global, settings: &Settings, tellers: u8) -> Result<(usize, usize), Fault> {
     let (boards, sights) = SharedBoard::open(alloc, settings, tellers)?;
     Ok((boards.len(), sights.len()))
 }
 
-/// One to sixteen tellers open a hub, and no other number of them.
+/// Compares the numbers of boards and sights for several numbers of tellers.
 fn opens(rt: &(impl Abort + AllocGlobal), settings: &Settings) {
     for tellers in 0..=MOST_TELLERS + 1 {
         let wanted = if tellers == 0 || tellers > MOST_TELLERS {
@@ -264,6 +266,7 @@ fn opens(rt: &(impl Abort + AllocGlobal), settings: &Settings) {
     }
 }
 
+/// A hub opens with 1 to 16 tellers only.
 #[test]
 fn tellers_are_one_to_sixteen(rt: HostRuntime) -> Result<(), Fault> {
     let settings = settings(rt.alloc(), 0)?;

@@ -1,5 +1,5 @@
-//! What no clause says: that a take comes back, at once or when the lock is given back, with the
-//! value that was left there, and that nothing is lost where two threads take one lock in turn.
+//! A take returns, at once or when the lock is given back, with the value that was left, and
+//! nothing is lost if two threads take one lock in turn.
 ghost use Rattle.std.specs.Prelude.{◌≡◌, ℕ, ◌<◌, IfOk, List};
 ghost use mathlib.Core.List.{IsPrefix};
 ghost use Rattle.inst_row.specs.Seated.{IsOn, IsFree, Has, HasAll, view_of};
@@ -14,14 +14,14 @@ use std::test::Fail;
 use std::thread::{Threads, join, sleep};
 use std::time::{Clock, Duration};
 
-/// The book that lies behind a lock.
+/// The value behind a lock: a book of guests.
 #[derive(Drop)]
 struct Book {
     lock: u64,
     guests: Vec<u64>,
 }
 
-/// A book names its lock, and its history is its guests.
+/// The law: a book names its lock, and its history is its guests.
 struct GuestLaw;
 
 impl Lawful<Book, u64, ()> for GuestLaw {
@@ -32,7 +32,7 @@ impl Lawful<Book, u64, ()> for GuestLaw {
     ghost history = { λ x. x.guests.items };
 }
 
-/// How often each guest comes: with a quarter of it one thread was done before the other began.
+/// How often each guest comes. With a quarter of this, one thread was done before the other began.
 const VISITS: u64 = 20_000;
 
 type Row = LockRow<Book, u64, (), GuestLaw>;
@@ -48,7 +48,7 @@ fn empty_book(alloc: Global, lock: u64) -> Book
     }
 }
 
-/// A row of two books without guests.
+/// Opens a row of two books without guests.
 fn open_two(alloc: Global) -> Result<(Row, Caller), AllocError>
     ensures { IfOk result (λ r. (size r.0 ≡ 2) × IsOn (row_id r.0) (key_of r.0) r.1 × HasAll r.1) }
 {
@@ -59,8 +59,8 @@ fn open_two(alloc: Global) -> Result<(Row, Caller), AllocError>
     LockRow::open(alloc, books, &())
 }
 
-/// The guest writes itself into the book behind the lock. How many entries stood there before;
-/// `None` where memory is missing.
+/// Writes the guest into the book behind the lock. Returns how many entries were there before;
+/// `None` if allocation fails.
 fn visit<R: Wait>(rt: &R, row: &Row, seat: &mut Caller, lock: usize, guest: u64) -> Option<usize>
     requires on { IsOn (row_id row.now) (key_of row.now) seat.old }
     requires lock { lock < size row.now }
@@ -76,7 +76,7 @@ fn visit<R: Wait>(rt: &R, row: &Row, seat: &mut Caller, lock: usize, guest: u64)
     written.is_ok().then_some(before)
 }
 
-/// The guest comes again and again. Whether there was memory each time.
+/// Writes the guest again and again. Returns `true` if no allocation failed.
 fn visit_often<R: Wait>(
     rt: &R,
     row: &Row,
@@ -98,7 +98,7 @@ fn visit_often<R: Wait>(
     (seat, written)
 }
 
-/// Two guests come to the second book at the same time.
+/// Lets two guests write into the second book at the same time.
 fn visit_together<R: Threads + Wait + Sync>(
     rt: &R,
     row: &Row,
@@ -122,7 +122,7 @@ fn visit_together<R: Threads + Wait + Sync>(
     )
 }
 
-/// Keeps the lock for a while before it is given back.
+/// Keeps the lock for a while, then gives it back.
 fn give_late<R: Clock>(rt: &R, row: &Row, mut seat: Caller, lock: usize, book: Book) -> Caller
     requires on { IsOn (row_id row.now) (key_of row.now) seat }
     requires lock { lock < size row.now }
@@ -134,7 +134,7 @@ fn give_late<R: Clock>(rt: &R, row: &Row, mut seat: Caller, lock: usize, book: B
     seat
 }
 
-/// Two guests wait for the second book. How many entries each finds.
+/// Lets two guests wait for the second book. Returns how many entries each finds.
 fn wait_together<R: Threads + Wait + Sync>(
     rt: &R,
     row: &Row,
@@ -153,7 +153,8 @@ fn wait_together<R: Threads + Wait + Sync>(
     )
 }
 
-/// The first guest is at the second book while two others wait for it. What these find.
+/// Holds the second book with the first guest while two others wait for it. Returns what these
+/// find.
 fn visit_in_turn<R: Threads + Wait + Clock + Sync>(
     rt: &R,
     row: &Row,
@@ -181,7 +182,7 @@ fn visit_in_turn<R: Threads + Wait + Clock + Sync>(
     found
 }
 
-/// The books of a row that ends.
+/// Returns the books of a row that ends.
 fn books(row: Row, seat: Caller) -> (Book, Book)
     requires on { IsOn (row_id row) (key_of row) seat }
     requires all { HasAll seat }
@@ -194,7 +195,7 @@ fn books(row: Row, seat: Caller) -> (Book, Book)
     (first, second)
 }
 
-/// How many entries two guests find in the second book, and one in the first.
+/// Returns how many entries two guests find in the second book, and one in the first.
 fn visit_thrice<R: Wait>(rt: &R, row: &Row, seat: &mut Caller) -> [Option<usize>; 3]
     requires on { IsOn (row_id row.now) (key_of row.now) seat.old }
     requires two { 1 < size row.now }
@@ -210,7 +211,7 @@ fn visit_thrice<R: Wait>(rt: &R, row: &Row, seat: &mut Caller) -> [Option<usize>
     ]
 }
 
-/// Each guest found who came to that book before it, and stands there behind them.
+/// Compares that each guest found those who came to that book before, and is listed after them.
 fn stand_where_they_came(rt: &impl Abort, found: [Option<usize>; 3], first: &Book, second: &Book) {
     same(
         rt,
@@ -223,6 +224,7 @@ fn stand_where_they_came(rt: &impl Abort, found: [Option<usize>; 3], first: &Boo
     );
 }
 
+/// A lock has the value that was left there, whatever happens at the other lock.
 #[test]
 fn a_lock_has_what_was_left_behind_it(rt: HostRuntime) -> Result<(), Fail> {
     let (row, mut seat) = open_two(rt.alloc())?;
@@ -232,18 +234,19 @@ fn a_lock_has_what_was_left_behind_it(rt: HostRuntime) -> Result<(), Fail> {
     Ok(())
 }
 
-/// How often the guest stands in the book.
+/// Counts the entries of the guest in the book.
 fn visits(book: &Book, guest: u64) -> u64 {
     book.guests.iter().filter(|x| **x == guest).count() as u64
 }
 
-/// Both guests could always write, nobody stands in the first book, and each guest in the second
-/// one as often as it came.
+/// Compares that both guests could always write, that the first book is empty, and that the second
+/// has each guest as often as it came.
 fn have_all_visits(rt: &impl Abort, written: (bool, bool), first: &Book, second: &Book) {
     let found = (first.guests.len(), visits(second, 1), visits(second, 2));
     same(rt, (written, found), ((true, true), (0, VISITS, VISITS)));
 }
 
+/// Two threads that write into one value lose no entry.
 #[test]
 fn two_threads_lose_nothing(rt: HostRuntime) -> Result<(), Fail> {
     let (row, mut one) = open_two(rt.alloc())?;
@@ -255,6 +258,7 @@ fn two_threads_lose_nothing(rt: HostRuntime) -> Result<(), Fail> {
     Ok(())
 }
 
+/// Threads that wait for a lock get it once it is given back.
 #[test]
 fn who_waits_gets_on(rt: HostRuntime) -> Result<(), Fail> {
     let (row, mut one) = open_two(rt.alloc())?;

@@ -1,5 +1,5 @@
--- The names of the fields that lines have, in the order in which they are kept. Names are this
--- hub's own choice.
+-- The names of the fields of lines, in the order in which they are stored. The names are a choice
+-- of this hub.
 use Rattle.std.specs.Prelude.{ℕ, List, [], ◌∷◌, codes}
 use Rattle.std.specs.Str.{bytes_eq}
 use Rattle.std.specs.List.{position_or_len}
@@ -11,6 +11,6 @@ names =
     ∷ codes "stamp" ∷ codes "reason" ∷ codes "max" ∷ codes "skip" ∷ codes "count" ∷ codes "step"
     ∷ codes "place" ∷ []
 
--- the place of a name, or 15
+-- The index of a name, or 15.
 abbrev pub name_index : List ℕ → ℕ
 name_index name = position_or_len (bytes_eq name) names

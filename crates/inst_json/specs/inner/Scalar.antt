@@ -1,5 +1,5 @@
--- The one token of a value that opens nothing (JSON, RFC 8259), and the value that a field stands
--- for.
+-- The token of a value that is neither an array nor an object (JSON, RFC 8259), and the value of a
+-- field.
 use Rattle.std.specs.Prelude.{◌≡◌, ℕ, List, ◌∷◌, Option, Some, None, Bool, false, ◌&&◌, nat_lt}
 use Rattle.json.specs.Run.{is_plain}
 use Rattle.json.specs.Token.{Token}
@@ -10,19 +10,19 @@ use Rattle.serde_json.specs.Read.{of_json, converted}
 use Rattle.inst_json.specs.declared.scanning.fields.Field.{Field}
 use Rattle.inst_json.specs.declared.scanning.fields.Field.TheVariants as field
 
--- the token is the value d wherever a value may stand
+-- The token is the value d wherever a value may be.
 pub record IsScalar (t : Token) (d : Data) : Type 0 where
   pub denotes : (depth : ℕ) (rest : List Token) →
       converted of_json (value depth (t ∷ rest)) ≡ Some (d, rest)
   pub placed : (ls : List Lexeme) → begins_colon ls ≡ false →
       punctuate fresh (token t ∷ ls) ≡ t ∷ punctuate after_value ls
 
--- a byte of a text that stands for itself and is ASCII
+-- A byte of a text that is ASCII and needs no escape.
 abbrev pub is_text : ℕ → Bool
 is_text x = is_plain x && nat_lt x 128
 
--- a value that tells what the field does; null stands for all that is neither a text nor a whole
--- number
+-- A value with the same content as the field. Null is used for anything but a text or a whole
+-- number.
 abbrev pub data_of : Field → Option Data
 data_of field.Missing = None
 data_of (field.Text s) = Some (string s.now)

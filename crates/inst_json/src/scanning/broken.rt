@@ -1,4 +1,4 @@
-//! Places where a line is no JSON, whatever follows. They are looked at only once a line is not
+//! Errors after which a line is no JSON, whatever follows. They are checked only if a line isn't
 //! plain.
 ghost use Rattle.std.specs.Prelude.{◌≡◌, ◌-◌, ◌≤◌, ℕ, true, length, drop, slice_index, None};
 ghost use Rattle.json.specs.Text.{content, plain};
@@ -8,7 +8,7 @@ ghost use Rattle.inst_json.specs.inner.Begin.{begins_value};
 
 use crate::scanning::parts::{plain_end, skip_space, string};
 
-/// Whether a value may begin with this byte.
+/// Returns `true` if a value may begin with this byte.
 #[inline(always)]
 fn begins_value(byte: u8) -> bool
     ensures { result ≡ begins_value byte }
@@ -23,7 +23,7 @@ fn begins_value(byte: u8) -> bool
         || byte == b'n'
 }
 
-/// Whether the text that begins behind a quote breaks off: at the end of the line, or at a control
+/// Returns `true` if the text after a quotation mark ends at the end of the line, or at a control
 /// byte.
 #[inline(always)]
 fn breaks_off(text: &[u8], from: usize) -> bool
@@ -34,8 +34,8 @@ fn breaks_off(text: &[u8], from: usize) -> bool
     end >= text.len() || text[end] < 0x20
 }
 
-/// Whether neither a key nor the end of an object stands where one of them must. The end doesn't
-/// stand behind a comma.
+/// Returns `true` if neither a key nor the end of an object is where one must be. An end after a
+/// comma doesn't count.
 #[inline(never)]
 pub(crate) fn lacks_key(text: &[u8], from: usize) -> bool
     requires { from ≤ length text.now }
@@ -60,7 +60,7 @@ pub(crate) fn lacks_key(text: &[u8], from: usize) -> bool
     at >= text.len() || text[at] != b':'
 }
 
-/// Whether no value stands where one must. Of most words and numbers it tells nothing.
+/// Returns `true` if no value is where one must be. Most words and numbers aren't checked.
 #[inline(never)]
 pub(crate) fn lacks_value(text: &[u8], from: usize) -> bool
     requires { from ≤ length text.now }

@@ -1,9 +1,9 @@
-//! What a line has under the names that lines know.
+//! The fields of a scanned line.
 ghost use Rattle.std.specs.Prelude.{◌≡◌, set};
 ghost use Rattle.inst_json.specs.inner.Names.{name_index};
 ghost use Rattle.inst_json.specs.LineFields.{fields_in_order, no_fields};
 
-/// What a line has under one name.
+/// The value of a line under one name.
 #[derive(Clone, Copy, Drop)]
 pub enum Field<'a> {
     Missing,
@@ -11,11 +11,11 @@ pub enum Field<'a> {
     Text(&'a str),
     /// A whole number of 64 bits.
     Whole(u64),
-    /// Neither a text nor a whole number of 64 bits.
+    /// Anything else: neither a text nor a whole number of 64 bits.
     Other,
 }
 
-/// What a line has under each name that lines know; other names are let go.
+/// The values of a line under the names that lines know. Other names are dropped.
 #[derive(Clone, Copy, Drop)]
 pub struct Fields<'a> {
     pub cmd: Field<'a>,
@@ -36,7 +36,7 @@ pub struct Fields<'a> {
 }
 
 impl<'a> Fields<'a> {
-    /// No field.
+    /// Returns fields that are all missing.
     #[inline(always)]
     pub fn new() -> Fields<'a>
         ensures { fields_in_order result ≡ no_fields }
@@ -60,7 +60,7 @@ impl<'a> Fields<'a> {
         }
     }
 
-    /// Puts what stands under a name into its field, where there is one.
+    /// Sets the field of this name, if lines know it.
     #[inline(always)]
     pub(crate) fn put(&mut self, name: &str, field: Field<'a>)
         ensures { fields_in_order self.new

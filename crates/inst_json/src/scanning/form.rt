@@ -1,12 +1,12 @@
-//! How a line is to be read.
+//! The form of a scanned line.
 
-/// What one pass over a line says of its form.
+/// The form of a line as one pass over it finds it.
 #[derive(Clone, Copy, Drop)]
 pub enum Form {
     /// A flat object of plain texts and whole numbers.
     Plain,
-    /// No JSON text.
+    /// Not JSON.
     Broken,
-    /// To be read in another way: it may be a JSON text or none.
+    /// To be read as a JSON value; it may be JSON or not.
     Other,
 }

@@ -1,4 +1,4 @@
-//! A member of an object: its key, and its value.
+//! Scanning a member of an object: its key, and its value.
 ghost use Rattle.std.specs.Prelude.{◌≡◌, ◌<◌, ◌≤◌, ◌∷◌, length, drop, Some, IfSome};
 ghost use Rattle.std.specs.Str.{IsAscii};
 ghost use Rattle.json.specs.Token.{Token, string};
@@ -9,7 +9,7 @@ ghost use Rattle.inst_json.specs.inner.Scalar.{IsScalar, data_of};
 use crate::scanning::fields::Field;
 use crate::scanning::parts::{skip_space, string, whole};
 
-/// The key of a member and the place behind its colon.
+/// Returns the key of a member, and the position after its colon.
 #[inline(always)]
 pub(crate) fn key(text: &[u8], from: usize) -> Option<(&str, usize)>
     requires { from ≤ length text.now }
@@ -31,7 +31,7 @@ pub(crate) fn key(text: &[u8], from: usize) -> Option<(&str, usize)>
     Some((name, at + 1))
 }
 
-/// The value of a member and the place behind it.
+/// Returns the value of a member, and the position after it.
 #[inline(always)]
 pub(crate) fn scalar(text: &[u8], from: usize) -> Option<(Field<'_>, usize)>
     requires { from ≤ length text.now }

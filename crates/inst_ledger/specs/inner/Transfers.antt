@@ -1,2 +1,2 @@
--- When two keys, each of an originator and an identifier, are of the same transfer.
+-- Equality of keys, each of an originator and an identifier.
 pub use Rattle.inst_transfers.specs.State.{same_key}

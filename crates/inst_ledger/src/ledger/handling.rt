@@ -1,4 +1,5 @@
-//! What a command is answered, and what the history is to keep of it.
+//! Replies to commands, and the event to append for each: [`Ledger::handle`] and the steps it is
+//! made of.
 ghost use Rattle.std.specs.Prelude.{◌≡◌, ◌≤◌, true, false, take, drop, length, IfOk, IsOk};
 ghost use Rattle.inst_base.specs.TimeLimit.{deadline_of};
 ghost use Rattle.inst_base.specs.Fault.{IsUnlessMemory};
@@ -25,7 +26,8 @@ use inst_transfers::{Side, Transfer};
 use std::alloc::{AllocError, Global};
 
 impl Ledger {
-    /// Whether a fund or defund command is new, and no repeat; `Duplicate` and `Full` come first.
+    /// Returns `true` if a fund or defund command is new, `false` if it is a repeat; else
+    /// `Duplicate` or `Full`.
     fn is_new_funding(&self, is_defunding: bool, funding: &Funding) -> Result<bool, Fault>
         ensures { result ≡ is_new_funding self.now.book.settings self.now.book.events
             funding.now.reference
@@ -43,8 +45,8 @@ impl Ledger {
         Ok(true)
     }
 
-    /// Raises the net funding, or lowers it: refused by `Duplicate` and `Full`, and a defunding by
-    /// `Shortage` above what is available.
+    /// Answers a fund or defund command: `Duplicate`, `Full`, then `Shortage` for a new defunding
+    /// above the available amount.
     fn change_funding(&self, is_defunding: bool, funding: &Funding) -> Result<Handled, Fault>
         ensures { result ≡ handle_funding is_defunding self.now.book.settings self.now.book.events
             funding.now }
@@ -63,9 +65,23 @@ impl Ledger {
         })
     }
 
-    /// Whether a submission with this deadline is new, and no repeat. Refused, in this order, by
-    /// `SelfTransfer`, `Duplicate`, `StampAhead`, `Expired`, `Full` and `Shortage`. It looks once
-    /// at the table.
+    /// Returns `true` if a submission with this deadline is new, `false` if it is a repeat.
+    ///
+    /// The result determines the reply of [`handle`](Ledger::handle) to the submission. Cost: one
+    /// hash look-up.
+    ///
+    /// Requires a submission that fits the settings, and its deadline: time stamp plus limit.
+    ///
+    /// # Errors
+    ///
+    /// The first of these that applies, in this order; nothing changes:
+    ///
+    /// - `SelfTransfer`: the beneficiary is the originator.
+    /// - `Duplicate`: the identifier is taken by another submission.
+    /// - `StampAhead`: the time stamp is further ahead of the clock reading than tolerated.
+    /// - `Expired`: the deadline is due.
+    /// - `Full`: all places of the originator are in use.
+    /// - `Shortage`: the amount exceeds the available amount.
     pub fn is_new_submission(
         &self,
         at: Moment,
@@ -114,7 +130,7 @@ impl Ledger {
         Ok(true)
     }
 
-    /// Reserves the amount, refused as `is_new_submission` is.
+    /// Answers a submission; refuses it as [`is_new_submission`](Ledger::is_new_submission) does.
     fn submit(&self, at: Moment, submission: &Submission) -> Result<Handled, Fault>
         requires { command_fits self.now.book.settings (Command.Submit submission.now) ≡ true }
         ensures { result ≡ submit self.now.book.settings self.now.book.who self.now.book.events at
@@ -140,8 +156,8 @@ impl Ledger {
         })
     }
 
-    /// Books what is found of a forwarded transfer, and answers `pending` where it is pending.
-    /// Refused by `UnknownTransfer` where it wasn't forwarded.
+    /// Answers a beneficiary about a forwarded transfer: books the outcome found, or replies
+    /// `pending`. Refuses a transfer that wasn't forwarded as `UnknownTransfer`.
     fn answer_forwarded(
         &self,
         from: u8,
@@ -159,22 +175,23 @@ impl Ledger {
         standing(from, id, pending, booked, found)
     }
 
-    /// Books what is found of a forwarded transfer. A confirmation that leaves it pending was read
-    /// in the margin before the deadline: it is refused as `Expired`.
+    /// Answers a confirmation. One that leaves the transfer pending came within the margin before
+    /// the deadline, and is refused as `Expired`.
     fn confirm(&self, from: u8, id: Ident, found: Option<Outcome>) -> Result<Handled, Fault>
         ensures { result ≡ confirm self.now.book.events from id found }
     {
         self.answer_forwarded(from, id, Err(Fault::Expired), found)
     }
 
-    /// Books what is found of a forwarded transfer.
+    /// Answers a rejection by booking the outcome found.
     fn reject(&self, from: u8, id: Ident, found: Option<Outcome>) -> Result<Handled, Fault>
         ensures { result ≡ reject self.now.book.events from id found }
     {
         self.answer_forwarded(from, id, still_pending(from, id), found)
     }
 
-    /// Books what is found of a taken transfer, or answers `UnknownTransfer` where it wasn't taken.
+    /// Answers an investigation by booking the outcome found; `UnknownTransfer` if it wasn't
+    /// submitted.
     fn investigate(&self, id: Ident, found: Option<Outcome>) -> Result<Handled, Fault>
         ensures { result ≡ investigate self.now.book.who self.now.book.events id found }
     {
@@ -187,8 +204,7 @@ impl Ledger {
         standing(who, id, still_pending(who, id), booked, found)
     }
 
-    /// The position, what of it is reserved, and what is available, in cents: what `handle` answers
-    /// to `Position`.
+    /// Returns the reply to `Position`: the position, reserved and available amounts, in cents.
     pub fn position_reply(&self) -> Reply
         ensures { result ≡ Reply.Position
             (position self.now.book.events) (reserved self.now.book.events)
@@ -201,7 +217,7 @@ impl Ledger {
         }
     }
 
-    /// Where the table has the forwarded transfers that weren't handed out yet.
+    /// Returns the positions in the table of the forwarded transfers that weren't fetched yet.
     fn rest(&self) -> &[usize]
         ensures came { entries_at (rows_of self.now.book.who self.now.book.events) result.now
             ≡ unread self.now.book.events }
@@ -211,15 +227,14 @@ impl Ledger {
         after(self.inbox.as_slice(), self.read)
     }
 
-    /// How many forwarded transfers weren't handed out yet.
+    /// Returns the number of forwarded transfers that weren't fetched yet.
     pub fn unread_count(&self) -> usize
         ensures { result ≡ length (unread self.now.book.events) }
     {
         self.rest().len()
     }
 
-    /// What came with the transfers at these positions of the table. It looks nothing up by its
-    /// key.
+    /// Returns the entries of the transfers at these positions of the table, without hashing.
     fn entries(&self, alloc: Global, positions: &[usize]) -> Result<Vec<Entry>, AllocError>
         requires within { AreWithin (length (rows_of self.now.book.who self.now.book.events))
             positions.now }
@@ -233,8 +248,8 @@ impl Ledger {
         Ok(entries)
     }
 
-    /// The next unread forwarded transfers, at most `max` of them. It takes no memory where all are
-    /// read.
+    /// Returns the next unread forwarded transfers, at most `max`. Allocates only if there are
+    /// some.
     fn unread(&self, alloc: Global, max: u32) -> Result<Vec<Entry>, AllocError>
         ensures ok { IfOk result (λ entries.
             entries.items ≡ take max (unread self.now.book.events)) }
@@ -247,8 +262,8 @@ impl Ledger {
         self.entries(alloc, &rest[..rest.len().min(max as usize)])
     }
 
-    /// Hands out the next unread forwarded transfers, at most `max` of them. `Memory` only where
-    /// there are some.
+    /// Answers a fetch with the next unread forwarded transfers, at most `max`. Fails with `Memory`
+    /// only if there are some.
     fn fetch(&self, alloc: Global, max: u32) -> Result<Handled, Fault>
         requires { is_count max ≡ true }
         ensures reply { IsUnlessMemory result (hand_out (take max (unread self.now.book.events))) }
@@ -271,11 +286,13 @@ impl Ledger {
     }
 
     /// Returns at most `count` lines of the statement since the last opening, after the first
-    /// `skip`. It costs the lines that it returns.
+    /// `skip`.
+    ///
+    /// Cost: linear in the lines returned.
     ///
     /// # Errors
     ///
-    /// Returns `AllocError` if memory is refused.
+    /// [`AllocError`] if the lines can't be allocated.
     pub fn statement(&self, alloc: Global, skip: u64, count: u32) -> Result<Lines, AllocError>
         ensures { IfOk result (λ lines. lines ≡ statement_part self.now.book.events skip count) }
     {
@@ -283,7 +300,7 @@ impl Ledger {
         Ok(Lines::new(self.statement.part(alloc, events, skip, count)?))
     }
 
-    /// Answers a question for statement lines, or `Memory`.
+    /// Answers a query for statement lines; may fail with `Memory`.
     fn answer_statement(&self, alloc: Global, skip: u64, count: u32) -> Result<Handled, Fault>
         ensures { IsUnlessMemory result
             (reply_without_event
@@ -296,7 +313,7 @@ impl Ledger {
         })
     }
 
-    /// What a command is answered, and the event that is to be kept of it.
+    /// Returns the reply to a command, and the event to append for it.
     fn answer(
         &self,
         alloc: Global,
@@ -327,11 +344,17 @@ impl Ledger {
         }
     }
 
-    /// What a command, read at `at`, is answered, and the event that is to be kept of it, where its
-    /// transfer is found to have the outcome `found`. Refused by the first of `SelfTransfer` to
-    /// `Shortage` that holds; only a statement, and a fetch where something is unread, may answer
-    /// `Memory`. A look at a key is one look at a hash table; a statement and a fetch copy what
-    /// they give.
+    /// Returns the reply to a command at clock reading `at`, and the event to append for it.
+    /// Changes nothing.
+    ///
+    /// `found` is the outcome that the transfer of the command has on the board, if it has one; it
+    /// isn't checked. Requires `command.fits(settings)`. Cost: one hash look-up for each key; a
+    /// statement and a fetch also copy what they return.
+    ///
+    /// # Errors
+    ///
+    /// The first fault that applies, in the order of [`Fault`] from `SelfTransfer` to `Shortage`.
+    /// Only a statement, and a fetch with something unread, may fail with `Memory`.
     pub fn handle(
         &self,
         alloc: Global,
@@ -349,7 +372,7 @@ impl Ledger {
     }
 }
 
-/// The positions after this many of them.
+/// Returns the positions after the first `read`.
 fn after(positions: &[usize], read: usize) -> &[usize]
     requires { read ≤ length positions.now }
     ensures { result.now ≡ drop read positions.now }

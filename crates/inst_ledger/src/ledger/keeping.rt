@@ -1,4 +1,4 @@
-//! Events that are kept, with all that stands beside them.
+//! Appending events: [`Ledger::keep`] and its forms for one kind of event each.
 ghost use Rattle.std.specs.Prelude.{◌≡◌, ◌<◌, false, OnOk, OnErr, IsOk};
 ghost use Rattle.inst_journal.specs.Sound.{Fits};
 ghost use Rattle.inst_ledger.specs.inner.Beside.{funding_event, funding_movement, movement_booked};
@@ -17,7 +17,7 @@ use inst_transfers::{Found, Side, Transfer};
 use std::alloc::AllocError;
 
 impl Ledger {
-    /// Keeps a fund or defund command.
+    /// Appends a fund or defund command.
     fn keep_funding(&mut self, is_defunding: bool, funding: Funding) -> Result<(), AllocError>
         requires { Fits self.old.book.settings self.old.book.who self.old.book.events
             (funding_event is_defunding funding) }
@@ -43,7 +43,11 @@ impl Ledger {
         Ok(())
     }
 
-    /// Makes room for one more transfer: for its event, and in the table. The book stays as it is.
+    /// Reserves capacity for one more transfer: its event and its row in the table.
+    ///
+    /// # Errors
+    ///
+    /// [`AllocError`] if it can't be allocated; only the capacity may have changed.
     pub fn make_room_for_transfer(&mut self) -> Result<(), AllocError>
         ensures book { self.new.book ≡ self.old.book }
         ensures room { OnOk result ((0 < self.new.room) × (0 < self.new.table.room)) }
@@ -52,7 +56,11 @@ impl Ledger {
         self.table.reserve()
     }
 
-    /// Keeps a submission, and reserves its amount, in room that was made. It takes no memory.
+    /// Appends a submission and reserves its amount; allocates nothing.
+    ///
+    /// Requires an event that fits the history, as after
+    /// [`is_new_submission`](Ledger::is_new_submission), and the capacity of
+    /// [`make_room_for_transfer`](Ledger::make_room_for_transfer).
     pub fn keep_taken(&mut self, id: Ident, sending: Sending)
         requires room { (0 < self.old.room) × (0 < self.old.table.room) }
         requires fits { Fits self.old.book.settings self.old.book.who self.old.book.events
@@ -72,8 +80,12 @@ impl Ledger {
         self.table.take(id, to, cents, stamp);
     }
 
-    /// Keeps a transfer that is forwarded to the participant. Where memory is refused all is as it
-    /// was.
+    /// Appends a transfer that is forwarded to the participant. Requires an event that fits the
+    /// history.
+    ///
+    /// # Errors
+    ///
+    /// [`AllocError`] if the event or its row can't be stored; the book is unchanged.
     pub fn keep_forwarded(&mut self, entry: Entry) -> Result<(), AllocError>
         requires { Fits self.old.book.settings self.old.book.who self.old.book.events
             (Event.Forwarded entry.from entry.id entry.cents entry.deadline) }
@@ -94,7 +106,7 @@ impl Ledger {
             cents,
             deadline,
         };
-        // That an amount is within the most is known where it is read.
+        // Reading the amount makes it known to the prover that it is within the maximum.
         let _ = cents.get();
         let position = self.table.len();
         self.journal.reserve()?;
@@ -106,7 +118,7 @@ impl Ledger {
         Ok(())
     }
 
-    /// Books the outcome of a transfer, and releases and moves its amount.
+    /// Books the outcome of a transfer that is looked up.
     fn keep_booked(&mut self, from: u8, id: Ident, outcome: &Outcome) -> Result<(), AllocError>
         requires { Fits self.old.book.settings self.old.book.who self.old.book.events
             (Event.Booked from id outcome.now) }
@@ -120,8 +132,15 @@ impl Ledger {
         self.keep_found(&found, outcome)
     }
 
-    /// Books the outcome of a transfer that was found, and releases and moves its amount. It looks
-    /// nothing up.
+    /// Books the outcome of a transfer that was found. An own transfer's amount is released; an
+    /// accepted one's is moved.
+    ///
+    /// Looks nothing up. Allocates nothing if capacity was reserved. Requires a row of this
+    /// ledger's table, and an event that fits the history.
+    ///
+    /// # Errors
+    ///
+    /// [`AllocError`] if the event or its statement line can't be stored; the book is unchanged.
     pub fn keep_found(&mut self, found: &Found, outcome: &Outcome) -> Result<(), AllocError>
         requires there { IsFound self.old.table found.now }
         requires fits { Fits self.old.book.settings self.old.book.who self.old.book.events
@@ -144,7 +163,7 @@ impl Ledger {
             outcome: *outcome,
         };
         let index = self.journal.events().len() as u32;
-        // That an amount is within the most is known where it is read.
+        // Reading the amount makes it known to the prover that it is within the maximum.
         let _ = transfer.cents.get();
         self.statement.reserve()?;
         self.journal.push(event)?;
@@ -157,7 +176,7 @@ impl Ledger {
         Ok(())
     }
 
-    /// Moves the read mark over what is handed out.
+    /// Appends a fetch, and moves the read mark.
     fn keep_fetched(&mut self, count: u32) -> Result<(), AllocError>
         requires { Fits self.old.book.settings self.old.book.who self.old.book.events
             (Event.Fetched count) }
@@ -171,7 +190,8 @@ impl Ledger {
         Ok(())
     }
 
-    /// Begins anew after an opening: what is booked lives no more, and the fundings are given back.
+    /// Appends an opening: settled transfers are no longer live, and the count of fundings starts
+    /// again.
     fn keep_opened(&mut self) -> Result<(), AllocError>
         requires { Fits self.old.book.settings self.old.book.who self.old.book.events Event.Opened }
         ensures ok { OnOk result (self.new.book ≡ ledger_with_event self.old.book Event.Opened) }
@@ -185,9 +205,15 @@ impl Ledger {
         Ok(())
     }
 
-    /// Keeps an event that fits. Where memory is refused the book is as it was. Where room was
-    /// reserved it succeeds for an event that brings no new key; for one that does, room is made
-    /// for all of it first.
+    /// Appends an event. Requires one that fits the history, as that of [`handle`](Ledger::handle)
+    /// does.
+    ///
+    /// Allocates nothing for a booking, a fetch or an opening if capacity was reserved. For other
+    /// events all capacity is reserved before anything changes.
+    ///
+    /// # Errors
+    ///
+    /// [`AllocError`] if the event can't be stored; the book is unchanged.
     pub fn keep(&mut self, event: Event) -> Result<(), AllocError>
         requires { Fits self.old.book.settings self.old.book.who self.old.book.events event }
         ensures ok { OnOk result (self.new.book ≡ ledger_with_event self.old.book event) }
@@ -225,7 +251,7 @@ impl Ledger {
     }
 }
 
-/// What a booked transfer moves, where it is accepted.
+/// Returns the movement of a booked transfer if it was accepted.
 fn movement_booked(from: u8, transfer: &Transfer, outcome: &Outcome) -> Option<Movement>
     ensures { result ≡ movement_booked from transfer.now outcome.now }
 {
@@ -247,8 +273,7 @@ fn movement_booked(from: u8, transfer: &Transfer, outcome: &Outcome) -> Option<M
     })
 }
 
-/// Adds the line of what was moved, if anything was, by the event of this index, in room that was
-/// made.
+/// Adds the statement line of a movement, if there is one. The capacity is reserved.
 fn add_line(statement: &mut KeptStatement, event: u32, movement: Option<Movement>)
     requires { MayAddIf statement.old movement }
     ensures { AddsIf statement.old event movement statement.new }
@@ -258,7 +283,7 @@ fn add_line(statement: &mut KeptStatement, event: u32, movement: Option<Movement
     }
 }
 
-/// The event of a fund or defund command.
+/// Returns the event of a fund or defund command.
 pub(super) fn funding_event(is_defunding: bool, funding: Funding) -> Event
     ensures { result ≡ funding_event is_defunding funding }
 {
@@ -269,7 +294,7 @@ pub(super) fn funding_event(is_defunding: bool, funding: Funding) -> Event
     }
 }
 
-/// What a fund or defund command moves.
+/// Returns the movement of a fund or defund command.
 fn funding_movement(is_defunding: bool, cents: Cents) -> Movement
     ensures { result ≡ funding_movement is_defunding cents }
 {

@@ -1,4 +1,4 @@
-//! What a participant's history has, read off what stands beside it.
+//! Lookups in a ledger's tables and totals. None of them scans events.
 ghost use Rattle.std.specs.Prelude.{◌≡◌, ℕ, ◌<◌, ◌^◌, length, slice_get, Some, None, IfSome};
 ghost use Rattle.std.specs.Prelude.{IfNone};
 ghost use Rattle.inst_settings.specs.Lawful.{IsSettings};
@@ -28,7 +28,7 @@ use inst_settings::Settings;
 use inst_transfers::{Found, Side, Transfer};
 
 impl Ledger {
-    /// The hub's settings.
+    /// Returns the hub's settings.
     pub fn settings(&self) -> &Settings
         ensures value { result.now ≡ self.now.book.settings }
         ensures lawful { IsSettings self.now.book.settings }
@@ -37,14 +37,15 @@ impl Ledger {
         &self.settings
     }
 
-    /// The participant's number.
+    /// Returns the participant's number.
     pub fn who(&self) -> u8
         ensures { result ≡ self.now.book.who }
     {
         self.who
     }
 
-    /// Looks a transfer up in the table: the one look that a step takes.
+    /// Returns the transfer of originator `from` with identifier `id`, or `None`. Cost: one hash
+    /// look-up.
     pub fn find(&self, from: u8, id: &Ident) -> Option<Found>
         ensures found { IsLookedUp self.now.table from id.now result }
         ensures right { IsRight self.now.book.who self.now.book.events (state_in self.now.table) }
@@ -53,7 +54,7 @@ impl Ledger {
         self.table.find(from, id)
     }
 
-    /// The transfer that stands at this position of the table. It looks nothing up by its key.
+    /// Returns the transfer at this position of the table, without hashing.
     pub fn at(&self, position: usize) -> Option<Found>
         ensures found { FindsAt self.now.table position result }
         ensures right { IsRight self.now.book.who self.now.book.events (state_in self.now.table) }
@@ -61,7 +62,7 @@ impl Ledger {
         self.table.at(position)
     }
 
-    /// How many transfers the table has: the next one stands at this position.
+    /// Returns the number of transfers in the table, which is the position of the next one.
     pub fn transfers(&self) -> usize
         ensures count { result ≡ length self.now.table.entries }
         ensures apart { AreApart (rows_in self.now.table.entries) }
@@ -70,7 +71,7 @@ impl Ledger {
         self.table.len()
     }
 
-    /// What the history says of this transfer.
+    /// Returns the transfer with this key, without its position.
     pub(crate) fn transfer(&self, from: u8, id: &Ident) -> Option<Transfer>
         ensures found { result ≡ found_at self.now.table.entries (from, id.now) }
         ensures right { IsRight self.now.book.who self.now.book.events (state_in self.now.table) }
@@ -79,7 +80,7 @@ impl Ledger {
         Some(found.transfer)
     }
 
-    /// The participant's own live transfer at this place. It looks nothing up by its key.
+    /// Returns the participant's own live transfer at this place, without hashing.
     pub fn own_found(&self, index: u16) -> Option<Found>
         ensures none { IfNone result
             (slice_get (own_ids self.now.book.who self.now.book.events) index ≡ None) }
@@ -93,7 +94,8 @@ impl Ledger {
         self.table.own_at(index)
     }
 
-    /// The index of the place of the participant's own live transfer with this identifier.
+    /// Returns the index of the place of the participant's own live transfer with this identifier;
+    /// `None` if there is none.
     pub fn own_index(&self, id: &Ident) -> Option<u16>
         ensures at { (k : ℕ) →
             slice_get (own_ids self.now.book.who self.now.book.events) k ≡ Some id.now →
@@ -107,8 +109,10 @@ impl Ledger {
         Some(index as u16)
     }
 
-    /// The index of the place of the participant's own transfer that was found, where it is live.
-    /// It looks nothing up by its key.
+    /// Returns the index of the place of the participant's own transfer that was found; `None` if
+    /// it isn't live.
+    ///
+    /// Requires a row of this ledger's table, of an own transfer. Doesn't hash.
     pub fn found_index(&self, found: &Found) -> Option<u16>
         requires there { IsFound self.now.table found.now }
         requires own { found.now.from ≡ self.now.book.who }
@@ -122,35 +126,35 @@ impl Ledger {
         Some(index as u16)
     }
 
-    /// What was sent with the taken submission of this identifier.
+    /// Returns the details of the taken submission with this identifier.
     pub fn sending(&self, id: &Ident) -> Option<Sending>
         ensures { result ≡ first_some (sending_of id.now) self.now.book.events }
     {
         sending_in(&self.transfer(self.who, id))
     }
 
-    /// What came with this transfer, where it was forwarded.
+    /// Returns the details of a transfer that was forwarded to the participant.
     pub fn forwarding(&self, from: u8, id: &Ident) -> Option<Forwarding>
         ensures { result ≡ first_some (forwarding_of (from, id.now)) self.now.book.events }
     {
         forwarding_in(&self.transfer(from, id))
     }
 
-    /// The funding with this reference.
+    /// Returns the funding with this reference.
     fn funding(&self, reference: &Ident) -> Option<KeptFunding>
         ensures { result ≡ first_some (funding_of reference.now) self.now.book.events }
     {
         self.references.get(reference)
     }
 
-    /// Whether a submission with this identifier is taken.
+    /// Returns `true` if a submission with this identifier was taken.
     pub fn is_taken(&self, id: &Ident) -> bool
         ensures { result ≡ is_taken id.now self.now.book.events }
     {
         self.sending(id).is_some()
     }
 
-    /// The beneficiary of the taken submission with this identifier.
+    /// Returns the beneficiary of the taken submission with this identifier.
     pub fn beneficiary_of(&self, id: &Ident) -> Option<u8>
         ensures { result ≡ beneficiary_of id.now self.now.book.events }
     {
@@ -158,28 +162,28 @@ impl Ledger {
         Some(sending.to)
     }
 
-    /// Whether this transfer was forwarded to the participant.
+    /// Returns `true` if this transfer was forwarded to the participant.
     pub fn is_forwarded(&self, from: u8, id: &Ident) -> bool
         ensures { result ≡ is_forwarded from id.now self.now.book.events }
     {
         self.forwarding(from, id).is_some()
     }
 
-    /// The outcome that the participant has booked for this transfer.
+    /// Returns the outcome that the participant has booked for this transfer.
     pub fn booked(&self, from: u8, id: &Ident) -> Option<Outcome>
         ensures { result ≡ booked from id.now self.now.book.events }
     {
         outcome_in(&self.transfer(from, id))
     }
 
-    /// Whether a funding reference is kept.
+    /// Returns `true` if a fund or defund command with this reference was kept.
     pub fn has_reference(&self, reference: &Ident) -> bool
         ensures { result ≡ has_reference reference.now self.now.book.events }
     {
         self.funding(reference).is_some()
     }
 
-    /// Whether this very funding, or this very defunding, is kept.
+    /// Returns `true` if this funding, of this kind and amount, was kept.
     pub(crate) fn is_funding_repeat(&self, is_defunding: bool, funding: &Funding) -> bool
         ensures { result ≡ is_funding_repeat is_defunding funding.now self.now.book.events }
     {
@@ -187,21 +191,21 @@ impl Ledger {
         is_funding_of(is_defunding, funding.cents, kept)
     }
 
-    /// How many of the participant's own transfers are live.
+    /// Returns the number of the participant's own live transfers.
     pub fn live_submissions(&self) -> usize
         ensures { result ≡ live_submissions self.now.book.who self.now.book.events }
     {
         self.table.live()
     }
 
-    /// How many fund and defund commands are kept since the last opening.
+    /// Returns the number of fund and defund commands since the last opening.
     pub fn fundings(&self) -> usize
         ensures { result ≡ fundings self.now.book.events }
     {
         self.fundings
     }
 
-    /// The taken transfers with nothing booked, in cents.
+    /// Returns the reserved amount in cents: own transfers without a booked outcome.
     pub fn reserved(&self) -> u128
         ensures value { result ≡ reserved self.now.book.events }
         ensures within { result < 2 ^ 64 }
@@ -209,7 +213,7 @@ impl Ledger {
         self.table.reserved()
     }
 
-    /// Net funding and credits less debits, in cents.
+    /// Returns the position in cents: net funding and credits, less debits.
     pub fn position(&self) -> u128
         ensures value { result ≡ position self.now.book.events }
         ensures within { result < 2 ^ 64 }
@@ -218,7 +222,8 @@ impl Ledger {
         funded + self.table.credits() - defunded - self.table.debits()
     }
 
-    /// The position less what is reserved, in cents.
+    /// Returns the available amount in cents: the position less the reserved amount, or 0 if more
+    /// is reserved.
     pub fn available(&self) -> u128
         ensures { result ≡ available self.now.book.events }
     {
@@ -226,7 +231,7 @@ impl Ledger {
     }
 }
 
-/// What was sent, where the transfer is the participant's own.
+/// Returns the details of an own transfer.
 pub(crate) fn sending_in(found: &Option<Transfer>) -> Option<Sending>
     ensures { result ≡ sending_in found.now }
 {
@@ -246,7 +251,7 @@ pub(crate) fn sending_in(found: &Option<Transfer>) -> Option<Sending>
     }
 }
 
-/// What came, where the transfer was forwarded.
+/// Returns the details of a forwarded transfer.
 pub(crate) fn forwarding_in(found: &Option<Transfer>) -> Option<Forwarding>
     ensures { result ≡ forwarding_in found.now }
 {
@@ -265,7 +270,7 @@ pub(crate) fn forwarding_in(found: &Option<Transfer>) -> Option<Forwarding>
     }
 }
 
-/// What is booked of the transfer.
+/// Returns the booked outcome of a transfer.
 pub(crate) fn outcome_in(found: &Option<Transfer>) -> Option<Outcome>
     ensures { result ≡ outcome_in found.now }
 {
@@ -275,7 +280,7 @@ pub(crate) fn outcome_in(found: &Option<Transfer>) -> Option<Outcome>
     }
 }
 
-/// Whether this was sent with the submission.
+/// Returns `true` if these are the details of the submission.
 pub(crate) fn is_sending(found: Option<Sending>, submission: &Submission) -> bool
     ensures { result ≡ is_sending submission.now found }
 {
@@ -289,7 +294,7 @@ pub(crate) fn is_sending(found: Option<Sending>, submission: &Submission) -> boo
     }
 }
 
-/// Whether this funding is found.
+/// Returns `true` if the funding found has this kind and amount.
 fn is_funding_of(is_defunding: bool, cents: Cents, found: Option<KeptFunding>) -> bool
     ensures { result ≡ is_funding_of is_defunding cents found }
 {

@@ -1,4 +1,4 @@
--- How a line of any length is answered.
+-- Answers to lines of any length.
 use Rattle.std.specs.Prelude.{◌≡◌, ℕ, Bool, true, if◌then◌else◌, List, ◌++◌}
 use Rattle.inst_base.specs.declared.fault.Fault.TheVariants.{LineTooLong}
 use Rattle.inst_command.specs.declared.reply.Reply.TheVariants.{Refused}
@@ -11,16 +11,16 @@ use Rattle.inst_lines.specs.Answers.{is_too_long, IsFront}
 use Rattle.inst_lines.specs.Answering.{HubPast, IsRunnerAt, line_answer, after_line}
 use Rattle.inst_world.specs.HasRun.{world_settings}
 
--- what a line of any length is answered
+-- The answer to a line of any length.
 abbrev pub any_line_answer : Mode → HubPast → List ℕ → Answer
 any_line_answer mode past line =
     if is_too_long line then Reply (Refused LineTooLong) else line_answer mode past line
 
--- what it leaves
+-- The past after it.
 abbrev pub after_any_line : Mode → HubPast → List ℕ → HubPast
 after_any_line mode past line = if is_too_long line then past else after_line mode past line
 
--- a line is answered, of which this part is held and any front of it was let go
+-- A line is answered. This part of it is held; bytes before that may have been dropped.
 pub record RepliesToLine (mode : Mode) (is_long : Bool) (part : List ℕ) (old new : Runner)
     (answer : Answer) : Type 0 where
   pub told : (past : HubPast) → IsRunnerAt mode past old
@@ -32,7 +32,7 @@ pub record RepliesToLine (mode : Mode) (is_long : Bool) (part : List ℕ) (old n
   pub same_settings : world_settings new.world ≡ world_settings old.world
   pub can_be_written : answer_can_be_written (world_settings old.world) answer ≡ true
 
--- a line that was read is answered so and leaves this, whatever the runner has gone through
+-- A line that was read has this answer and leaves this past, whatever the runner's past.
 pub record RepliesToRead (mode : Mode) (old new : Runner) (answer : Answer) (answered : HubPast →
     Answer) (left : HubPast → HubPast) : Type 0 where
   pub told : (past : HubPast) → IsRunnerAt mode past old → answer ≡ answered past

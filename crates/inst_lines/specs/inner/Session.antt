@@ -1,4 +1,4 @@
--- How a session goes on from one stage to the next.
+-- The steps of a session from one stage to the next.
 use Rattle.std.specs.Prelude.{◌≡◌, ℕ, ◌+◌, Bool, false, cond, List, [], take, drop, Option}
 use Rattle.inst_base.specs.declared.fault.Fault.{Fault}
 use Rattle.inst_base.specs.declared.fault.Fault.TheVariants.{Memory, ReadFault, WriteFault}
@@ -9,8 +9,7 @@ use Rattle.inst_lines.specs.LineBuffer.{unanswered_bytes}
 use Rattle.inst_lines.specs.Progress.{Progress, Stopped}
 use Rattle.inst_lines.specs.Session.{Reached, Finishes, Stage}
 
--- the first n bytes that are held are answered as the rest of a line, and let go with the byte
--- after them
+-- The first n bytes held are answered as the rest of a line, and dropped with the byte after them.
 pub record TakesLine {S W : Type 0} (a : Answerer S) (holds : S → W →
     Type 0) (n : ℕ) (old new : Session)
     (old_world new_world : W) : Type 0 where
@@ -24,7 +23,7 @@ pub record TakesLine {S W : Type 0} (a : Answerer S) (holds : S → W →
   pub lines_are : new.counts.lines ≡ old.counts.lines + 1
   pub refused_are : new.counts.refused ≡ old.counts.refused + cond is_refused 1 0
 
--- what was answered stays answered, with no further read
+-- All replies stay given, without another read.
 pub record Advances {S W : Type 0} (a : Answerer S) (holds : S → W →
     Type 0) (old : Session) (old_world : W) (now : Option (List ℕ))
     (new : Session) (new_world : W) (now' : Option (List ℕ)) : Type 0 where
@@ -32,14 +31,14 @@ pub record Advances {S W : Type 0} (a : Answerer S) (holds : S → W →
       Reached a holds start before bytes now old old_world →
       Reached a holds start before bytes now' new new_world
 
--- a front of the replies is written
+-- A prefix of the replies is written.
 pub record Stops {S W : Type 0} (a : Answerer S) (holds : S → W →
     Type 0) (old : Session) (old_world : W)
     (now now' : Option (List ℕ)) : Type 0 where
   pub stops : (start : S) (before : Option (List ℕ)) (bytes : List ℕ) →
       Reached a holds start before bytes now old old_world → Stopped a start before bytes now'
 
--- the replies to all the bytes are written or pending
+-- The replies to all the bytes are written or pending.
 pub record AnsweredAll {S W : Type 0} (a : Answerer S) (holds : S → W →
     Type 0) (start : S) (before : Option (List ℕ)) (bytes : List ℕ)
     (now : Option (List ℕ)) (session : Session) (world : W) : Type 0 where
@@ -50,32 +49,32 @@ pub record AnsweredAll {S W : Type 0} (a : Answerer S) (holds : S → W →
       session.counts.lines session.counts.refused
   pub same_lines : lines_of closed ≡ lines_of bytes
 
--- a last line is answered
+-- A last line is answered.
 pub record AnswersLast {S W : Type 0} (a : Answerer S) (holds : S → W → Type 0) (old new : Session)
     (old_world new_world : W) : Type 0 where
   pub ends : (start : S) (before : Option (List ℕ)) (bytes : List ℕ) (now : Option (List ℕ)) →
       Reached a holds start before bytes now old old_world →
       AnsweredAll a holds start before bytes now new new_world
 
--- the fault is none of reading
+-- The fault isn't ReadFault.
 abbrev pub IsNoReadFault : Fault → Type 0
 IsNoReadFault Memory = Unit {0}
 IsNoReadFault ReadFault = ⊥
 IsNoReadFault WriteFault = Unit {0}
 IsNoReadFault _ = ⊥
 
--- from one stage to the next, what was answered stays answered
+-- From one stage to the next all replies stay given.
 abbrev pub MovesOn : {S W : Type 0} → Answerer S → (S → W → Type 0) → Stage W → Stage W → Type 0
 MovesOn a holds before after =
     Advances a holds before.session before.world before.written after.session after.world
     after.written
 
--- the run stopped behind the stage, and this was written
+-- The run stopped after the stage, with this written.
 abbrev pub HasStopped : {S W : Type 0} → Answerer S → (S → W → Type 0) → Stage W → Option (List ℕ) →
     Type 0
 HasStopped a holds before written = Stops a holds before.session before.world before.written written
 
--- all that was read is answered and written
+-- All that was read is answered and written.
 abbrev pub HasFinished : {S W : Type 0} → Answerer S → (S → W → Type 0) → Stage W → Stage W → Type 0
 HasFinished a holds before after =
     Finishes a holds before.session before.world before.written after.session.counts after.world

@@ -1,4 +1,4 @@
-//! What is asked of the hub.
+//! Calls of the hub.
 ghost use Rattle.inst_hub.specs.Calls.{IsTellerOf};
 ghost use Rattle.inst_loads.specs.Jobs.{IsStill};
 
@@ -8,13 +8,14 @@ use inst_hub::{Hub, Teller, Ticket};
 use std::alloc::Global;
 use std::sync::Wait;
 
-/// What each transfer is over, in cents.
+/// The amount of each transfer, in cents.
 const CENTS: u64 = 100;
 
-/// The time stamp of all transfers, and the reading at which they are submitted.
+/// The time stamp of all transfers, and the clock reading of their submission, in milliseconds.
 const STAMP: u64 = 1_000;
 
-/// What an ask is answered, a refusal too; `BadField` where it doesn't fit the hub.
+/// Returns the reply to an ask, which may be a refusal, and the ticket. Fails with `BadField` if
+/// the ask doesn't fit the hub.
 pub(crate) fn call<R: Wait>(
     rt: &R,
     hub: &Hub,
@@ -30,7 +31,7 @@ pub(crate) fn call<R: Wait>(
     Ok(hub.call(rt, teller, ask)?)
 }
 
-/// What a command is answered. A refusal is an error.
+/// Returns the reply to a command. A refusal is an error.
 pub(crate) fn ask<R: Wait>(
     rt: &R,
     hub: &Hub,
@@ -67,7 +68,7 @@ fn fund<R: Wait>(rt: &R, hub: &Hub, teller: &mut Teller, who: u8, cents: u64) ->
     }
 }
 
-/// Funds the first so many participants, at most 256, with so many cents each. A refusal is an
+/// Funds the first `participants` participants, at most 256, with `cents` each. A refusal is an
 /// error.
 pub(crate) fn fund_all<R: Wait>(
     rt: &R,
@@ -85,7 +86,7 @@ pub(crate) fn fund_all<R: Wait>(
     Ok(())
 }
 
-/// What a participant has, in cents.
+/// A participant's money, in cents.
 #[derive(Clone, Copy)]
 pub(crate) struct Money {
     pub(crate) position: u64,
@@ -93,7 +94,7 @@ pub(crate) struct Money {
     pub(crate) available: u64,
 }
 
-/// What a reply tells of the position.
+/// Returns the money in a reply, if it is that of a position.
 pub(crate) fn money_of(reply: &Reply) -> Option<Money> {
     match reply {
         Reply::Position {
@@ -109,7 +110,7 @@ pub(crate) fn money_of(reply: &Reply) -> Option<Money> {
     }
 }
 
-/// What a participant has now.
+/// Asks for a participant's money.
 pub(crate) fn ask_money<R: Wait>(
     rt: &R,
     hub: &Hub,
@@ -123,7 +124,7 @@ pub(crate) fn ask_money<R: Wait>(
     money_of(&reply).ok_or(Fault::BadField)
 }
 
-/// The submission of the transfer with this number in its thread.
+/// Returns the submission of a thread's transfer with this number.
 fn submission(alloc: Global, to: u8, thread: u8, number: u32) -> Result<Submission, Fault> {
     let text = format!(in alloc; "T{thread}-{number}")?;
     Ok(Submission {
@@ -134,7 +135,7 @@ fn submission(alloc: Global, to: u8, thread: u8, number: u32) -> Result<Submissi
     })
 }
 
-/// Whether the reply tells that the transfer is accepted.
+/// Returns `true` if the reply has the state accepted.
 pub(crate) fn is_accepted(reply: &Reply) -> bool {
     match reply {
         Reply::State { state, .. } => *state == State::Decided(Outcome::Accepted),
@@ -142,7 +143,8 @@ pub(crate) fn is_accepted(reply: &Reply) -> bool {
     }
 }
 
-/// Submits a transfer and confirms it: whether it was accepted. A refusal of either is an error.
+/// Submits and confirms a transfer. Returns `true` if it was accepted; a refusal of either is an
+/// error.
 pub(crate) fn settle<R: Wait>(
     rt: &R,
     alloc: Global,

@@ -1,4 +1,4 @@
-//! How a hub ends: it is closed, and its books are explained.
+//! Closes a hub and explains its books.
 ghost use Rattle.std.specs.Prelude.{◌≡◌, ◌∷◌, [], ◌++◌, IfOk, map};
 ghost use Rattle.inst_model.specs.Opening.{Opening};
 ghost use Rattle.inst_hub.specs.Calls.{IsTellerOf};
@@ -12,7 +12,7 @@ use inst_close::close;
 use inst_hub::{Hub, Teller};
 use std::alloc::{AllocFailed, Global};
 
-/// The tellers of these jobs, and the one that is in no thread.
+/// Returns the jobs' tellers, followed by `teller`.
 fn tellers_of(
     alloc: Global,
     jobs: Vec<HubJob>,
@@ -29,8 +29,8 @@ fn tellers_of(
     Ok(tellers)
 }
 
-/// Closes the hub. A run in one thread is rebuilt from its books and leaves the same ones:
-/// `NoInterleaving` if none is found.
+/// Closes the hub, and looks for steps of a hub in one thread that leave the same books. Fails with
+/// `NoInterleaving` if none are found.
 pub(crate) fn close_and_explain(
     alloc: Global,
     hub: Hub,

@@ -1,4 +1,4 @@
-//! What the threads of a round give back.
+//! The results of a round's threads.
 ghost use Rattle.std.specs.Prelude.{List, IfOk};
 ghost use Rattle.inst_hub.specs.declared.hub.Hub.{Hub};
 ghost use Rattle.inst_loads.specs.declared.hub.job.HubJob.{HubJob};
@@ -16,7 +16,7 @@ pub(crate) struct Done<T: Drop> {
     pub(crate) found: T,
 }
 
-/// The jobs that are done, and what each thread found; or the first failure.
+/// Returns the jobs and what each thread found, or the first failure.
 pub(crate) fn gather<T: Drop>(
     alloc: Global,
     results: Vec<Result<Done<T>, Failure>>,

@@ -1,4 +1,4 @@
-//! What the threads of a round start with.
+//! The jobs of a round's threads.
 ghost use Rattle.std.specs.Prelude.{◌≡◌, ◌+◌, IfOk};
 ghost use Rattle.inst_hub.specs.Calls.{IsTellerOf, AreOf};
 ghost use Rattle.inst_hub.specs.Opening.{row_parts};
@@ -15,7 +15,7 @@ pub(crate) struct HubJob {
     pub(crate) thread: u8,
 }
 
-/// The last teller of these.
+/// Takes the last teller out.
 pub(crate) fn last(hub: &Hub, tellers: &mut Vec<Teller>) -> Result<Teller, Fault>
     requires { AreOf hub.now tellers.old.items }
     ensures last { IfOk result (λ teller. IsTellerOf hub.now teller) }
@@ -29,7 +29,7 @@ pub(crate) fn last(hub: &Hub, tellers: &mut Vec<Teller>) -> Result<Teller, Fault
     }
 }
 
-/// The jobs of the threads.
+/// Makes a job of each teller; the threads are numbered from 0.
 pub(crate) fn jobs(alloc: Global, hub: &Hub, tellers: Vec<Teller>) -> Result<Vec<HubJob>, Fault>
     requires { AreOf hub.now tellers.items }
     ensures of { IfOk result (λ jobs. AreJobsOf hub.now jobs.items) }

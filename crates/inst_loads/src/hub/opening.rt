@@ -1,4 +1,4 @@
-//! A hub that opens for a load.
+//! Opens the hub of a load or a stress.
 ghost use Rattle.std.specs.Prelude.{IfOk};
 ghost use Rattle.inst_model.specs.Opening.{Opening};
 ghost use Rattle.inst_hub.specs.Calls.{AreOf};
@@ -10,20 +10,20 @@ use inst_hub::{Hub, Teller};
 use inst_settings::{HubParameters, Settings};
 use std::alloc::Global;
 
-/// From a transfer's time stamp to its deadline, in milliseconds.
+/// The limit: milliseconds from a time stamp to the deadline.
 pub(crate) const LIMIT: u32 = 10_000;
 
-/// How far a time stamp may lie ahead of the reading, in milliseconds.
+/// The setting `ahead`, in milliseconds.
 pub(crate) const AHEAD: u32 = 1_000;
 
-/// How large a hub is, and how long before the deadline nothing is accepted any more.
+/// The size of a hub, and its margin.
 #[derive(Clone, Copy)]
 pub(crate) struct Size {
     /// 1 to 100.
     pub(crate) participants: u16,
-    /// Of each participant.
+    /// The places of each participant.
     pub(crate) places: u16,
-    /// In milliseconds.
+    /// The margin in milliseconds.
     pub(crate) margin: u32,
 }
 
@@ -44,7 +44,7 @@ fn settings(alloc: Global, size: Size) -> Result<Settings, Fault> {
     Settings::check(codes, numbers)
 }
 
-/// The hub with a teller for each of so many threads, and one more that is in no thread.
+/// Opens the hub with a teller for each thread, and one more for the program itself.
 pub(crate) fn open(alloc: Global, size: Size, threads: u8) -> Result<(Hub, Vec<Teller>), Fault>
     ensures of { IfOk result (λ r. AreOf r.0 r.1.items) }
     ensures parts { IfOk result (λ r. HaveAllParts r.1.items) }

@@ -1,4 +1,4 @@
-//! Rounds of a load, each at a hub of its own.
+//! Rounds of a load, each at a new hub.
 ghost use Rattle.std.specs.Prelude.{IfOk};
 ghost use Rattle.inst_hub.specs.Calls.{IsTellerOf};
 ghost use Rattle.inst_loads.specs.Done.{AllAreDone};
@@ -23,7 +23,7 @@ const SIZE: Size = Size {
     margin: 0,
 };
 
-/// Submits and confirms the thread's share, and finds how many transfers were accepted.
+/// Submits and confirms the thread's share, and counts the accepted transfers.
 fn share<R: Wait>(
     rt: &R,
     alloc: Global,
@@ -49,7 +49,7 @@ fn share<R: Wait>(
     })
 }
 
-/// What all positions sum to, in cents.
+/// Returns the sum of all positions, in cents.
 fn sum<R: Wait>(rt: &R, hub: &Hub, teller: &mut Teller) -> Result<u64, Fault>
     requires { IsTellerOf hub.now teller.old }
     ensures { IsStill hub.now teller.old teller.new }
@@ -61,7 +61,7 @@ fn sum<R: Wait>(rt: &R, hub: &Hub, teller: &mut Teller) -> Result<u64, Fault>
     Ok(sum)
 }
 
-/// Does the jobs, each in a thread of its own.
+/// Does each job in its own thread.
 fn share_all<R: Threads + Wait + Sync>(
     rt: &R,
     alloc: Global,
@@ -82,7 +82,7 @@ fn share_all<R: Threads + Wait + Sync>(
     )
 }
 
-/// Runs the jobs: how many transfers were accepted.
+/// Runs the jobs, and returns how many transfers were accepted.
 fn run<R: Threads + Wait + Sync>(
     rt: &R,
     alloc: Global,
@@ -102,7 +102,7 @@ fn run<R: Threads + Wait + Sync>(
     Ok((settled, jobs))
 }
 
-/// Whether all transfers were accepted, and the positions still sum to the funding.
+/// Checks that all transfers were accepted and the positions sum to the funding.
 fn check_round<R: Wait>(
     rt: &R,
     hub: &Hub,
@@ -121,7 +121,7 @@ fn check_round<R: Wait>(
     check_sum(positions, FUNDS * u64::from(PARTICIPANTS))
 }
 
-/// The load of a round, by threads that do these jobs: how many transfers were accepted.
+/// Runs a round with these jobs, and returns how many transfers were accepted.
 fn settle_all<R: Threads + Wait + Sync>(
     rt: &R,
     alloc: Global,
@@ -140,8 +140,9 @@ fn settle_all<R: Threads + Wait + Sync>(
     Ok((settled, jobs))
 }
 
-/// A round: how many transfers were accepted, which are all, if the positions still sum to the
-/// funding and, unless the hub is left open, its books are those of a run in one thread.
+/// Runs a round at a new hub, and returns how many transfers were accepted. Fails if not all were,
+/// the positions don't sum to the funding, or no steps in one thread are found that leave the
+/// books; the last isn't checked if the hub is left open.
 fn round<R: Threads + Wait + Sync>(rt: &R, alloc: Global, load: Load) -> Result<u32, Failure> {
     let (hub, mut tellers) = open(alloc, SIZE, load.threads)?;
     let mut teller = last(&hub, &mut tellers)?;
@@ -153,7 +154,7 @@ fn round<R: Threads + Wait + Sync>(rt: &R, alloc: Global, load: Load) -> Result<
     Ok(settled)
 }
 
-/// So many rounds: how many transfers were accepted, or the first failure.
+/// Runs the rounds, and returns how many transfers were accepted, or the first failure.
 pub(crate) fn rounds<R: Threads + Wait + Sync>(
     rt: &R,
     alloc: Global,

@@ -1,9 +1,9 @@
-//! What a participant does, by short texts and plain numbers.
+//! Acts of a participant, as short texts and plain numbers.
 use inst_base::{Fault, Moment};
 use inst_command::{Command, Query, Step};
 use inst_fixtures::{ask, confirm, fund, submit};
 
-/// A command, or a step at a place of an originator.
+/// A command, or a step at a place.
 #[derive(Clone, Copy)]
 pub(crate) enum RaceAct {
     Fund(&'static str, u64),
@@ -15,7 +15,7 @@ pub(crate) enum RaceAct {
     Expire(u16),
 }
 
-/// The step of the participant that does so at this reading, in milliseconds.
+/// Returns the participant's step for this act, at clock reading `at` in milliseconds.
 pub(crate) fn step_of(who: u8, does: &RaceAct, at: u64) -> Result<Step, Fault> {
     match *does {
         RaceAct::Fund(reference, cents) => fund(who, reference, cents, at),

@@ -1,11 +1,11 @@
-//! Whether books that a race left are those of a run in one thread.
+//! Explains the books that a race left.
 use crate::race::participant::Racer;
 use inst_base::Fault;
 use inst_journal::Journal;
 use inst_order::interleaving;
 use std::alloc::{AllocError, Global};
 
-/// A copy of each participant's journal.
+/// Copies each participant's journal.
 fn journals(alloc: Global, hub: &[Racer]) -> Result<Vec<Journal>, AllocError> {
     let mut journals = Vec::with_capacity(alloc, hub.len())?;
     for participant in hub {
@@ -14,7 +14,7 @@ fn journals(alloc: Global, hub: &[Racer]) -> Result<Vec<Journal>, AllocError> {
     Ok(journals)
 }
 
-/// Whether a run in one thread is found that leaves the books of these participants.
+/// Returns `true` if steps of a hub in one thread are found that leave these books.
 pub(crate) fn are_explained(alloc: Global, hub: &[Racer]) -> Result<bool, Fault> {
     let Some(first) = hub.first() else {
         return Ok(false);

@@ -1,4 +1,4 @@
-//! A hub that opens: a participant for each board, by number.
+//! Opens the participants of a race, one for each board.
 ghost use Rattle.std.specs.Prelude.{List};
 ghost use Rattle.inst_settings.specs.Lawful.{IsSettings};
 ghost use Rattle.inst_cell.specs.declared.sight.Sight.{Sight};
@@ -11,7 +11,7 @@ use inst_fixtures::settings_with;
 use inst_settings::Settings;
 use std::alloc::Global;
 
-/// Each participant with its board.
+/// Opens each participant with its board.
 fn seated(alloc: Global, settings: &Settings, boards: Vec<SharedBoard>) -> Result<Vec<Racer>, Fault>
     requires lawful { IsSettings settings.now }
     requires opened { (sights : List Sight) × AreOpened settings.now 1 boards.items sights }
@@ -23,8 +23,7 @@ fn seated(alloc: Global, settings: &Settings, boards: Vec<SharedBoard>) -> Resul
     Ok(participants)
 }
 
-/// The participants, by number, with so many places for each. A transfer can't be accepted any more
-/// from `margin` milliseconds before its deadline on.
+/// Opens the participants, by number. `margin` is in milliseconds.
 pub(crate) fn open(alloc: Global, places: u16, margin: u32) -> Result<Vec<Racer>, Fault> {
     let settings = settings_with(alloc, places, margin)?;
     let (boards, _sights) = SharedBoard::open(alloc, &settings, 1)?;

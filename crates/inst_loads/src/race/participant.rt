@@ -1,3 +1,4 @@
+//! A participant of a race: its slot with its board.
 ghost use Rattle.std.specs.Prelude.{◌≡◌};
 ghost use Rattle.atomic_table.specs.Seated.{TableId};
 ghost use Rattle.inst_cell.specs.Opening.{IsOpened};
@@ -44,7 +45,7 @@ fn answered(is_new: Result<bool, Fault>) -> Result<Answer, Fault> {
 }
 
 impl Racer {
-    /// The participant whose board this is, as the hub opens.
+    /// Opens the participant of this board in a new hub.
     pub(crate) fn open(
         alloc: Global,
         settings: &Settings,
@@ -62,7 +63,7 @@ impl Racer {
         })
     }
 
-    /// What its slot answers. `BadField` where the command doesn't fit the settings.
+    /// Returns the slot's reply. Fails with `BadField` if the command doesn't fit the settings.
     pub(crate) fn ask(&mut self, command: Command, at: Moment) -> Result<Reply, Fault> {
         let ask = Ask {
             who: self.who,
@@ -75,7 +76,7 @@ impl Racer {
         self.slot.apply(&mut self.board, &ask)
     }
 
-    /// The same, whatever the reply.
+    /// Does the same and ignores the reply.
     pub(crate) fn does(&mut self, command: Command, at: Moment) -> Result<(), Fault> {
         match self.ask(command, at) {
             Ok(_) => Ok(()),
@@ -95,7 +96,7 @@ impl Racer {
         Ok(self.slot.expire(&mut self.board, index, at)?)
     }
 
-    /// What is answered to the step, which is this participant's.
+    /// Takes a step of this participant, and returns the answer.
     pub(crate) fn take(&mut self, step: &Step) -> Result<Answer, Fault> {
         match *step {
             Step::Ask(ask) => match self.ask(ask.command, ask.at) {

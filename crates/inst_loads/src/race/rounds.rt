@@ -1,20 +1,19 @@
-//! Races, one after another.
+//! A number of races, one after another.
 use crate::race::race;
 use std::alloc::Global;
 use std::thread::Threads;
 
-/// How many milliseconds before its deadline a transfer can't be accepted any more, in every other
-/// round.
+/// The margin of every other race, in milliseconds; the others have none.
 const MARGIN: u32 = 2_000;
 
-/// How many transfers of all rounds ended so.
+/// How many transfers of all races were accepted, and how many timed out.
 #[derive(Clone, Copy)]
 pub(crate) struct EndedRace {
     pub(crate) accepted: u64,
     pub(crate) timed_out: u64,
 }
 
-/// So many races, each at a hub of its own. `None` where one failed or its finish isn't whole.
+/// Runs `count` races, each at a new hub. Returns `None` if one failed or its result is wrong.
 pub(crate) fn races<R: Threads + Sync>(rt: &R, alloc: Global, count: u32) -> Option<EndedRace> {
     let mut accepted = 0u64;
     let mut timed_out = 0u64;

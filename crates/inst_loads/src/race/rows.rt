@@ -1,4 +1,4 @@
-//! Who does what, one after another in one thread, and what each is answered.
+//! Worked rows of three slots in one thread.
 use crate::race::acts::{RaceAct, step_of};
 use crate::race::opening::open;
 use crate::race::participant::Racer;
@@ -7,11 +7,11 @@ use inst_base::{Fault, mention};
 use inst_command::{Ask, Command, Outcome, Submission};
 use std::alloc::Global;
 
-/// Who does what, when, and what is answered.
+/// The participant, its act, the clock reading in milliseconds, and the expected answer.
 type Row = (u8, RaceAct, u64, RaceReply);
 
-/// The first participant has 50,000 cents, and T1 over 20,000 to the second, to which it comes. The
-/// third has no part in it.
+/// The first participant has 50,000 cents, and submits T1 of 20,000 cents to the second, which
+/// receives it. The third gets nothing of it.
 const SUBMITTED: &[Row] = &[
     (0, RaceAct::Fund("F1", 50_000), 0, RaceReply::Done("F1")),
     (
@@ -108,7 +108,7 @@ const EXPIRE_BEFORE_CONFIRM: &[Row] = &[
     (2, RaceAct::Position, 11_000, RaceReply::Position(0, 0, 0)),
 ];
 
-/// Each worked row by its name.
+/// The worked rows with their names.
 const WORKED: [(&str, &[Row]); 4] = [
     ("confirmed_in_time", CONFIRMED_IN_TIME),
     ("confirmed_late", CONFIRMED_LATE),
@@ -116,7 +116,7 @@ const WORKED: [(&str, &[Row]); 4] = [
     ("expire_before_confirm", EXPIRE_BEFORE_CONFIRM),
 ];
 
-/// Whether the row is answered so.
+/// Returns `true` if the row's answer is the expected one.
 fn is_answered(hub: &mut [Racer], row: &Row) -> Result<bool, Fault> {
     mention::<(Ask, Command, Submission, Outcome)>();
     let (who, does, at, told) = row;
@@ -127,8 +127,7 @@ fn is_answered(hub: &mut [Racer], row: &Row) -> Result<bool, Fault> {
     }
 }
 
-/// Whether the rows are answered so, one after another; at the first one that isn't, the others are
-/// left out.
+/// Returns `true` if all rows have the expected answers; stops at the first that hasn't.
 fn are_answered(hub: &mut [Racer], rows: &[Row]) -> Result<bool, Fault> {
     for row in rows {
         if !is_answered(hub, row)? {
@@ -138,13 +137,13 @@ fn are_answered(hub: &mut [Racer], rows: &[Row]) -> Result<bool, Fault> {
     Ok(true)
 }
 
-/// Whether these rows come so after T1 was submitted.
+/// Returns `true` if these rows have the expected answers after T1 was submitted.
 fn comes(alloc: Global, rows: &[Row]) -> Result<bool, Fault> {
     let mut hub = open(alloc, 2, 0)?;
     Ok(are_answered(&mut hub, SUBMITTED)? && are_answered(&mut hub, rows)?)
 }
 
-/// The name of the first worked row that doesn't come as it must, if there is one.
+/// Returns the name of the first worked row with another answer, if there is one.
 pub(crate) fn failed(alloc: Global) -> Option<&'static str> {
     for (name, rows) in WORKED {
         if comes(alloc, rows) != Ok(true) {

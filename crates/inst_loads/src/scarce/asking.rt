@@ -1,4 +1,4 @@
-//! What a hub of many threads is asked.
+//! Commands at a hub for many threads.
 ghost use Rattle.inst_hub.specs.Calls.{IsTellerOf, TellerKnowsMore};
 
 use crate::flaw::Flaw;
@@ -8,7 +8,7 @@ use inst_command::Step;
 use inst_hub::{Hub, Teller, Ticket};
 use std::sync::Wait;
 
-/// Whether there is a ticket where the reply tells of a transfer, and only there.
+/// Returns `true` if there is a ticket exactly if the expected reply concerns a transfer.
 fn is_ticketed(ticket: &Option<Ticket>, wanted: RaceReply) -> bool {
     match wanted {
         RaceReply::Taken(..) | RaceReply::Accepted(..) | RaceReply::TimedOut(..) =>
@@ -17,8 +17,8 @@ fn is_ticketed(ticket: &Option<Ticket>, wanted: RaceReply) -> bool {
     }
 }
 
-/// The ticket that comes with the reply, if one does. `OtherAnswer` where the reply isn't the one
-/// that is wanted.
+/// Asks, and returns the ticket, if there is one. Fails with `OtherAnswer` if the reply isn't the
+/// expected one.
 pub(crate) fn ask_and_compare<R: Wait>(
     rt: &R,
     hub: &Hub,

@@ -1,5 +1,5 @@
-//! Hubs that close in want of memory: each growth of a closing is refused in turn, and the rest
-//! then closes with the books of the row.
+//! Closes hubs with too little memory, growing from try to try. After a failure the rest closes
+//! with the books of the row.
 ghost use Rattle.inst_model.specs.Opening.{Opening};
 ghost use Rattle.inst_close.specs.Closing.{IsOpenedSo};
 ghost use Rattle.inst_loads.specs.Tellers.{AreAllOf};
@@ -16,17 +16,18 @@ use inst_hub::{Hub, Teller, Ticket};
 use std::alloc::Global;
 use std::sync::Wait;
 
-/// What becomes of the transfer before its hub closes.
+/// What happens to the transfer before its hub closes.
 #[derive(Clone, Copy)]
 enum Row {
-    /// Its follow-up found no memory, and it stays pending.
+    /// Its follow-up fails to allocate, and it stays pending.
     Dropped,
     /// It is confirmed.
     Confirmed,
 }
 
 impl Row {
-    /// What the books are to say of the transfer, and of either side's position, in cents.
+    /// Returns the expected state of the transfer, and the expected positions of originator and
+    /// beneficiary, in cents.
     fn expected(self) -> (State, u128, u128) {
         match self {
             Row::Dropped => (State::Pending, 50_000, 0),
@@ -35,7 +36,7 @@ impl Row {
     }
 }
 
-/// Whether the books of the row say what they are to.
+/// Returns `true` if the books have what the row expects.
 fn are_right(books: &Books, ticket: &Ticket, row: Row) -> bool {
     mention::<(State, Outcome)>();
     let Ok(id) = Ident::new("T1") else {
@@ -51,7 +52,7 @@ fn are_right(books: &Books, ticket: &Ticket, row: Row) -> bool {
         && books.sum() == 50_000
 }
 
-/// The ticket of what the teller with this index asks, if it gets one.
+/// Asks by the teller with this index, and returns the ticket, if there is one.
 fn ask_by<R: Wait>(
     rt: &R,
     hub: &Hub,
@@ -69,8 +70,8 @@ fn ask_by<R: Wait>(
     ask_and_compare(rt, hub, &mut tellers[index], step, wanted)
 }
 
-/// Participant 0 submits the transfer, with as little memory as serves: none is left for what
-/// follows.
+/// Participant 0 submits the transfer with the least memory that suffices, so that the follow-up
+/// fails to allocate.
 fn submit_dropping<R: Wait>(
     rt: &R,
     hub: &Hub,
@@ -95,8 +96,8 @@ fn submit_dropping<R: Wait>(
     Err(Flaw::NeverServed)
 }
 
-/// The ticket of the row's transfer, once all of the row was asked: participant 0 is funded and
-/// submits the transfer, which participant 1 may confirm.
+/// Makes the row's calls, and returns the ticket of its transfer: participant 0 is funded and
+/// submits the transfer; in one row participant 1 confirms it.
 fn asked<R: Wait>(
     rt: &R,
     hub: &Hub,
@@ -135,7 +136,7 @@ fn asked<R: Wait>(
     }
 }
 
-/// `is_refused`, where the books of the row say what they are to.
+/// Returns `is_refused` if the books have what the row expects.
 fn check_books(
     books: &Books,
     ticket: &Option<Ticket>,
@@ -148,8 +149,8 @@ fn check_books(
     }
 }
 
-/// Closes the hub with so much memory; where that is refused, its rest with ample memory: whether
-/// it was. The books say what they are to.
+/// Closes the hub with this much memory. If that fails to allocate, closes the rest with enough
+/// memory and returns `true`. The books must have what the row expects.
 fn close_in_want(
     alloc: Global,
     want: &mut Want,
@@ -176,7 +177,7 @@ fn close_in_want(
     }
 }
 
-/// Whether the closing of the row's hub was refused memory. Its books say what they are to.
+/// Returns `true` if closing a new hub of the row failed to allocate. Checks the books in any case.
 fn is_refused<R: Wait>(
     rt: &R,
     alloc: Global,
@@ -189,8 +190,7 @@ fn is_refused<R: Wait>(
     close_in_want(alloc, want, quanta, hub, tellers, &ticket, row)
 }
 
-/// Closes a hub of the row anew, each time with a little more memory, until the closing is refused
-/// none.
+/// Closes a new hub of the row, each time with a little more memory, until the closing succeeds.
 fn close_row<R: Wait>(rt: &R, alloc: Global, want: &mut Want, row: Row) -> Result<(), Flaw> {
     for quanta in 0..MOST_TRIES {
         if !is_refused(rt, alloc, want, quanta, row)? {
@@ -201,7 +201,7 @@ fn close_row<R: Wait>(rt: &R, alloc: Global, want: &mut Want, row: Row) -> Resul
     Err(Flaw::NeverServed)
 }
 
-/// The closings of both rows.
+/// Closes the hubs of both rows.
 pub(crate) fn closings<R: Wait>(rt: &R, alloc: Global, want: &mut Want) -> Result<(), Flaw> {
     close_row(rt, alloc, want, Row::Dropped)?;
     close_row(rt, alloc, want, Row::Confirmed)

@@ -1,5 +1,5 @@
-//! The row of two tellers at a hub of many threads, call by call, each call in want of memory until
-//! it is refused none.
+//! A row of two tellers at a hub for many threads. Each call is tried with more and more memory
+//! until it succeeds.
 ghost use Rattle.std.specs.Prelude.{IfOk};
 ghost use Rattle.inst_hub.specs.Calls.{IsTellerOf, AreOf};
 
@@ -15,10 +15,10 @@ use inst_hub::{Hub, Teller, Ticket};
 use std::alloc::Global;
 use std::sync::Wait;
 
-/// What becomes of the transfer.
+/// The outcome of the transfer.
 const ACCEPTED: State = State::Decided(Outcome::Accepted);
 
-/// The hub with its tellers, opened in want.
+/// Opens the hub with more and more memory until that succeeds.
 fn open_in_want(alloc: Global, want: &mut Want) -> Result<(Hub, Vec<Teller>), Flaw>
     ensures { IfOk result (λ r. AreOf r.0 r.1.items) }
 {
@@ -41,7 +41,7 @@ fn open_in_want(alloc: Global, want: &mut Want) -> Result<(Hub, Vec<Teller>), Fl
     Err(Flaw::NeverServed)
 }
 
-/// What originator and beneficiary have.
+/// The money of originator and beneficiary.
 #[derive(Clone, Copy)]
 struct Money {
     originator: RaceReply,
@@ -49,7 +49,7 @@ struct Money {
 }
 
 impl Money {
-    /// Position, reserved and available cents of the originator; the beneficiary has none yet.
+    /// Returns the money of the originator, in cents; the beneficiary has none yet.
     fn of_first(position: u64, reserved: u64, available: u64) -> Money {
         Money {
             originator: RaceReply::Position(position, reserved, available),
@@ -58,8 +58,7 @@ impl Money {
     }
 }
 
-/// What the step is answered with so many bytes of memory left, if they are enough. All memory is
-/// there again afterwards.
+/// Asks with `bytes` of memory left, and frees the rest of the memory afterwards.
 fn ask_in_want<R: Wait>(
     rt: &R,
     hub: &Hub,
@@ -80,7 +79,7 @@ fn ask_in_want<R: Wait>(
     answer
 }
 
-/// Whether a participant has this; no memory is left for the ask.
+/// Returns `true` if a participant has this money. The query gets no memory.
 fn has<R: Wait>(
     rt: &R,
     hub: &Hub,
@@ -101,7 +100,7 @@ fn has<R: Wait>(
     }
 }
 
-/// Whether originator and beneficiary have this.
+/// Returns `true` if originator and beneficiary have this money.
 fn both_have<R: Wait>(
     rt: &R,
     hub: &Hub,
@@ -118,7 +117,7 @@ fn both_have<R: Wait>(
     }
 }
 
-/// A call of the row, what it is answered, and what both sides have before.
+/// A call of the row, the expected reply, and the money of both sides before it.
 #[derive(Clone, Copy)]
 struct Call {
     step: Step,
@@ -127,8 +126,8 @@ struct Call {
     before: Money,
 }
 
-/// The ticket that comes with the answer, if one does, tried with more and more memory. Each
-/// refused try has left the money of originator and beneficiary as it was.
+/// Makes the call with more and more memory until it succeeds, and returns the ticket, if there is
+/// one. Before each try the money of both sides must be as before the call.
 fn call_in_want<R: Wait>(
     rt: &R,
     hub: &Hub,
@@ -160,7 +159,7 @@ fn call_in_want<R: Wait>(
     Err(Flaw::NeverServed)
 }
 
-/// Participant 1 is swept, with more and more memory, and so many are new.
+/// Sweeps participant 1 with more and more memory until that succeeds and stores `new` events.
 fn sweep_in_want<R: Wait>(
     rt: &R,
     hub: &Hub,
@@ -190,7 +189,7 @@ fn sweep_in_want<R: Wait>(
     Err(Flaw::NeverServed)
 }
 
-/// Whether the teller sees this state, with no memory left.
+/// Checks that the teller sees this state, with no memory left.
 fn sees(
     want: &mut Want,
     teller: &mut Teller,
@@ -238,8 +237,9 @@ fn submit_first<R: Wait>(
     Ok(ticket)
 }
 
-/// The second confirms it for participant 1. What its follow-up, which was refused memory, left
-/// undone is found by one sweep before, and nothing by the next, which takes no memory.
+/// The second teller confirms the transfer for participant 1. The follow-up of the submission
+/// failed to allocate, so a first sweep finds one event; a second sweep finds none and allocates
+/// nothing.
 fn confirm_second<R: Wait>(
     rt: &R,
     hub: &Hub,
@@ -262,7 +262,7 @@ fn confirm_second<R: Wait>(
     sees(want, second, ticket, ACCEPTED)
 }
 
-/// The calls of both tellers. Once they meet, the first sees what the second does.
+/// Makes the calls of both tellers. Once they have met, the first sees what the second knows.
 fn calls<R: Wait>(
     rt: &R,
     hub: &Hub,
@@ -283,7 +283,7 @@ fn calls<R: Wait>(
     check_answer(both_have(rt, hub, want, second, settled)?)
 }
 
-/// The calls of both tellers, once their hub is open.
+/// Makes the calls of both tellers at an open hub.
 fn calls_of_two<R: Wait>(
     rt: &R,
     hub: &Hub,
@@ -298,8 +298,8 @@ fn calls_of_two<R: Wait>(
     calls(rt, hub, want, &mut first, &mut second)
 }
 
-/// Two tellers, of which one submits a transfer and the other confirms it, and what follows is
-/// brought by sweeps.
+/// Runs the row: one teller submits a transfer, the other confirms it, and sweeps do the failed
+/// follow-ups.
 pub(crate) fn two_tellers<R: Wait>(rt: &R, alloc: Global, want: &mut Want) -> Result<(), Flaw> {
     let (hub, tellers) = open_in_want(alloc, want)?;
     calls_of_two(rt, &hub, want, tellers)

@@ -1,7 +1,7 @@
-//! The rows, as lines: a step, its answer, and whether it takes memory.
+//! The rows, as lines: a step, its answer, and whether it allocates.
 use crate::scarce::want::Need;
 
-/// A step with its answer.
+/// A step, its answer, and whether it allocates.
 #[derive(Clone, Copy)]
 pub(crate) struct RowLine {
     pub(crate) step: &'static str,
@@ -24,7 +24,7 @@ fn may_take(step: &'static str, answer: &'static str) -> RowLine {
     RowLine { step, answer, need }
 }
 
-/// The first participant is funded.
+/// Funds the first participant.
 fn funded() -> RowLine {
     takes(
         r#"{"at":0,"cents":50000,"cmd":"fund","ref":"F1","who":"AAAADEFF"}"#,
@@ -32,7 +32,7 @@ fn funded() -> RowLine {
     )
 }
 
-/// It submits a transfer to the second.
+/// Submits a transfer to the second participant.
 fn submitted() -> RowLine {
     takes(
         r#"{"at":1000,"cents":20000,"cmd":"submit","id":"T1","stamp":1000,"to":"BBBBFRPP","who":"AAAADEFF"}"#,
@@ -40,7 +40,7 @@ fn submitted() -> RowLine {
     )
 }
 
-/// The transfer comes to its beneficiary.
+/// Delivers the transfer.
 fn delivered() -> RowLine {
     takes(
         r#"{"from":"AAAADEFF","place":0,"step":"deliver","who":"BBBBFRPP"}"#,
@@ -48,7 +48,7 @@ fn delivered() -> RowLine {
     )
 }
 
-/// A submission reserves; its repeat, what is refused and what is asked take no memory.
+/// A submission reserves its amount. Its repeat, refusals and queries don't allocate.
 pub(crate) fn submit_reserves() -> [RowLine; 8] {
     [
         funded(),
@@ -83,7 +83,7 @@ pub(crate) fn submit_reserves() -> [RowLine; 8] {
     ]
 }
 
-/// A confirmation in time, and then its expiry.
+/// A confirmation in time, followed by the expiry.
 pub(crate) fn confirm_before_expire() -> [RowLine; 10] {
     [
         funded(),

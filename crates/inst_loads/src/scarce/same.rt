@@ -1,8 +1,8 @@
-//! Whether two answers say the same.
+//! Comparison of answers.
 use inst_base::mention;
 use inst_command::{Answer, Entry, Line, Outcome, Reply};
 
-/// Whether the answers say the same.
+/// Returns `true` if the answers are equal.
 pub(crate) fn is_same(one: &Answer, other: &Answer) -> bool {
     match (one, other) {
         (Answer::Reply(one), Answer::Reply(other)) => is_same_reply(one, other),

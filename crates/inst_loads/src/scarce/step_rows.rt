@@ -1,6 +1,6 @@
-//! Rows at a hub in one thread and by slots of three participants over one board, step by step,
-//! each step in want of memory until it is refused none: first the hub takes it, and then the
-//! slots. After each step both have the same histories and said the same.
+//! Rows at a hub in one thread and at three slots over one board. Each step is tried with more and
+//! more memory until it succeeds, first at the hub and then at the slots. Afterwards both must have
+//! the same histories and have given the same answer.
 ghost use Rattle.std.specs.Prelude.{◌≡◌, true, IfOk};
 ghost use Rattle.inst_command.specs.Step.{step_fits};
 ghost use Rattle.inst_world.specs.HasRun.{IsOfModel};
@@ -16,20 +16,20 @@ use inst_journal::Event;
 use inst_world::World;
 use std::alloc::Global;
 
-/// All rows, each at a hub and by slots of its own.
+/// Runs all rows, each at a new hub and new slots.
 pub(crate) fn step_rows(alloc: Global, want: &mut Want) -> Result<(), Flaw> {
     row(alloc, want, &rows::submit_reserves())?;
     row(alloc, want, &rows::confirm_before_expire())?;
     row(alloc, want, &rows::statement_lines())
 }
 
-/// A row, from the opening on.
+/// Runs a row at a new hub.
 fn row(alloc: Global, want: &mut Want, lines: &[RowLine]) -> Result<(), Flaw> {
     let mut world = open_world(alloc, want)?;
     row_by_slots(alloc, want, &mut world, lines)
 }
 
-/// The row by slots, beside the hub.
+/// Runs the row at the hub and at new slots.
 fn row_by_slots(
     alloc: Global,
     want: &mut Want,
@@ -40,7 +40,7 @@ fn row_by_slots(
     take_lines(alloc, want, world, &mut slots, lines)
 }
 
-/// A hub, opened in want.
+/// Opens the hub with more and more memory until that succeeds.
 fn open_world(alloc: Global, want: &mut Want) -> Result<World, Flaw> {
     let settings = settings(alloc)?;
     for quanta in 0..MOST_TRIES {
@@ -57,7 +57,7 @@ fn open_world(alloc: Global, want: &mut Want) -> Result<World, Flaw> {
     Err(Flaw::NeverServed)
 }
 
-/// The slots, opened in want.
+/// Opens the slots with more and more memory until that succeeds.
 fn open_slots(alloc: Global, want: &mut Want) -> Result<Slots, Flaw> {
     for quanta in 0..MOST_TRIES {
         if !want.hoard.leave(quanta * QUANTUM) {
@@ -91,8 +91,7 @@ fn take_lines(
     Ok(())
 }
 
-/// Takes the step of the line at the hub and then by the slots, and compares what they answer and
-/// keep.
+/// Takes a line's step at the hub and then at the slots, and compares answers and histories.
 fn take_line(
     alloc: Global,
     want: &mut Want,
@@ -107,7 +106,7 @@ fn take_line(
     check_answer(is_same(&answer, &wanted) && has_histories(world, slots))
 }
 
-/// What the hub answers to the step, which is the answer of the line.
+/// Takes the step at the hub, and compares the answer with the line's.
 fn take_step(
     alloc: Global,
     want: &mut Want,
@@ -126,8 +125,8 @@ fn take_step(
     Ok(answer)
 }
 
-/// What the hub answers to the step, tried with more and more memory. Each refused try has left the
-/// histories as the slots have them, which take the step only afterwards.
+/// Takes the step at the hub with more and more memory until it succeeds. After each failure the
+/// hub must have the histories of the slots, which take the step later.
 fn step_in_want(
     want: &mut Want,
     world: &mut World,
@@ -156,8 +155,8 @@ fn step_in_want(
     Err(Flaw::NeverServed)
 }
 
-/// What its slot answers to the step, tried with more and more memory. Each refused try has left
-/// the histories as they were.
+/// Takes the step at its slot with more and more memory until it succeeds. After each failure the
+/// histories must be as before.
 fn act_in_want(
     alloc: Global,
     want: &mut Want,
@@ -190,7 +189,7 @@ fn act_in_want(
     Err(Flaw::NeverServed)
 }
 
-/// Who acts in the step, how, and at which reading, where that matters.
+/// Returns the step's participant, its act, and the clock reading; 0 if the step has none.
 fn act_of(step: &Step) -> Result<(u8, Act, Moment), Flaw> {
     mention::<(Submission, Outcome)>();
     let never = Moment::new(0, 0)?;
@@ -206,7 +205,7 @@ fn place_of(owner: u8, index: u16) -> Place {
     Place { owner, index }
 }
 
-/// The histories of the slots, by number.
+/// Copies the slots' histories, by participant number.
 fn histories(alloc: Global, slots: &Slots) -> Result<Vec<Vec<Event>>, Flaw> {
     let mut all = Vec::new(alloc);
     for who in [A, B, C] {
@@ -215,7 +214,7 @@ fn histories(alloc: Global, slots: &Slots) -> Result<Vec<Vec<Event>>, Flaw> {
     Ok(all)
 }
 
-/// Whether the slots have these histories.
+/// Returns `true` if the slots have these histories.
 fn are_histories(slots: &Slots, histories: &[Vec<Event>]) -> bool {
     let mut who = A;
     for events in histories {
@@ -227,7 +226,7 @@ fn are_histories(slots: &Slots, histories: &[Vec<Event>]) -> bool {
     true
 }
 
-/// Whether the slots have the histories of the hub.
+/// Returns `true` if the slots have the hub's histories.
 fn has_histories(world: &World, slots: &Slots) -> bool {
     for who in [A, B, C] {
         if !world.settings().has_participant(who) {

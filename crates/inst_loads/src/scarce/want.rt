@@ -1,30 +1,31 @@
-//! Want of memory: what takes it away before a call, and how often calls were made so.
+//! What the rows share: the hoard, and the counts of calls and failures.
 use crate::flaw::Flaw;
 use crate::hoard::Hoard;
 
-/// By how much the memory that is left grows from one try to the next, in bytes.
+/// The growth of the memory that is left from one try to the next, in bytes.
 pub(crate) const QUANTUM: usize = 16;
 
-/// How often a call is tried at most.
+/// The most tries of a call.
 pub(crate) const MOST_TRIES: usize = 4_096;
 
-/// Whether a call takes memory.
+/// Whether a call allocates.
 #[derive(Clone, Copy)]
 pub(crate) enum Need {
-    /// It is refused memory at least once.
+    /// It allocates, so it must fail at least once.
     Takes,
-    /// It promises success without memory.
+    /// It promises not to allocate.
     TakesNone,
-    /// What it takes may be there from an earlier growth.
+    /// It may find spare capacity from an earlier allocation.
     MayTake,
 }
 
-/// How many calls were answered, and how often one was refused memory before.
+/// How many calls succeeded, and how many tries failed to allocate before.
 #[derive(Clone, Copy)]
 pub(crate) struct Tries {
     pub(crate) answered: u32,
     pub(crate) refused: usize,
-    /// What was wrong with the first call that was refused memory needlessly or never.
+    /// The flaw of the first call that failed to allocate though it must not, or never failed
+    /// though it must.
     pub(crate) flaw: Option<Flaw>,
 }
 
@@ -37,7 +38,7 @@ impl Tries {
         }
     }
 
-    /// One more call, answered after so many refusals.
+    /// Counts a call that succeeded after `refused` failures.
     pub(crate) fn count(&mut self, need: Need, refused: usize) {
         self.answered = self.answered.saturating_add(1);
         self.refused = self.refused.saturating_add(refused);
@@ -52,14 +53,14 @@ impl Tries {
     }
 }
 
-/// The hoard that takes memory away, and the calls that were made in want of it.
+/// The hoard that takes the memory, and the counts.
 #[derive(Drop)]
 pub(crate) struct Want {
     pub(crate) hoard: Hoard,
     pub(crate) tries: Tries,
 }
 
-/// `OtherAnswer` where an answer isn't the row's.
+/// Returns `OtherAnswer` unless the answer is right.
 pub(crate) fn check_answer(is_right: bool) -> Result<(), Flaw> {
     if !is_right {
         return Err(Flaw::OtherAnswer);

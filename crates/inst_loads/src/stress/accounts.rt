@@ -1,4 +1,4 @@
-//! Whether the participants have what the outcomes of the transfers make of their funding.
+//! Compares each participant's position with the outcomes of the transfers and with its statement.
 ghost use Rattle.inst_hub.specs.Calls.{IsTellerOf};
 ghost use Rattle.inst_loads.specs.Jobs.{IsStill};
 
@@ -10,14 +10,14 @@ use inst_command::{Command, Line, LineKind, Outcome, Query, Reply, State};
 use inst_hub::{Hub, Teller};
 use std::sync::Wait;
 
-/// How many replies have all lines of a participant: one for its funding, and for each transfer of
-/// the hub at most one.
+/// The number of pages that have all lines of a participant: one line for its funding, and at most
+/// one for each transfer of the hub.
 const PAGES: u16 = 3;
 
-/// How many lines a reply has at most.
+/// The most lines of a page.
 const PAGE: u32 = 100;
 
-/// What a participant received and paid, in cents.
+/// The amounts that a participant received and paid, in cents.
 #[derive(Clone, Copy)]
 struct Turnover {
     received: u64,
@@ -25,7 +25,7 @@ struct Turnover {
 }
 
 impl Turnover {
-    /// With this transfer, if it was accepted. `NoTicket` where no teller was told what it is over.
+    /// Adds this transfer, if it was accepted. Fails with `NoTicket` if no teller knows its amount.
     fn with(self, who: u8, sight: &ToldTransfer) -> Result<Turnover, Flaw> {
         if sight.state != State::Decided(Outcome::Accepted) {
             return Ok(self);
@@ -42,7 +42,7 @@ impl Turnover {
     }
 }
 
-/// The position that the outcomes make of the funding of the participant.
+/// Returns the participant's funding, with what it received and less what it paid.
 fn expected(who: u8, sights: &Sights) -> Result<u64, Flaw> {
     let mut turnover = Turnover {
         received: 0,
@@ -57,16 +57,17 @@ fn expected(who: u8, sights: &Sights) -> Result<u64, Flaw> {
     Ok(credit.saturating_sub(turnover.paid))
 }
 
-/// The balance after the lines of a statement that were read.
+/// The balance after some lines of a statement.
 #[derive(Clone, Copy)]
 struct RunningBalance {
-    /// How many lines these were.
+    /// The number of these lines.
     lines: u32,
     position: u64,
 }
 
 impl RunningBalance {
-    /// After one line more, which has the next number and the position that it leads to.
+    /// Returns the balance after one more line, which must have the next number and the right
+    /// position.
     fn after_line(self, line: &Line) -> Result<RunningBalance, Flaw> {
         let cents = line.cents.get();
         let position = match line.kind {
@@ -95,7 +96,7 @@ impl RunningBalance {
     }
 }
 
-/// The position to which the statement of the participant leads.
+/// Reads the participant's statement, and returns its last position.
 fn statement<R: Wait>(rt: &R, hub: &Hub, teller: &mut Teller, who: u8) -> Result<u64, Flaw>
     requires { IsTellerOf hub.now teller.old }
     ensures { IsStill hub.now teller.old teller.new }
@@ -115,8 +116,8 @@ fn statement<R: Wait>(rt: &R, hub: &Hub, teller: &mut Teller, who: u8) -> Result
     Ok(balance.position)
 }
 
-/// The position of a participant, where nothing is reserved, and it is what the outcomes and the
-/// statement say.
+/// Returns a participant's position. Fails if something is reserved, or if the position isn't that
+/// of the outcomes and of the statement.
 fn check_account<R: Wait>(
     rt: &R,
     hub: &Hub,
@@ -143,7 +144,7 @@ fn check_account<R: Wait>(
     Ok(money.position)
 }
 
-/// Each account is right, and the positions sum to the funding.
+/// Checks each account, and that the positions sum to the funding.
 pub(crate) fn check_accounts<R: Wait>(
     rt: &R,
     hub: &Hub,

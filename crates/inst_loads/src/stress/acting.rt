@@ -1,4 +1,4 @@
-//! What a teller does in a stress, and what it is told.
+//! The calls of a teller in a stress, and what it notes of the replies.
 ghost use Rattle.inst_hub.specs.declared.hub.Hub.{Hub};
 ghost use Rattle.inst_hub.specs.Calls.{IsTellerOf};
 ghost use Rattle.inst_loads.specs.Jobs.{IsStill};
@@ -12,7 +12,7 @@ use inst_command::{Ask, Outcome, Place, Reply};
 use inst_hub::{Hub, Teller, Ticket};
 use std::sync::Wait;
 
-/// Does so, and notes what it was told.
+/// Makes the chosen call, and notes what it returns.
 pub(crate) fn act_so<R: Wait>(
     rt: &R,
     hub: &Hub,
@@ -36,7 +36,7 @@ pub(crate) fn act_so<R: Wait>(
     }
 }
 
-/// How many were new in a sweep.
+/// Sweeps a participant, and returns how many events were stored.
 pub(crate) fn sweep<R: Wait>(
     rt: &R,
     hub: &Hub,
@@ -53,7 +53,7 @@ pub(crate) fn sweep<R: Wait>(
     Ok(hub.sweep(rt, teller, who, at)?)
 }
 
-/// Asks, and peeks where there is a ticket.
+/// Asks, and peeks if there is a ticket.
 pub(crate) fn ask_so<R: Wait>(
     rt: &R,
     hub: &Hub,
@@ -73,7 +73,7 @@ pub(crate) fn ask_so<R: Wait>(
     }
 }
 
-/// Whether the position that a reply tells, if any, is what is reserved and what is available.
+/// Checks that a reply's position is the sum of its reserved and available amounts.
 fn is_balanced(reply: &Reply) -> Result<(), Flaw> {
     match money_of(reply) {
         Some(money) if money.reserved.checked_add(money.available) != Some(money.position) => {
@@ -83,7 +83,7 @@ fn is_balanced(reply: &Reply) -> Result<(), Flaw> {
     }
 }
 
-/// Notes what a reply with no ticket tells.
+/// Notes a reply that has no ticket.
 fn told_other(sights: &mut Sights, reply: &Reply) -> Result<(), Flaw> {
     match reply {
         Reply::Taken { .. } | Reply::State { .. } => Err(Flaw::NoTicket),
@@ -92,7 +92,7 @@ fn told_other(sights: &mut Sights, reply: &Reply) -> Result<(), Flaw> {
     }
 }
 
-/// Notes the state that a reply tells, if it tells one.
+/// Notes the state in a reply, if it has one.
 fn note_reply(sights: &mut Sights, sight: &ToldTransfer, reply: &Reply) -> Result<(), Flaw> {
     match reply {
         Reply::State { .. } => sights.note(*sight, Flaw::ReplyWentBack),
@@ -100,7 +100,7 @@ fn note_reply(sights: &mut Sights, sight: &ToldTransfer, reply: &Reply) -> Resul
     }
 }
 
-/// Notes what the reply tells of the ticket's transfer, and what a peek then shows.
+/// Notes what the reply says of the ticket's transfer, and what a peek then returns.
 fn told(
     teller: &mut Teller,
     sights: &mut Sights,
@@ -117,7 +117,7 @@ fn told(
     sights.note(ToldTransfer { state, ..sight }, Flaw::PeekWentBack)
 }
 
-/// Peeks at this place, where it was told of.
+/// Peeks at this place, if a transfer was noted there.
 pub(crate) fn peek_at(teller: &mut Teller, sights: &mut Sights, place: Place) -> Result<(), Flaw>
     ensures { (hub : Hub) → IsTellerOf hub teller.old → IsStill hub teller.old teller.new }
 {

@@ -1,4 +1,4 @@
-//! What a thread of a stress does, step by step.
+//! Chooses the calls of a thread in a stress.
 use crate::hub::opening::AHEAD;
 use crate::stress::generator::Generator;
 use crate::stress::sights::PLACES;
@@ -8,40 +8,40 @@ use inst_base::{Cents, Fault, Moment, Reason};
 use inst_command::{Ask, Command, Place, Query, Submission};
 use std::alloc::Global;
 
-/// How many steps a thread takes in a round.
+/// The number of calls of a thread in a round.
 pub(crate) const STEPS: u32 = 2_048;
 
-/// After how many steps all threads wait for one another and go on to the next number, so that they
-/// meet at the same transfers.
+/// The number of calls after which all threads wait for one another and proceed to the next number,
+/// so that they use the same transfers at the same time.
 const PACE: u32 = 32;
 
-/// How many numbers are at hand at a time.
+/// The number of transfers of an originator that are in use at a time.
 const WINDOW: u32 = 4;
 
-/// Of how many steps one is in want of memory, in a round of such.
+/// In a round with allocation failures, one call in this many is made with little memory left.
 const WANT: u32 = 4;
 
-/// By how many bytes the memory that is left for such a step may differ.
+/// The sizes of that memory are multiples of this, in bytes.
 const QUANTUM: u32 = 16;
 
-/// How many such differences there are.
+/// The number of such sizes.
 const QUANTA: u32 = 64;
 
-/// By how many numbers questions lie behind submissions.
+/// How many numbers the other calls are behind the submissions.
 const BEHIND: u32 = 2;
 
-/// What a thread does in one step.
+/// One call of a thread.
 #[derive(Clone, Copy)]
 pub(crate) enum Choice {
-    /// It asks, and peeks where it gets a ticket.
+    /// Asks, and peeks if there is a ticket.
     Ask(Ask),
-    /// It peeks at this place, where it has a ticket for it.
+    /// Peeks at this place, if a transfer was noted there.
     Peek(Place),
-    /// It sweeps the participant at this reading.
+    /// Sweeps the participant at this clock reading.
     Sweep { who: u8, at: Moment },
 }
 
-/// Chooses what a thread does. The same round and thread always give the same choices.
+/// Chooses a thread's calls, always the same ones for a round and thread.
 #[derive(Drop)]
 pub(crate) struct Chooser {
     generator: Generator,
@@ -60,7 +60,7 @@ impl Chooser {
         }
     }
 
-    /// What the thread does next.
+    /// Returns the thread's next call.
     pub(crate) fn choose(&mut self, alloc: Global) -> Result<Choice, Fault> {
         self.step = self.step.saturating_add(1);
         match self.step % PACE {
@@ -70,8 +70,8 @@ impl Chooser {
         }
     }
 
-    /// How often the threads have arrived, where they now wait for one another, first before the
-    /// first step.
+    /// Returns how many arrivals the threads wait for now, or `None` if they don't wait. They wait
+    /// first before the first call.
     pub(crate) fn arrivals(&self) -> Option<u32> {
         if self.step % PACE != 0 {
             return None;
@@ -80,8 +80,7 @@ impl Chooser {
         Some(times.saturating_mul(u32::from(self.round.threads)))
     }
 
-    /// How many bytes of memory are left for the step that was chosen, where it is to be in want of
-    /// memory.
+    /// Returns how many bytes of memory are left for the chosen call, or `None` if all are.
     pub(crate) fn bytes_left(&mut self) -> Option<usize> {
         if !self.round.is_scarce || self.generator.below(WANT) != 0 {
             return None;
@@ -89,8 +88,8 @@ impl Chooser {
         Some((self.generator.below(QUANTA) * QUANTUM) as usize)
     }
 
-    /// The contested transfer: all threads submit it before they wait for one another, and then
-    /// decide it at the same time.
+    /// Returns the contested transfer: all threads submit it before they wait for one another, and
+    /// then decide it at the same time.
     fn contested(&self, alloc: Global) -> Result<NextTransfer, Fault> {
         let number = self.step / PACE;
         let participants = u32::from(PARTICIPANTS);
@@ -101,8 +100,8 @@ impl Chooser {
         )
     }
 
-    /// The one half of the threads confirm or reject the contested transfer in time, the others let
-    /// it expire.
+    /// Half of the threads confirm or reject the contested transfer in time; the others let it
+    /// expire.
     fn decide_contested(&self, transfer: &NextTransfer) -> Result<Choice, Fault> {
         let NextTransfer { from, to, id, .. } = *transfer;
         let deadline = transfer.deadline();
@@ -117,7 +116,7 @@ impl Chooser {
         }
     }
 
-    /// Any choice, by chance.
+    /// Returns a random call.
     fn any(&mut self, alloc: Global) -> Result<Choice, Fault> {
         let from = self.participant();
         let number = self.number();
@@ -139,7 +138,7 @@ impl Chooser {
         self.generator.below(u32::from(PARTICIPANTS)) as u8
     }
 
-    /// One of the numbers at hand, and at times any.
+    /// Returns one of the numbers in use, or at times any number.
     fn number(&mut self) -> u32 {
         if self.generator.below(8) == 0 {
             return self.generator.below(NAMES);
@@ -147,8 +146,8 @@ impl Chooser {
         (self.step / PACE + self.generator.below(WINDOW)) % NAMES
     }
 
-    /// The number that the thread submits for this one: even ones are all threads', each odd one is
-    /// one thread's.
+    /// Returns the number that the thread submits instead: all threads submit the even numbers, one
+    /// thread each odd one.
     fn submitted(&self, number: u32) -> u32 {
         let threads = u32::from(self.round.threads.max(1));
         if number % 2 == 1 && number / 2 % threads != u32::from(self.thread) {
@@ -157,7 +156,7 @@ impl Chooser {
         number
     }
 
-    /// A submission, mostly in time; now and then with other contents, which is no repeat.
+    /// Returns a submission, mostly in time. Some have another beneficiary and so aren't repeats.
     fn submission(&mut self, transfer: &NextTransfer) -> Result<Choice, Fault> {
         let is_other = self.generator.below(32) == 0;
         let to = if is_other {
@@ -174,7 +173,7 @@ impl Chooser {
         submit_so(transfer, to, at)
     }
 
-    /// What the parties ask of a transfer, or of themselves.
+    /// Returns another command about a transfer or a participant, or a sweep.
     fn question(&mut self, transfer: &NextTransfer) -> Result<Choice, Fault> {
         let NextTransfer { from, to, id, .. } = *transfer;
         let at = self.reading(transfer.deadline());
@@ -195,8 +194,8 @@ impl Chooser {
         }
     }
 
-    /// A reading for the decision of a transfer: well before its deadline, about the margin, about
-    /// the deadline.
+    /// Returns a clock reading for a decision: well before the deadline, or near the margin or the
+    /// deadline.
     fn reading(&mut self, deadline: u64) -> u64 {
         let margin = u64::from(self.round.margin);
         match self.generator.below(16) {
@@ -210,7 +209,7 @@ impl Chooser {
         }
     }
 
-    /// One that tells the thread.
+    /// Returns a reason that depends on the thread.
     fn reason(&self) -> Result<Reason, Fault> {
         Reason::new(match self.thread % 4 {
             0 => "AC01",
@@ -221,7 +220,7 @@ impl Chooser {
     }
 }
 
-/// A submission of the transfer, in time.
+/// Returns a submission of the transfer, in time.
 fn submit(transfer: &NextTransfer) -> Result<Choice, Fault> {
     submit_so(transfer, transfer.to, transfer.stamp)
 }

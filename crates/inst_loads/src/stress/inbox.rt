@@ -1,10 +1,10 @@
-//! Whether what was handed out is what was submitted: no transfer twice, and each that didn't time
-//! out.
+//! Compares the fetched entries with the submitted transfers: no transfer twice, and each that
+//! didn't time out.
 use crate::flaw::Flaw;
 use crate::stress::sights::{Sights, ToldTransfer};
 use inst_command::{Entry, Outcome, State};
 
-/// How many of the entries are of the transfer that was seen so.
+/// Counts the entries of this transfer.
 fn count_of(entries: &[Entry], sight: &ToldTransfer) -> usize {
     let owner = sight.ticket.place().owner;
     let mut count = 0usize;
@@ -16,7 +16,7 @@ fn count_of(entries: &[Entry], sight: &ToldTransfer) -> usize {
     count
 }
 
-/// Whether a teller was told of the transfer that was handed out so.
+/// Returns `true` if a teller noted the transfer of this entry.
 fn is_known(sights: &Sights, entry: &Entry) -> bool {
     for slot in sights.places() {
         if let Some(sight) = slot {
@@ -28,7 +28,7 @@ fn is_known(sights: &Sights, entry: &Entry) -> bool {
     false
 }
 
-/// Whether a teller was told of all that was handed out.
+/// Returns `true` if tellers noted the transfers of all fetched entries.
 fn are_known(sights: &Sights) -> bool {
     for entry in sights.entries() {
         if !is_known(sights, entry) {
@@ -38,9 +38,9 @@ fn are_known(sights: &Sights) -> bool {
     true
 }
 
-/// All that was handed out was submitted, and nothing is missing: `StrangeEntry` where a transfer
-/// was handed out twice, or one that nobody was told of. A transfer comes to its beneficiary after
-/// its submission, but where it timed out before.
+/// Checks that every fetched entry was submitted and none is missing. Fails with `StrangeEntry` if
+/// a transfer was fetched twice or no teller noted it, and with `NotHandedOut` if one is missing
+/// that didn't time out. A transfer that timed out may never have been delivered.
 pub(crate) fn check_inbox(sights: &Sights) -> Result<(), Flaw> {
     if !are_known(sights) {
         return Err(Flaw::StrangeEntry);

@@ -1,4 +1,4 @@
-//! What the tellers tell each other and see once their threads are joined.
+//! Meetings of the tellers, and what they see, after the threads have ended.
 ghost use Rattle.inst_hub.specs.declared.hub.Hub.{Hub};
 ghost use Rattle.inst_hub.specs.Calls.{IsTellerOf};
 ghost use Rattle.inst_loads.specs.Jobs.{AreJobsOf, AreStill, IsStill};
@@ -9,7 +9,7 @@ use crate::stress::acting::peek_at;
 use crate::stress::sights::{ALL_PLACES, Sights, ToldTransfer, place_of};
 use inst_hub::{Hub, Teller};
 
-/// The teller meets that of each job.
+/// Lets the teller meet each job's teller.
 pub(crate) fn meet_all(hub: &Hub, teller: &mut Teller, jobs: &mut [HubJob])
     requires { IsTellerOf hub.now teller.old × AreJobsOf hub.now jobs.old }
     ensures { IsStill hub.now teller.old teller.new × AreStill hub.now jobs.old jobs.new }
@@ -19,7 +19,7 @@ pub(crate) fn meet_all(hub: &Hub, teller: &mut Teller, jobs: &mut [HubJob])
     }
 }
 
-/// The teller peeks at all that was told of.
+/// Lets the teller peek at every noted transfer.
 pub(crate) fn peek_all(teller: &mut Teller, sights: &mut Sights) -> Result<(), Flaw>
     ensures { (hub : Hub) → IsTellerOf hub teller.old → IsStill hub teller.old teller.new }
 {
@@ -29,7 +29,7 @@ pub(crate) fn peek_all(teller: &mut Teller, sights: &mut Sights) -> Result<(), F
     Ok(())
 }
 
-/// Whether the teller sees just what was noted.
+/// Returns `true` if the teller sees the noted state.
 fn sees_so(teller: &mut Teller, slot: &Option<ToldTransfer>) -> bool
     ensures { (hub : Hub) → IsTellerOf hub teller.old → IsStill hub teller.old teller.new }
 {
@@ -39,7 +39,7 @@ fn sees_so(teller: &mut Teller, slot: &Option<ToldTransfer>) -> bool
     }
 }
 
-/// Whether the teller sees of all transfers just what was noted.
+/// Returns `true` if the teller sees the noted state of each transfer.
 fn sees_all_so(teller: &mut Teller, sights: &Sights) -> bool
     ensures { (hub : Hub) → IsTellerOf hub teller.old → IsStill hub teller.old teller.new }
 {
@@ -51,7 +51,7 @@ fn sees_all_so(teller: &mut Teller, sights: &Sights) -> bool
     true
 }
 
-/// The tellers of all jobs see just what was noted.
+/// Checks that each job's teller sees the noted state of each transfer.
 pub(crate) fn agree(jobs: &mut [HubJob], sights: &Sights) -> Result<(), Failure>
     ensures { (hub : Hub) → AreJobsOf hub jobs.old → AreStill hub jobs.old jobs.new }
 {

@@ -1,10 +1,12 @@
+//! A barrier for the threads of a round.
 use std::sync::atomic::{AtomicU32, Ordering};
 use std::thread::yield_now;
 
-/// How often a thread looks for the others before it goes on without them, as where one has failed.
+/// The most times that a thread looks for the others before it continues without them, for example
+/// after another thread failed.
 const TURNS: u32 = 20_000;
 
-/// Where the threads of a round wait for one another, so that they go on at the same time.
+/// A barrier: the threads of a round wait for one another, and then continue at the same time.
 #[derive(Drop)]
 pub(crate) struct Pace {
     arrived: AtomicU32,
@@ -17,7 +19,7 @@ impl Pace {
         }
     }
 
-    /// Waits until threads have arrived so often, this time and all earlier ones counted.
+    /// Arrives, and waits until there were `times` arrivals, counted from the beginning.
     pub(crate) fn wait(&self, times: u32) {
         self.arrived.fetch_add(1, Ordering::SeqCst);
         for _turn in 0..TURNS {

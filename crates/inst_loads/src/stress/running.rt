@@ -1,4 +1,4 @@
-//! The threads of a stress, each with a teller of its own.
+//! The threads of a stress, each with one teller.
 ghost use Rattle.std.specs.Prelude.{IfOk};
 ghost use Rattle.inst_hub.specs.Calls.{IsTellerOf};
 ghost use Rattle.inst_loads.specs.Done.{AllAreDone};
@@ -18,23 +18,23 @@ use std::alloc::{AllocError, Global};
 use std::sync::Wait;
 use std::thread::{self, Threads};
 
-/// What the teller of a thread was told.
+/// What the teller of a thread noted.
 #[derive(Drop)]
 struct RaceReply {
     sights: Sights,
-    /// Held until all threads are done: given back before, it would be taken by those that still
-    /// are in want.
+    /// Kept until all threads are done; other threads would take the memory if it were freed
+    /// earlier.
     hoard: Option<Hoard>,
 }
 
-/// Waits for the other threads where all do.
+/// Waits for the other threads at the steps at which all threads wait.
 fn keep_pace(chooser: &Chooser, pace: &Pace) {
     if let Some(arrivals) = chooser.arrivals() {
         pace.wait(arrivals);
     }
 }
 
-/// Takes the step that is chosen, in want of memory where that is chosen and there is a hoard.
+/// Makes the chosen call, with little memory left if that is chosen and there is a hoard.
 fn take_step<R: Wait>(
     rt: &R,
     alloc: Global,
@@ -50,7 +50,7 @@ fn take_step<R: Wait>(
     let choice = chooser.choose(alloc)?;
     match (chooser.bytes_left(), hoard) {
         (Some(bytes), Some(hoard)) => {
-            // Where the other threads hold what is to be left, less is.
+            // If other threads have part of this memory, less is left.
             let _ = hoard.leave(bytes);
             let ended = act_so(rt, hub, teller, sights, &choice);
             hoard.give_back();
@@ -60,7 +60,8 @@ fn take_step<R: Wait>(
     }
 }
 
-/// Takes the steps that are chosen. In a round of want one that is refused memory is passed over.
+/// Makes the chosen calls. In a round with allocation failures, a call that fails to allocate is
+/// counted.
 fn take_steps<R: Wait>(
     rt: &R,
     alloc: Global,
@@ -75,7 +76,7 @@ fn take_steps<R: Wait>(
     let mut chooser = chooser;
     let is_scarce = chooser.round.is_scarce;
     let mut sights = Sights::new(alloc)?;
-    // All threads have their stacks before one takes the memory.
+    // Now all threads have their stacks, and one may take the memory.
     keep_pace(&chooser, pace);
     let mut hoard = if is_scarce { Hoard::new(alloc) } else { None };
     for _step in 0..STEPS {
@@ -122,7 +123,7 @@ fn work<R: Wait>(
     }
 }
 
-/// Does the jobs, each in a thread of its own.
+/// Does each job in its own thread.
 fn work_all<R: Threads + Wait + Sync>(
     rt: &R,
     alloc: Global,
@@ -144,7 +145,7 @@ fn work_all<R: Threads + Wait + Sync>(
     )
 }
 
-/// All that the tellers were told.
+/// Merges what all tellers noted.
 fn add_all(alloc: Global, all: Vec<RaceReply>) -> Result<Sights, Flaw> {
     let mut sights = Sights::new(alloc)?;
     for told in all {
@@ -153,7 +154,7 @@ fn add_all(alloc: Global, all: Vec<RaceReply>) -> Result<Sights, Flaw> {
     Ok(sights)
 }
 
-/// Does the jobs, and gathers all that their tellers were told.
+/// Does the jobs, and merges what their tellers noted.
 pub(crate) fn run<R: Threads + Wait + Sync>(
     rt: &R,
     alloc: Global,

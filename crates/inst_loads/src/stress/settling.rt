@@ -1,4 +1,4 @@
-//! What is asked once all threads are joined, so that nothing is unread and no transfer is pending.
+//! Calls after the threads have ended: everything is fetched, and every transfer is decided.
 ghost use Rattle.inst_hub.specs.Calls.{IsTellerOf};
 ghost use Rattle.inst_loads.specs.Jobs.{IsStill};
 
@@ -12,10 +12,10 @@ use inst_command::{Ask, Command, Place, State};
 use inst_hub::{Hub, Teller};
 use std::sync::Wait;
 
-/// A reading past all deadlines, in milliseconds.
+/// A clock reading after all deadlines, in milliseconds.
 const LATE: u64 = 1_000_000;
 
-/// How many fetches hand out all that may have come to a participant.
+/// The number of fetches that return all that a participant can have received.
 const FETCHES: u16 = 2;
 
 fn late(who: u8, command: Command) -> Result<Ask, Fault> {
@@ -26,7 +26,7 @@ fn late(who: u8, command: Command) -> Result<Ask, Fault> {
     })
 }
 
-/// What the originator asks of the transfer of this place, if it is pending.
+/// Returns the originator's investigation of the place's transfer, if it is pending.
 fn question(sights: &Sights, place: Place) -> Result<Option<Ask>, Fault> {
     match sights.at(place) {
         Some(sight) if sight.state == State::Pending => {
@@ -36,8 +36,8 @@ fn question(sights: &Sights, place: Place) -> Result<Option<Ask>, Fault> {
     }
 }
 
-/// The originator of each pending transfer asks for it, so that it times out and both sides learn
-/// of it.
+/// Lets the originator of each pending transfer investigate it after the deadline, so that it times
+/// out and both sides learn it.
 pub(crate) fn settle<R: Wait>(
     rt: &R,
     hub: &Hub,
@@ -55,7 +55,8 @@ pub(crate) fn settle<R: Wait>(
     Ok(())
 }
 
-/// How many were new in a sweep of each participant at this reading, in milliseconds.
+/// Sweeps each participant at this clock reading in milliseconds, and returns how many events were
+/// stored.
 fn sweep_each<R: Wait>(rt: &R, hub: &Hub, teller: &mut Teller, at: u64) -> Result<u32, Flaw>
     requires { IsTellerOf hub.now teller.old }
     ensures { IsStill hub.now teller.old teller.new }
@@ -68,8 +69,8 @@ fn sweep_each<R: Wait>(rt: &R, hub: &Hub, teller: &mut Teller, at: u64) -> Resul
     Ok(count)
 }
 
-/// In a round of want each participant is swept at a reading at which nothing is due, so that what
-/// followed a reply and was refused memory comes to it now.
+/// In a round with allocation failures, sweeps each participant at clock reading 0, at which
+/// nothing is due. This makes up for the follow-ups that failed to allocate.
 pub(crate) fn bring_all<R: Wait>(
     rt: &R,
     hub: &Hub,
@@ -85,9 +86,9 @@ pub(crate) fn bring_all<R: Wait>(
     Ok(())
 }
 
-/// Each participant is swept, and then sweeps find nothing new. The first sweeps find only what
-/// earlier sweeps decided, since a sweep of one side tells the other nothing, while each call does,
-/// but where memory is refused: so they find nothing in a round in which no thread swept.
+/// Sweeps each participant twice; the second time finds nothing new. A call does the follow-up at
+/// the other side, a sweep doesn't. So in a round without sweeps and allocation failures the first
+/// time finds nothing new either.
 pub(crate) fn sweep_all<R: Wait>(
     rt: &R,
     hub: &Hub,
@@ -107,7 +108,7 @@ pub(crate) fn sweep_all<R: Wait>(
     Ok(())
 }
 
-/// Each participant fetches what is unread.
+/// Lets each participant fetch all that it hasn't fetched yet.
 pub(crate) fn fetch_all<R: Wait>(
     rt: &R,
     hub: &Hub,

@@ -1,4 +1,4 @@
-//! What tellers were told and saw of transfers.
+//! What tellers note of transfers, from replies and peeks.
 ghost use Rattle.std.specs.Prelude.{◌<◌};
 ghost use Rattle.inst_loads.specs.declared.stress.sights.TheConstants.{ALL_PLACES};
 
@@ -9,23 +9,23 @@ use inst_command::{Command, Entry, Outcome, Place, Reply, State};
 use inst_hub::Ticket;
 use std::alloc::Global;
 
-/// How many places each participant of a stress has.
+/// The number of places of each participant in a stress.
 pub(crate) const PLACES: u16 = 64;
 
-/// How many places the hub of a stress has.
+/// The number of places of the hub in a stress.
 pub(crate) const ALL_PLACES: u16 = PARTICIPANTS * PLACES;
 
-/// What a teller was told and saw last of a transfer.
+/// What a teller noted last of a transfer.
 #[derive(Clone, Copy)]
 pub(crate) struct ToldTransfer {
     pub(crate) ticket: Ticket,
     pub(crate) id: Ident,
-    /// The beneficiary and the cents, where a submission was taken.
+    /// The beneficiary and the amount in cents, if a submission was taken.
     pub(crate) contents: Option<(u8, u64)>,
     pub(crate) state: State,
 }
 
-/// Whether a transfer may come from the one state to the other.
+/// Returns `true` if a transfer may get from the first state to the second.
 fn goes_on(before: State, after: State) -> bool {
     match before {
         State::Decided(_) => after == before,
@@ -33,7 +33,7 @@ fn goes_on(before: State, after: State) -> bool {
     }
 }
 
-/// What is known of the contents by two tellings. `OtherTransfer` where these differ.
+/// Merges what two notes have of the contents. Fails with `OtherTransfer` if they differ.
 fn both(one: Option<(u8, u64)>, two: Option<(u8, u64)>) -> Result<Option<(u8, u64)>, Flaw> {
     if one.is_some() && two.is_some() && one != two {
         return Err(Flaw::OtherTransfer);
@@ -42,7 +42,7 @@ fn both(one: Option<(u8, u64)>, two: Option<(u8, u64)>) -> Result<Option<(u8, u6
 }
 
 impl ToldTransfer {
-    /// The transfer that a reply tells of, as far as the command and the reply tell.
+    /// Returns the transfer of a reply, with what the command and the reply say of it.
     pub(crate) fn of(command: &Command, reply: &Reply, ticket: Ticket) -> Option<ToldTransfer> {
         let (id, contents, state) = match (command, reply) {
             (Command::Submit(submission), Reply::Taken { id, .. }) => {
@@ -63,8 +63,8 @@ impl ToldTransfer {
         })
     }
 
-    /// This with what was told or seen later. `OtherTransfer` where that is of another transfer,
-    /// `flaw` where the state doesn't go on.
+    /// Merges with a later note. Fails with `OtherTransfer` if that is of another transfer, and
+    /// with `flaw` if its state can't come later.
     fn then(self, later: ToldTransfer, flaw: Flaw) -> Result<ToldTransfer, Flaw> {
         if self.id != later.id {
             return Err(Flaw::OtherTransfer);
@@ -76,8 +76,8 @@ impl ToldTransfer {
         Ok(ToldTransfer { contents, ..later })
     }
 
-    /// This with what another teller was told and saw. `TellersDiffer` where both have an outcome
-    /// and not the same.
+    /// Merges with another teller's note. Fails with `TellersDiffer` if both have outcomes and
+    /// these differ.
     fn beside(self, other: ToldTransfer) -> Result<ToldTransfer, Flaw> {
         match other.state {
             State::Decided(_) => self.then(other, Flaw::TellersDiffer),
@@ -86,23 +86,22 @@ impl ToldTransfer {
     }
 }
 
-/// The sights of the transfers at all places, the entries that were handed out, and how many calls
-/// a teller made.
+/// A teller's notes of the transfers at all places, the fetched entries, and the number of calls.
 #[derive(Drop)]
 pub(crate) struct Sights {
     places: Vec<Option<ToldTransfer>>,
     entries: Vec<Entry>,
     pub(crate) calls: u64,
-    /// How many steps were refused memory.
+    /// The number of calls that failed to allocate.
     pub(crate) refused: u64,
 }
 
-/// Where the sights of this place stand.
+/// Returns the index of this place's note.
 fn index_of(place: Place) -> usize {
     usize::from(place.owner) * usize::from(PLACES) + usize::from(place.index)
 }
 
-/// The place with this number, which is below that of all places.
+/// Returns the place with this number.
 pub(crate) fn place_of(number: u16) -> Place
     requires { number < ALL_PLACES }
 {
@@ -113,8 +112,8 @@ pub(crate) fn place_of(number: u16) -> Place
 }
 
 impl Sights {
-    /// Nothing seen yet. There is room for the entries of all places, so that nothing that is noted
-    /// is refused memory.
+    /// Returns empty notes, with capacity for the entries of all places, so that noting doesn't
+    /// allocate.
     pub(crate) fn new(alloc: Global) -> Result<Sights, Flaw> {
         mention::<(State, Outcome)>();
         let mut places = Vec::new(alloc);
@@ -137,12 +136,12 @@ impl Sights {
         self.entries.as_slice()
     }
 
-    /// What was seen at this place, if anything.
+    /// Returns the note of this place, if there is one.
     pub(crate) fn at(&self, place: Place) -> Option<ToldTransfer> {
         *self.places.get(index_of(place))?
     }
 
-    /// Notes what was told or seen after all that is noted, or says what is wrong with it.
+    /// Notes what was seen after all that is noted, or fails if the two don't fit.
     pub(crate) fn note(&mut self, sight: ToldTransfer, flaw: Flaw) -> Result<(), Flaw> {
         mention::<Outcome>();
         let noted = match self.at(sight.ticket.place()) {
@@ -162,7 +161,7 @@ impl Sights {
         }
     }
 
-    /// Passes over a step that was refused memory, and counts it.
+    /// Counts a call that failed to allocate, and ignores its error.
     pub(crate) fn pass_refused(&mut self, ended: Result<(), Flaw>) -> Result<(), Flaw> {
         match ended {
             Err(Flaw::Refused(Fault::Memory)) => {
@@ -173,7 +172,7 @@ impl Sights {
         }
     }
 
-    /// Notes the entries that are handed out.
+    /// Notes fetched entries.
     pub(crate) fn fetch(&mut self, entries: &[Entry]) -> Result<(), Flaw> {
         for entry in entries {
             self.entries.push(*entry)?;
@@ -181,7 +180,7 @@ impl Sights {
         Ok(())
     }
 
-    /// These with those of another teller.
+    /// Merges the notes of another teller into these.
     pub(crate) fn add(&mut self, other: &Sights) -> Result<(), Flaw> {
         self.calls = self.calls.saturating_add(other.calls);
         self.refused = self.refused.saturating_add(other.refused);

@@ -1,25 +1,28 @@
+//! The options of a round of a stress.
+
 /// The margin of every other round, in milliseconds; the others have none.
 const MARGIN: u32 = 500;
 
-/// What a round of a stress is about.
+/// The options of a round.
 #[derive(Clone, Copy)]
 pub(crate) struct StressRound {
-    /// From 0.
+    /// Counted from 0.
     pub(crate) number: u32,
-    /// How many threads there are: 1 to 15.
+    /// 1 to 15.
     pub(crate) threads: u8,
-    /// From when on nothing is accepted, in milliseconds before the deadline.
+    /// The margin in milliseconds.
     pub(crate) margin: u32,
-    /// Whether threads sweep participants. In a round without, all that a participant knows of its
-    /// transfers it has from calls, its own and the other side's.
+    /// `true` if threads sweep participants. In a round without sweeps, a participant knows of its
+    /// transfers only from calls, its own and the other side's.
     pub(crate) sweeps: bool,
-    /// Whether threads take memory away before some calls, so that these and those of others are
-    /// refused some.
+    /// `true` if threads take memory before some calls, so that these and other threads' calls fail
+    /// to allocate.
     pub(crate) is_scarce: bool,
 }
 
 impl StressRound {
-    /// The round with this number. Every third has no sweeps, with a margin and without by turns.
+    /// Returns the round with this number. Every third has no sweeps; of these every other has a
+    /// margin.
     pub(crate) fn of(threads: u8, is_scarce: bool, number: u32) -> StressRound {
         StressRound {
             number,

@@ -1,10 +1,10 @@
+//! Counts of a stress.
 use crate::flaw::Flaw;
 use crate::stress::sights::Sights;
 use inst_command::{Outcome, State};
 use std::fmt::{self, Display, Formatter};
 
-/// How many calls were made until all transfers had ended, how these ended, and how many steps were
-/// refused memory.
+/// The number of calls, how all transfers ended, and how many calls failed to allocate.
 #[derive(Clone, Copy)]
 pub(crate) struct StressTally {
     pub(crate) calls: u64,
@@ -25,7 +25,7 @@ impl StressTally {
         }
     }
 
-    /// How all transfers that were told of ended. `StillPending` where one didn't.
+    /// Counts how all noted transfers ended. Fails with `StillPending` if one didn't.
     pub(crate) fn of(sights: &Sights) -> Result<StressTally, Flaw> {
         let mut tally = StressTally {
             calls: sights.calls,
@@ -40,7 +40,7 @@ impl StressTally {
         Ok(tally)
     }
 
-    /// With one transfer more, which ended so.
+    /// Adds one transfer.
     fn with(self, state: State) -> Result<StressTally, Flaw> {
         let mut tally = self;
         let ended = match state {

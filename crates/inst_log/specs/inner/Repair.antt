@@ -1,10 +1,10 @@
--- What a repair of a file's end leaves: its end is closed and nothing stands behind it, and
--- whatever a crash leaves of it stands for the same lines.
+-- The repair of a file's end.
 use Rattle.std.specs.Prelude.{◌≡◌, ℕ, Bool, List, Result, OnOk, IsTrue}
 use Rattle.sqlite_disk.specs.Disk.{Only}
 use Rattle.inst_log.specs.Layout.{recovered_lines, HasClosedByte}
 
--- the disk's file ends there and is closed, all of it on the disk, where the repair is done
+-- The repair: at `Ok` the file's lines end with a synced closed byte at `end`; at any moment a
+-- crash leaves the same lines.
 pub record Repairs {D T E : Type 0} (seen : D → List ℕ) (may_leave : D → List ℕ →
     Type 0) (is_clean is_usable : D → Bool)
     (old : D) (end : ℕ) (result : Result T E) (new : D) : Type 0 where

@@ -1,4 +1,4 @@
--- How a hub in one thread answers the lines of a log, part by part.
+-- Answering the lines of a log in parts.
 use Rattle.std.specs.Prelude.{◌≡◌, ◌<◌, ◌≤◌, ◌-◌, ℕ, List, [], ◌++◌, length, take, drop, Option}
 use Rattle.std.specs.Prelude.{None, Some}
 use Rattle.std.specs.Io.KnownBytes.{Appends}
@@ -9,7 +9,7 @@ use Rattle.inst_log.specs.Layout.{recovered_lines}
 use Rattle.inst_chain.specs.Chain.{said}
 use Rattle.inst_logged.specs.Answering.{replies_at, past_after, told_count}
 
--- the lines were answered, whatever the hub had gone through
+-- The lines were answered, whatever the hub's past.
 pub record AnswersLines (mode : Mode) (old new : Runner) (out_old out_new : List ℕ)
     (lines : List (List ℕ)) : Type 0 where
   pub replies : (past : HubPast) → IsRunnerAt mode past old →
@@ -17,26 +17,27 @@ pub record AnswersLines (mode : Mode) (old new : Runner) (out_old out_new : List
   pub state : (past : HubPast) → IsRunnerAt mode past old
       → IsRunnerAt mode (past_after mode past lines) new
 
--- the first lines of a batch were answered, and the others are left
+-- The first lines of a batch were answered, and `rest` is left.
 pub record AnswersFront (mode : Mode) (old new : Runner) (out_old out_new batch rest : List ℕ) :
     Type 0 where
   pub done : List (List ℕ)
   pub split : done ++ recovered_lines rest ≡ recovered_lines batch
   pub answered : AnswersLines mode old new out_old out_new done
 
--- how many further lines have been told behind these
+-- How many lines of those told follow these.
 abbrev pub left_of : Option ℕ → List (List ℕ) → Option ℕ
 left_of None lines = None
 left_of (Some told) lines = Some (told - length (said lines))
 
--- what is owed for lines that are answered again: all replies but those to the lines that have been
--- told
+-- The bytes owed for lines that are answered again: all replies but those to the first `told`
+-- lines.
 abbrev pub debt : Mode → HubPast → Option ℕ → List (List ℕ) → List ℕ
 debt mode past told lines =
     drop (length (replies_at mode past (take (told_count told (said lines)) (said lines))))
     (replies_at mode past (said lines))
 
--- the first lines were answered, so many without marks or all, and the others begin there
+-- The first lines were answered, a given number without marks or all, and the others begin at this
+-- position.
 pub record AnswersFirst (mode : Mode) (old new : Runner) (out_old out_new lines : List ℕ)
     (start count left : ℕ) : Type 0 where
   pub done : List (List ℕ)
@@ -47,7 +48,7 @@ pub record AnswersFirst (mode : Mode) (old new : Runner) (out_old out_new lines 
   pub full : 0 < left → recovered_lines (drop start lines) ≡ []
   pub answered : AnswersLines mode old new out_old out_new done
 
--- lines were answered again, and the replies to those that haven't been told were handed out
+-- Lines were answered again, and the replies to those after the first `told` were written.
 pub record AnswersAgain (mode : Mode) (told left : Option ℕ) (old new : Runner)
     (lines : List (List ℕ)) (before after : Option (List ℕ)) : Type 0 where
   pub state : (past : HubPast) → IsRunnerAt mode past old

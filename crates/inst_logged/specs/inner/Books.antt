@@ -1,4 +1,4 @@
--- The books that follow the first line of a log, as they are found.
+-- The books after the first line of a log.
 use Rattle.std.specs.Prelude.{◌≡◌, List, ℕ, ◌∷◌, ◌++◌, length, Option, None, Some, option_map}
 use Rattle.std.specs.Prelude.{Result}
 use Rattle.inst_settings.specs.Settings.{HubSettings}
@@ -14,8 +14,8 @@ use Rattle.inst_logged.specs.Header.{lines_and_mark, header_from, lines_of_books
 use Rattle.inst_logged.specs.LogHeader.{IsHeaderLine}
 use Rattle.inst_logged.specs.Finding.{Unrefused}
 
--- the text is whole lines: a first one, those of the books of these journals, their mark if the log
--- has marks, and others
+-- The text is whole lines: a first one, the books of these journals, their mark if the log has
+-- marks, and others.
 pub record HasBooks (version : Version) (s : HubSettings) (journals : List History) (text : List ℕ)
     : Type 0 where
   pub line : List ℕ
@@ -24,8 +24,8 @@ pub record HasBooks (version : Version) (s : HubSettings) (journals : List Histo
   pub lines : recovered_lines text
       ≡ lines_and_mark version (line ∷ lines_of_books s journals) ++ rest
 
--- the books behind the first line are found: none if the hub opened for the first time, and else
--- those with the same events
+-- The books after the first line are found: none for a hub that opened for the first time, else
+-- some with the same events.
 pub record FindsBooks {V : Type 0} (events_of : V →
     List (List Event)) (version : Version) (mode : Mode) (s : HubSettings) (first file : List ℕ)
     (result : Result (Option V) LoggedError) : Type 0 where

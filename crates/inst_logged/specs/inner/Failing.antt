@@ -1,5 +1,4 @@
--- Why a call of a hub with a log ended by an error that is no refusal, and what it counts of the
--- faults of the log's disk.
+-- The causes of errors that don't refuse a log, and the faults that its disk counts.
 use Rattle.std.specs.Prelude.{◌≡◌, ◌≢◌, Result, MatchResult, IfErr, IsTrue}
 use Rattle.sqlite_disk.specs.Disk.{MoreFaults}
 use Rattle.sqlite_disk.specs.declared.Disk.{Ghosts}
@@ -7,13 +6,13 @@ use Rattle.inst_logged.specs.Refused.{HasLogFailed, IsRefused}
 use Rattle.inst_logged.specs.declared.error.LoggedError.{LoggedError}
 use Rattle.inst_logged.specs.declared.error.LoggedError.TheVariants.{Changed}
 
--- the log failed only where it may have, and nobody changed it
+-- The log failed only for these causes, and nobody changed it.
 abbrev pub FailsAtLog : Type 0 → Type 0 → Type 0 → LoggedError → Type 0
 FailsAtLog failed no_room at_rest error =
     (error ≢ Changed) × HasLogFailed failed no_room at_rest error
 
--- the disk counts no fault where the call is done; where the disk has kept faith, each of its
--- errors is counted
+-- A call that succeeds counts no fault of the disk; if the disk has kept faith, each of its errors
+-- is counted.
 abbrev pub FailsBy : {D T : Type 0} → Ghosts D → D → D → Type 0 → Type 0 → Result T LoggedError →
     Type 0
 FailsBy disks old new no_room at_rest result =
@@ -21,7 +20,7 @@ FailsBy disks old new no_room at_rest result =
     (λ error. IsTrue (disks.is_clean new) →
     FailsAtLog (MoreFaults (disks.faults old) (disks.faults new)) no_room at_rest error)
 
--- the same, and its error is no refusal
+-- The same, and the error doesn't refuse the log.
 pub record FailsUnrefused {D T : Type 0} (disks : Ghosts D) (old new : D) (no_room at_rest : Type 0)
     (result : Result T LoggedError) : Type 0 where
   pub unrefused : IfErr result (λ error. ¬ IsRefused error)

@@ -14,22 +14,21 @@ use Rattle.inst_logged.specs.declared.version.Version.{Version}
 use Rattle.inst_logged.specs.declared.version.Version.TheVariants.{One, Two}
 use Rattle.inst_logged.specs.declared.hub.examining.LogFindings.{LogFindings}
 
--- a log without marks is taken as it is; one with marks has no line, or its marks are right
+-- A log with marks has no line, or its marks and end are right. One without marks isn't verified.
 abbrev pub IsVerified : Version → List ℕ → Option Marker → Type 0
 IsVerified One file found = Unit {0}
 IsVerified Two file found =
     MatchOption found (recovered_lines file ≡ []) (λ marker. SealedBy file marker)
 
--- the file's lines go so far, its marks are right, and it has the mark that was asked for
+-- The file has this extent, right marks, and the mark that was asked for.
 pub record FindsInFile (version : Version) (wanted : Option Digest) (file : List ℕ)
     (found : LogFindings) : Type 0 where
   pub extent : IsExtent file found.extent
   pub verified : IsVerified version file found.marker
   pub digest : HasWanted version wanted file
 
--- A log was only read, and this was found. It isn't taken, whatever its first lines must be and
--- however many were told, where its marks are wrong or it hasn't the mark that was asked for; or
--- the disk failed.
+-- A log was only read, and this was found. At an error the disk failed, or the log isn't taken: its
+-- marks are wrong, or it hasn't the mark that was asked for.
 pub record IsExamined {D : Type 0} (disks : Ghosts D) (version : Version) (wanted : Option Digest)
     (old new : D) (result : Result LogFindings LoggedError) : Type 0 where
   pub found : IfOk result (λ found. HasKeptFaith disks new →

@@ -1,28 +1,28 @@
--- How bytes that come behind a part of a line are cut into lines.
+-- Cutting bytes into lines, after a part of a line.
 use Rattle.std.specs.Prelude.{◌≡◌, ℕ, ◌≤◌, List, [], ◌∷◌, ◌++◌, map, length, drop, ◌==◌}
 use Rattle.std.specs.Prelude.{if◌then◌else◌}
 use Rattle.inst_base.specs.Newline.{newline}
 use Rattle.inst_log.specs.Layout.{recovered_lines, AreWholeLines}
 use Rattle.inst_logged.specs.Input.{logged_line}
 
--- the lines that end in these bytes, which come behind a part of a line
+-- The lines that end in these bytes, which follow a part of a line.
 abbrev pub lines_from : List ℕ → List ℕ → List (List ℕ)
 lines_from part [] = []
 lines_from part (b ∷ bytes) =
     if b == newline then part ∷ lines_from [] bytes else lines_from (part ++ b ∷ []) bytes
 
--- the part of a line that is left behind them
+-- The part of a line that is left after them.
 abbrev pub rest_from : List ℕ → List ℕ → List ℕ
 rest_from part [] = part
 rest_from part (b ∷ bytes) =
     if b == newline then rest_from [] bytes else rest_from (part ++ b ∷ []) bytes
 
--- a part of a line is a line at the end of the input, if it isn't empty
+-- A part of a line is a line at the end of the input, unless it is empty.
 abbrev pub last_line : List ℕ → List (List ℕ)
 last_line [] = []
 last_line (b ∷ part) = (b ∷ part) ∷ []
 
--- the bytes are these lines, each with its newline, and then what stands from `start` on
+-- The bytes are these lines, each with its newline, and then the bytes from `start`.
 pub record CutsLines (bytes : List ℕ) (start : ℕ) (before after : List ℕ) : Type 0 where
   pub within : start ≤ length bytes
   pub rest_is : drop start bytes ≡ rest_from [] bytes

@@ -1,4 +1,4 @@
--- What a read does to what is held of an input.
+-- The effect of a read on an intake.
 use Rattle.std.specs.Prelude.{◌≡◌, ℕ, ◌<◌, List, [], ◌++◌, map, length, Option}
 use Rattle.std.specs.Io.KnownBytes.{Consumes, IsAtEnd}
 use Rattle.inst_log.specs.Layout.{recovered_lines}
@@ -7,8 +7,8 @@ use Rattle.inst_logged.specs.inner.Input.{lines_from, rest_from, last_line}
 use Rattle.inst_logged.specs.declared.intake.Intake.{Intake}
 use Rattle.inst_logged.specs.Intake.{line_part}
 
--- further bytes were read, the lines that end there went into a batch, and the part of a line
--- behind them is held
+-- Bytes were read, the lines that end there were appended to a batch, and the part of a line after
+-- them is held.
 pub record TakesIn (old new : Intake) (before after : List ℕ) (left left' : Option (List ℕ)) : Type
     0 where
   pub read : List ℕ
@@ -19,7 +19,7 @@ pub record TakesIn (old new : Intake) (before after : List ℕ) (left left' : Op
   pub held_is : (part : List ℕ) → line_part old ≡ shortened_line part →
       line_part new ≡ shortened_line (rest_from part read)
 
--- the input is at its end, and what was held of a line went into the batch
+-- The input is at its end, and the held part of a line was appended to the batch.
 pub record TakesLast (old : Intake) (before after : List ℕ) (left left' : Option (List ℕ)) : Type 0
   where
     pub consumes : Consumes left left' []

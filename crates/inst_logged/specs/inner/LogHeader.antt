@@ -1,4 +1,4 @@
--- What the JSON of a first line says, member by member.
+-- The JSON members of a first line.
 use Rattle.std.specs.Prelude.{◌≡◌, ℕ, List, map, codes, Option, Some, option_and_then}
 use Rattle.serde_json.specs.Data.{Data, string, Items}
 use Rattle.serde_json.specs.Find.{get, as_number, as_u64, as_str, as_array}
@@ -9,24 +9,24 @@ use Rattle.inst_logged.specs.declared.version.Version.{Version}
 use Rattle.inst_logged.specs.declared.version.Version.TheVariants.{One, Two}
 use Rattle.inst_logged.specs.Header.{mode_word}
 
--- the number under a name
+-- The number under a name.
 abbrev pub number_in : List ℕ → Data → Option ℕ
 number_in name d = option_and_then as_u64 (option_and_then as_number (get name d))
 
--- the text under a name
+-- The text under a name.
 abbrev pub header_text : List ℕ → Data → Option (List ℕ)
 header_text name d = option_and_then as_str (get name d)
 
--- the list under a name
+-- The list under a name.
 abbrev pub list_in : List ℕ → Data → Option Items
 list_in name d = option_and_then as_array (get name d)
 
--- the version as a number
+-- The version as a number.
 abbrev pub version_number : Version → ℕ
 version_number One = 1
 version_number Two = 2
 
--- the members of the settings have these values
+-- The members of the settings have these values.
 pub record SaysSettings (s : HubSettings) (d : Data) : Type 0 where
   pub participants : list_in (codes "participants") d ≡ Some (items (map string s.codes))
   pub places : number_in (codes "places") d ≡ Some s.places
@@ -37,7 +37,7 @@ pub record SaysSettings (s : HubSettings) (d : Data) : Type 0 where
   pub ceiling : number_in (codes "ceiling") d ≡ Some s.ceiling
   pub base : number_in (codes "base") d ≡ Some s.base
 
--- all members have these values
+-- All members have these values.
 pub record HeaderSays (version : Version) (mode : Mode) (s : HubSettings) (books : Option ℕ)
     (d : Data) : Type 0 where
   pub version_is : number_in (codes "version") d ≡ Some (version_number version)

@@ -1,4 +1,4 @@
--- What one turn of a hub with a log does, and what its turns do together.
+-- One turn of a hub with a log, and all its turns.
 use Rattle.std.specs.Prelude.{◌≡◌, ◌⊎◌, ◌<◌, ℕ, List, [], ◌++◌, map, length, Option}
 use Rattle.std.specs.Io.KnownBytes.{Consumes, IsAtEnd}
 use Rattle.inst_lines.specs.Lines.{lines_of}
@@ -15,8 +15,8 @@ use Rattle.inst_logged.specs.declared.line_answers.LineAnswers.{LineAnswers}
 use Rattle.inst_logged.specs.declared.intake.Intake.{Intake}
 use Rattle.inst_logged.specs.Logged.{AreLinesOf}
 
--- further bytes were read behind a part of a line, and these are the lines that end there, as a log
--- has them
+-- Bytes were read after a part of a line, and these are the lines that end there, in their form in
+-- a log.
 pub record Turned (part : List ℕ) (intake : Intake) (lines : List (List ℕ))
     (left left' : Option (List ℕ)) : Type 0 where
   pub read : List ℕ
@@ -25,14 +25,14 @@ pub record Turned (part : List ℕ) (intake : Intake) (lines : List (List ℕ))
   pub lines_are : lines ≡ map logged_line (lines_from part read)
   pub held_is : line_part intake ≡ shortened_line (rest_from part read)
 
--- the input is at its end, and the part of a line is the last line, if it isn't empty
+-- The input is at its end, and the part of a line is the last line, unless it is empty.
 pub record Ended (part : List ℕ) (lines : List (List ℕ)) (left left' : Option (List ℕ)) : Type 0
   where
     pub consumes : Consumes left left' []
     pub at_end : IsAtEnd left'
     pub lines_are : lines ≡ map logged_line (last_line part)
 
--- these lines came, whether or not they were answered
+-- These lines were read, whether or not they were answered.
 pub record Came (part : List ℕ) (lines : List (List ℕ)) (left left' : Option (List ℕ)) : Type 0
   where
     pub read : List ℕ
@@ -40,14 +40,14 @@ pub record Came (part : List ℕ) (lines : List (List ℕ)) (left left' : Option
     pub lines_are : (lines ≡ map logged_line (lines_from part read))
         ⊎ ((read ≡ []) × (IsAtEnd left' × (lines ≡ map logged_line (last_line part))))
 
--- the bytes of an input, and all its lines, as a log has them
+-- The whole input and all its lines, in their form in a log.
 pub record IsInput (left left' : Option (List ℕ)) (lines : List (List ℕ)) : Type 0 where
   pub bytes : List ℕ
   pub consumes : Consumes left left' bytes
   pub at_end : IsAtEnd left'
   pub lines_are : lines ≡ map logged_line (lines_of bytes)
 
--- bytes of an input, and their lines, as a log has them
+-- Some bytes of the input and their lines, in their form in a log.
 pub record CameIn (left left' : Option (List ℕ)) (lines : List (List ℕ)) : Type 0 where
   pub bytes : List ℕ
   pub consumes : Consumes left left' bytes
@@ -55,7 +55,7 @@ pub record CameIn (left left' : Option (List ℕ)) (lines : List (List ℕ)) : T
   pub read_are : AreLinesOf bytes left' read
   pub lines_are : lines ≡ map logged_line read
 
--- some lines came, are on the disk with marks among them, and their replies were handed out
+-- Some lines were read and are synced, with marks among them, and their replies were written.
 pub record ServedOn {D : Type 0} (seen : D → List ℕ) (may_leave : D → List ℕ →
     Type 0) (clean : Type 0) (given : List (List ℕ) → Type 0)
     (old new : Recorder D LineAnswers) (before after : Option (List ℕ)) : Type 0 where
@@ -68,8 +68,8 @@ pub record ServedOn {D : Type 0} (seen : D → List ℕ) (may_leave : D → List
       IsSettled seen may_leave new.log
       × (recovered_lines (seen new.log.disk) ≡ recovered_lines (seen old.log.disk) ++ lines)
 
--- some bytes were read, the lines that end there are on the disk, their replies were handed out,
--- and what stands behind them is held
+-- Some bytes were read, the lines that end there are synced, their replies were written, and the
+-- part of a line after them is held.
 pub record HasCome {D : Type 0} (seen : D → List ℕ) (may_leave : D → List ℕ →
     Type 0) (clean : Type 0) (old new : Recorder D LineAnswers) (intake : Intake)
     (left left' before after : Option (List ℕ)) : Type 0 where
@@ -79,7 +79,7 @@ pub record HasCome {D : Type 0} (seen : D → List ℕ) (may_leave : D → List 
   pub served : ServedOn seen may_leave clean (λ lines.
       lines ≡ map logged_line (lines_from [] bytes)) old new before after
 
--- some lines came, and each file that a crash may leave covers what was handed out
+-- Some lines were read, and each file that a crash may leave covers what was written.
 pub record KeptOn (may_leave : List ℕ → Type 0) (given : List (List ℕ) → Type 0) (says : Replies →
     Type 0) (stand : List (List ℕ))
     (before after : Option (List ℕ)) : Type 0 where

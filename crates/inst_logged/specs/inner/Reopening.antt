@@ -1,4 +1,4 @@
--- A log was opened, and its lines were answered again.
+-- A log that was opened and whose lines were answered again.
 use Rattle.std.specs.Prelude.{◌≡◌, ◌++◌, ℕ, List, length, Option}
 use Rattle.sqlite_disk.specs.declared.Disk.{Ghosts}
 use Rattle.inst_log.specs.Layout.{recovered_lines}
@@ -10,9 +10,8 @@ use Rattle.inst_logged.specs.Running.{disk_of, file_of, Takes}
 use Rattle.inst_logged.specs.inner.Replaying.{IsReplayed}
 use Rattle.inst_logged.specs.declared.hub.LoggedHub.{LoggedHub}
 
--- the log was taken, is synced with the lines that it had, and the replies to those that haven't
--- been told were handed out; the hub makes its next mark, and knows its size; its disk counts no
--- fault
+-- The hub took the log, whose lines are synced and the same, and wrote the replies after the first
+-- `told`. It has the marker for the next mark and the file's size; the disk counted no fault.
 pub record Reopens {D : Type 0} (disks : Ghosts D) (told : Option ℕ) (wanted : Option Digest)
     (old new : LoggedHub D) (held held' : Option (List ℕ))
     : Type 0 where

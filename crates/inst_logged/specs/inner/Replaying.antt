@@ -1,4 +1,4 @@
--- The lines of a log were answered again.
+-- The lines of a log, answered again.
 use Rattle.std.specs.Prelude.{◌≡◌, ◌⊎◌, ◌<◌, ◌≤◌, ⊤, ℕ, List, [], length, Option, Result, IfErr}
 use Rattle.std.specs.Prelude.{OnErr, OnOk}
 use Rattle.sqlite_disk.specs.declared.Disk.{Ghosts}
@@ -20,7 +20,7 @@ use Rattle.inst_logged.specs.declared.error.LoggedError.{LoggedError}
 use Rattle.inst_logged.specs.declared.error.LoggedError.TheVariants.{Log}
 use Rattle.inst_logged.specs.declared.line_answers.LineAnswers.{LineAnswers}
 
--- these lines of a log, of which enough are there, and what was owed for them was handed out
+-- These are enough lines of a log, and the replies owed for them were written.
 pub record IsReplayed (mode : Mode) (told : Option ℕ) (old new : Runner) (lines : List (List ℕ))
     (before after : Option (List ℕ)) : Type 0 where
   pub enough : told_count told (said lines) ≤ length (said lines)
@@ -29,22 +29,25 @@ pub record IsReplayed (mode : Mode) (told : Option ℕ) (old new : Runner) (line
   pub tells : (past : HubPast) → IsRunnerAt mode past old →
       Tells (AreReplies (unsent_replies_at mode past (said lines) (told_count told (said lines))))
       [] before after
-  -- what is answered next is what is owed behind these
+  -- The next replies are those owed after these lines.
   pub on : (past : HubPast) → IsRunnerAt mode past old →
       SaysOn (AreReplies (unsent_replies_at mode past (said lines) (told_count told (said lines))))
       [] (SaysLines mode new)
 
--- a recorder stands for the same lines as before, and the disk of its log was only read
+-- The recorder answers the same lines as before, and the disk of its log was only read.
 pub record IsOnlyAnswering {D : Type 0} (disks : Ghosts D) (old new : Recorder D LineAnswers) : Type
     0 where
   pub mode : new.answers.mode ≡ old.answers.mode
   pub end : new.log.end ≡ old.log.end
   pub read : IsOnlyRead disks old.log.disk new.log.disk
 
--- The lines that a log has after its first ones were answered again, or an error came.
--- part: what was handed out is a prefix of what was owed
--- refused: the log has fewer lines than were told, and nothing was handed out
--- begun: after an error nothing was handed out, or enough lines are there
+-- The lines of a log after its first ones were answered again, or an error occurred.
+--
+-- `part`: the bytes written are a prefix of those owed.
+--
+-- `refused`: the log has fewer lines than `told`, and nothing was written.
+--
+-- `begun`: after an error nothing was written, or the log has enough lines.
 pub record Replays {D A : Type 0} (disks : Ghosts D) (header : List ℕ) (told : Option ℕ)
     (old new : Recorder D LineAnswers) (held held' : Option (List ℕ)) (unwritten : Type 0)
     (result : Result A LoggedError) : Type 0 where

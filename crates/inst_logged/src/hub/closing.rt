@@ -1,4 +1,4 @@
-//! A hub with a log is closed, for the next opening.
+//! Opening a log without a run, and closing its hub for the next opening.
 ghost use Rattle.std.specs.Prelude.{◌≡◌, ◌++◌, None, IfSome, IfOk, IfErr, OnOk};
 ghost use Rattle.inst_lines.specs.Answering.{HubPast};
 ghost use Rattle.inst_world.specs.HasRun.{world_settings};
@@ -15,12 +15,15 @@ use inst_journal::Journal;
 use sqlite_disk::Disk;
 
 impl<D: Disk + Drop> LoggedHub<D> {
-    /// Opens the log, or makes it if the disk is empty, and answers its lines, of which nothing is
-    /// handed out. The log has the lines that it had.
+    /// Opens the log, or makes it in a new file, and answers its lines; no reply is written. The
+    /// log's lines stay the same.
+    ///
+    /// Requires a hub and a disk as for [`run`](LoggedHub::run).
     ///
     /// # Errors
     ///
-    /// As from `run`.
+    /// Those of [`run`](LoggedHub::run) that can occur before the input is read, with the same
+    /// state left.
     pub fn open(&mut self, wanted: Option<Digest>) -> Result<(), LoggedError>
         requires ready { IsReadyHub D.Disk self.old }
         ensures ok { OnOk result (HasKeptFaith D.Disk (disk_of self.new) →
@@ -35,12 +38,15 @@ impl<D: Disk + Drop> LoggedHub<D> {
         self.reopen(None, wanted, &mut Vec::new(alloc))
     }
 
-    /// Opens the log, as `open` does, and closes the hub. Returns its books, for the next opening,
-    /// or `None` if one was opened from 500 times already.
+    /// Opens the log as [`open`](LoggedHub::open) does, and closes the hub. Returns its books for
+    /// the next opening, or `None` if a book was opened from 500 times already.
+    ///
+    /// Requires a hub and a disk as for [`run`](LoggedHub::run).
     ///
     /// # Errors
     ///
-    /// As from `run`.
+    /// Those of [`open`](LoggedHub::open), and `Log(Memory)` if the books can't be allocated; the
+    /// log's lines stay the same.
     pub fn close(&mut self, wanted: Option<Digest>) -> Result<Option<Vec<Journal>>, LoggedError>
         requires ready { IsReadyHub D.Disk self.old }
         ensures ok { IfOk result (λ books. HasKeptFaith D.Disk (disk_of self.new) →

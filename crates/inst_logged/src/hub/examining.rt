@@ -1,4 +1,4 @@
-//! A log is examined before anything is written to it.
+//! Examining a log before anything is written to it.
 ghost use Rattle.std.specs.Prelude.{IsTrue};
 ghost use Rattle.inst_logged.specs.declared.version.Version.TheVariants as version;
 ghost use Rattle.inst_logged.specs.inner.Finding.{IsExamined};
@@ -12,18 +12,17 @@ use std::alloc::Global;
 /// What a log was found to have.
 #[derive(Drop)]
 pub(crate) struct LogFindings {
-    /// How far its lines go.
+    /// The length of the file, and where its lines end.
     pub(crate) extent: Extent,
-    /// What makes its next mark, if it has marks and a line.
+    /// The marker for the next mark, if the log has marks and a line.
     pub(crate) marker: Option<Marker>,
 }
 
-/// Reads the log on this disk, and verifies its marks, if it has any.
+/// Reads the log on this disk and verifies its marks, if it has any.
 ///
 /// # Errors
 ///
-/// `Damaged` if a mark is wrong, or the end is; `OtherDigest` if it has no mark with the digest
-/// that is wanted.
+/// `Damaged` if a mark or the end is wrong, `OtherDigest` if it has no mark with the wanted digest.
 pub(crate) fn examine<D: Disk>(
     alloc: Global,
     version: Version,

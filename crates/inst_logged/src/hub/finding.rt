@@ -1,4 +1,4 @@
-//! Which hub a log is of.
+//! Finding the hub of a log from its first lines.
 ghost use Rattle.std.specs.Prelude.{◌≡◌, ◌≤◌, ◌++◌, List, [], ℕ, length, take, true, IsTrue, IfErr};
 ghost use Rattle.std.specs.Prelude.{IfOk, IfSome, None, Some, option_map};
 ghost use Rattle.inst_journal.specs.History.{History};
@@ -28,14 +28,21 @@ use sqlite_disk::Disk;
 use std::alloc::Global;
 
 impl NewHub {
-    /// Returns the hub that the log on this disk is of: one that opens again from the books that
-    /// follow the log's settings, or for the first time if none do. The log is of the version that
-    /// its first line tells. Reads the log's first lines, with its books, and changes nothing.
+    /// Returns the hub of the log on this disk: one that opens from the books after the log's
+    /// settings, or for the first time if there are none. The version is the one in the log's first
+    /// line.
+    ///
+    /// Reads the log's first lines, with its books, and writes nothing. Requires a disk without a
+    /// failed sync.
     ///
     /// # Errors
     ///
-    /// `NoLog` if no log begins as this file does, `Damaged` if the books have another digest than
-    /// their mark, `Books` if a hub of these settings can't open from them.
+    /// - `Log(NoLog)` if the first line is JSON that has neither `log` nor `version`, so the file
+    ///   can't be a log.
+    /// - `Damaged` if the mark after the books is missing or wrong.
+    /// - `Books` if the lines after the settings aren't books from which a hub of these settings
+    ///   can open.
+    /// - `Log(Disk)` if the disk fails, `Log(Memory)` if an allocation fails.
     pub fn of_log<D: Disk>(
         alloc: Global,
         mode: Mode,
@@ -46,7 +53,7 @@ impl NewHub {
         ensures begun { IfOk result (λ hub.
             HasBegun hub.version mode settings.now hub.heading.batch.items hub.answers
             × IsUnbegun hub.version hub.heading.batch.items hub.heading.marker hub.intake) }
-        // A log that has no line yet will have marks, and no books.
+        // A log without a line gets marks and no books.
         ensures first { IfOk result (λ hub. HasKeptFaith D.Disk disk.new →
             recovered_lines (D.Disk.seen disk.old) ≡ []
             → (hub.version ≡ Two) × (hub.heading.batch.items ≡ header Two mode settings.now)) }
@@ -71,14 +78,14 @@ impl NewHub {
     }
 }
 
-/// The first line of a log, and the version that it tells.
+/// The first line of a log, and its version.
 #[derive(Clone, Copy)]
 struct LogHead<'a> {
     version: Version,
     line: &'a [u8],
 }
 
-/// The journals of the books that follow the first line of the log on this disk, if any do.
+/// Returns the journals of the books after the log's first line, if there are any.
 fn books_on<D: Disk>(
     alloc: Global,
     mode: Mode,
@@ -103,8 +110,8 @@ fn books_on<D: Disk>(
     journals_in(alloc, version, settings, &text, count)
 }
 
-/// The journals of the books, so many lines, that follow the first line of this text and have their
-/// mark behind them, or none if the text has fewer lines.
+/// Returns the journals of the `count` lines of books after the first line of this text, which
+/// their mark must follow; none if the text has fewer lines.
 fn journals_in(
     alloc: Global,
     version: Version,
@@ -132,7 +139,7 @@ fn journals_in(
     Ok(Some(journals_of(alloc, settings, &books[..end])?))
 }
 
-/// Whether the mark of the first bytes of a log, so many, follows them.
+/// Returns `true` if the mark of the first `end` bytes follows them.
 fn has_mark_at(text: &[u8], end: usize) -> bool
     requires { end ≤ length text.now }
     ensures { (rest : List ℕ) →
@@ -144,7 +151,7 @@ fn has_mark_at(text: &[u8], end: usize) -> bool
     text[end..].starts_with(&mark)
 }
 
-/// The journals that the text of books tells, from which a hub can open.
+/// Returns the journals in the text of books, if a hub can open from them.
 fn journals_of(alloc: Global, settings: &Settings, text: &[u8]) -> Result<Vec<Journal>, LoggedError>
     ensures journals { IfOk result (λ journals. CanOpenFrom settings.now journals.items) }
     ensures found { (journals : List History) → CanBeginFrom settings.now journals →
@@ -158,7 +165,7 @@ fn journals_of(alloc: Global, settings: &Settings, text: &[u8]) -> Result<Vec<Jo
     Ok(journals)
 }
 
-/// Why books weren't read.
+/// Returns the error for books that couldn't be read.
 fn unread(fault: BookFault) -> LoggedError
     ensures { fault ≡ Memory → ¬ IsRefused result }
 {

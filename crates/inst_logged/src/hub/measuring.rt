@@ -1,4 +1,4 @@
-//! The size of a log's file is compared before each write.
+//! Comparing the size of a log's file before each write.
 ghost use Rattle.std.specs.Prelude.{◌≡◌, ◌≤◌, ◌^◌, ◌++◌, length, IfOk, OnOk};
 ghost use Rattle.inst_log.specs.Disks.{HasKeptFaith, IsOnlyRead, IsJustOpened};
 ghost use Rattle.inst_log.specs.Layout.{recovered_lines, blocks, IsBatch, AreWholeLines, EndsWell};
@@ -15,11 +15,11 @@ use inst_log::{Extent, Log, Recorder, Start};
 use sqlite_disk::Disk;
 use std::io::Write;
 
-/// Opens a log as what it was found to be. Returns the size of its file, in bytes.
+/// Opens a log as what it was found to be. Returns the size of its file in bytes.
 ///
 /// # Errors
 ///
-/// `Changed` if the file doesn't reach to the end of the log by then.
+/// `Changed` if the file is shorter than the log by then.
 pub(crate) fn open_measured<D: Disk>(
     log: &mut Log<D>,
     header: &[u8],
@@ -42,14 +42,13 @@ pub(crate) fn open_measured<D: Disk>(
     measure(log)
 }
 
-/// Answers the lines of a batch, once they are on the disk, if the log's file has this size. Gets
-/// the size that it has then.
+/// Answers the lines of a batch after they are synced, if the log's file has this size. Sets `size`
+/// to its new one.
 ///
 /// # Errors
 ///
-/// `Changed` if the file has another size: nothing was written to it. So too if the file doesn't
-/// reach to the end of the log afterwards: another program truncated it while the replies were
-/// written.
+/// `Changed` if the file has another size; nothing was written to it. Also if the file is shorter
+/// than the log afterwards, since another program truncated it while the replies were written.
 pub(crate) fn serve_measured<D: Disk, W: Write>(
     recorder: &mut Recorder<D, LineAnswers>,
     size: &mut usize,
@@ -78,11 +77,11 @@ pub(crate) fn serve_measured<D: Disk, W: Write>(
     Ok(())
 }
 
-/// Returns the size of a log's file, in bytes.
+/// Returns the size of a log's file in bytes.
 ///
 /// # Errors
 ///
-/// `Changed` if the file doesn't reach to the end of the log.
+/// `Changed` if the file is shorter than the log.
 fn measure<D: Disk>(log: &mut Log<D>) -> Result<usize, LoggedError>
     requires open { IsOpenLog D.Disk log.old }
     ensures size { IfOk result (λ size. HasKeptFaith D.Disk log.new.disk →

@@ -1,4 +1,4 @@
-//! A hub before it has the disk of its log.
+//! A hub that doesn't have the disk of its log yet.
 ghost use Rattle.std.specs.Prelude.{◌≡◌, IfOk};
 ghost use Rattle.inst_settings.specs.Lawful.{IsSettings};
 ghost use Rattle.inst_lines.specs.Answering.{new_past};
@@ -18,8 +18,8 @@ use inst_settings::Settings;
 use sqlite_disk::Disk;
 use std::alloc::{AllocError, Global};
 
-/// A hub that has answered nothing, without the disk of its log. It has capacity for its slots and
-/// places.
+/// A hub that has answered nothing, without the disk of its log. Its slots and places are
+/// allocated.
 #[derive(Drop)]
 pub struct NewHub {
     pub(super) answers: LineAnswers,
@@ -30,7 +30,13 @@ pub struct NewHub {
 }
 
 impl NewHub {
-    /// Returns a hub of these settings that opens for the first time, with a log of this version.
+    /// Returns a hub that opens for the first time, with a log of this version.
+    ///
+    /// For a file that may already be a log, use [`of_log`](NewHub::of_log).
+    ///
+    /// # Errors
+    ///
+    /// [`AllocError`] if the hub or its first lines can't be allocated.
     pub fn open(
         alloc: Global,
         version: Version,
@@ -51,8 +57,15 @@ impl NewHub {
         })
     }
 
-    /// Returns a hub of these settings that opens again from these journals, one for each
-    /// participant by number, of which it has a copy, with a log of this version.
+    /// Returns a hub that opens from a copy of these journals, one for each participant by number,
+    /// with a log of this version.
+    ///
+    /// Requires journals from which a hub with these settings can open (`CanOpenFrom`), as
+    /// [`LoggedHub::close`] returns them.
+    ///
+    /// # Errors
+    ///
+    /// [`AllocError`] if the hub, the copies or its first lines can't be allocated.
     pub fn open_from(
         alloc: Global,
         version: Version,
@@ -63,7 +76,7 @@ impl NewHub {
         requires journals { CanOpenFrom settings.now journals.now }
         ensures new { IfOk result (IsNewHub version mode (opened_from settings.now journals.now)
             (header_from version mode settings.now journals.now)) }
-        // So a start finds the log again.
+        // Then a start finds the log by its first lines.
         ensures again { IfOk result (λ _. IsSettings settings.now →
             CanBeginFrom settings.now journals.now) }
     {
@@ -78,7 +91,10 @@ impl NewHub {
         })
     }
 
-    /// Returns the hub with the disk of its log, of which nothing is read yet.
+    /// Returns the hub with the disk of its log.
+    ///
+    /// Requires a hub that has read no line. Use the disk of a file that was just opened;
+    /// [`LoggedHub::into_parts`] returns it.
     pub fn with_disk<D: Disk + Drop>(self, alloc: Global, disk: D) -> LoggedHub<D>
         requires unbegun { IsUnbegun self.version self.heading.batch.items self.heading.marker
             self.intake }

@@ -1,4 +1,4 @@
-//! The lines of a log are answered again, piece by piece.
+//! Answering the lines of a log again, in pieces.
 ghost use Rattle.std.specs.Prelude.{◌≡◌, ◌⊎◌, ◌<◌, ◌≤◌, ℕ, Some, length, IsTrue, IfOk, IfErr, OnOk};
 ghost use Rattle.std.specs.Prelude.{OnErr, ⊤};
 ghost use Rattle.inst_base.specs.Handing.{WritesPart};
@@ -20,12 +20,12 @@ use inst_log::{FileLines, LogError, Recorder, Start, deliver};
 use sqlite_disk::Disk;
 use std::io::Write;
 
-/// Answers the lines that a log has behind its first ones, none if the file is new, and hands out
-/// the replies but those to the first `told` lines, or none.
+/// Answers the lines of a log after its first ones, none for a new file, and writes the replies to
+/// those after the first `told`; none if `told` is `None`.
 ///
 /// # Errors
 ///
-/// `Told` if the log has fewer lines; then nothing was handed out.
+/// `Told` if the log has fewer lines; nothing was written.
 pub(crate) fn start_again<D: Disk, W: Write>(
     recorder: &mut Recorder<D, LineAnswers>,
     header: &[u8],
@@ -48,12 +48,12 @@ pub(crate) fn start_again<D: Disk, W: Write>(
     }
 }
 
-/// Answers the lines that a log has behind its first ones, and hands out the replies but those
-/// to the first `told` lines, or none.
+/// Answers the lines of a log after its first ones, and writes the replies to those after the first
+/// `told`; none if `told` is `None`.
 ///
 /// # Errors
 ///
-/// `Told` if the log has fewer lines; then nothing was handed out.
+/// `Told` if the log has fewer lines; nothing was written.
 fn replay<D: Disk, W: Write>(
     recorder: &mut Recorder<D, LineAnswers>,
     header: &[u8],
@@ -85,7 +85,7 @@ fn replay<D: Disk, W: Write>(
     require_none(left)
 }
 
-/// No further lines have been told.
+/// Fails with `Told` if lines are left.
 fn require_none(left: Option<u64>) -> Result<(), LoggedError>
     ensures none { OnOk result ((n : ℕ) → left ≡ Some n → n ≡ 0) }
     ensures some { IfErr result (λ error. (error ≡ Log Told) × (n : ℕ) × (left ≡ Some n)
@@ -97,8 +97,8 @@ fn require_none(left: Option<u64>) -> Result<(), LoggedError>
     }
 }
 
-/// Answers lines of a log again. The replies to the first `told` lines, or to all, are dropped, and
-/// the others handed out. Returns how many further lines have been told.
+/// Answers lines of a log again. Drops the replies to the first `told`, or to all, and writes the
+/// others. Returns how many further replies are to be dropped.
 fn answer_again<W: Write>(
     answers: &mut LineAnswers,
     out: &mut Vec<u8>,

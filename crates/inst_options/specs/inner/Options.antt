@@ -11,28 +11,27 @@ use Rattle.inst_options.specs.Options.{IsTask, Chooses, HasSmallNumbers}
 use Rattle.inst_options.specs.Options.{GivesDigest}
 use Rattle.inst_options.specs.Options.Task.{Run, Play, Drill, Check}
 
--- the options name this log, or none
+-- The options name this log, or none.
 abbrev pub GivesLog : List Row → Option LogOptions → Type 0
 GivesLog rows None = NamesNoLog rows
 GivesLog rows (Some log) =
     NamesTheLog rows log.path.now log.told log.resume (option_map (λ d. d.now) log.digest)
 
--- the options choose no settings that a hub can have
+-- The options choose no settings that a hub can have.
 abbrev pub ChooseNone : List Row → Type 0
 ChooseNone rows = (s : HubSettings) → Chooses rows s → ¬ (AreOfAHub s)
 
--- the options of the subcommand of this name choose no settings that a hub can have, or no task
--- that fits
+-- The options choose no settings that a hub can have, or no drill whose numbers fit.
 abbrev pub FitNoTask : List ℕ → List Row → Type 0
 FitNoTask name rows =
     (task : Task) (s : HubSettings) → IsTask name rows task → Chooses rows s →
     ¬ (AreOfAHub s × HasSmallNumbers task)
 
--- so it is with a subcommand that has a hub
+-- The same, for a subcommand with a hub.
 abbrev pub AskForNone : List ℕ → List Row → Type 0
 AskForNone name rows = HasAHub name × FitNoTask name rows
 
--- what the subcommand of this name asks for, with these options
+-- The subcommand of this name with these options asks for this task.
 abbrev pub IsWish : List ℕ → List Row → Invocation → Type 0
 IsWish name rows (wish.Run s log sums) =
     IsSettings s × IsTask name rows Run × Chooses rows s × GivesLog rows log

@@ -1,5 +1,4 @@
--- What the rows of the tables of subcommands and their options stand for, as `clap` reads a command
--- line.
+-- The tables of subcommands and options, as `clap` reads a command line.
 use Rattle.std.specs.Prelude.{◌-◌, ◌^◌, List, ◌∷◌, [], Option, Some, None, length, map}
 use Rattle.clap.specs.Words.{App, Rule, Text, new_app, new_rule, with_subcommand}
 use Rattle.clap.specs.declared.builder.action.ArgAction.{ArgAction}
@@ -16,28 +15,28 @@ use Rattle.inst_options.specs.declared.table.Kind.{Kind}
 use Rattle.inst_options.specs.declared.table.Kind.TheVariants.{Flag, Word, Text as OfText, Number}
 use Rattle.inst_options.specs.declared.table.Subcommand.{Subcommand}
 
--- a flag is true where it is given, and anything else has the value that is given
+-- A flag becomes true; any other option takes its value.
 abbrev pub action_of : Kind → ArgAction
 action_of Flag = SetTrue
 action_of Word = Set
 action_of OfText = Set
 action_of Number = Set
 
--- an option is given by its name, and a word by none
+-- The name of an option; a positional word has none.
 abbrev pub long_of : Kind → Text → Option Text
 long_of Flag name = Some name
 long_of Word name = None
 long_of OfText name = Some name
 long_of Number name = Some name
 
--- a number is one of 64 bits
+-- A number has 64 bits.
 abbrev pub parser_of : Kind → Option ValueParser
 parser_of Flag = None
 parser_of Word = None
 parser_of OfText = None
 parser_of Number = Some (Unsigned 0 (2 ^ 64 - 1))
 
--- what `clap` reads of an option
+-- The rule of an option.
 abbrev pub rule_of_choice : OptionRow → Rule
 rule_of_choice choice = record (new_rule choice.name.now) {
   long = long_of choice.kind choice.name.now;
@@ -48,7 +47,7 @@ rule_of_choice choice = record (new_rule choice.name.now) {
   defaults = map (λ text. text.now) choice.defaults.now;
 }
 
--- the options of a group
+-- The options of a group.
 abbrev pub rules_of : Group → List Rule
 rules_of Hub = hub_rules
 rules_of Run = run_rules
@@ -57,16 +56,16 @@ rules_of Log = file_rule ∷ []
 rules_of Next = next_rules
 rules_of Explain = fault_rule ∷ []
 
--- with the options of these groups
+-- The command line with the options of these groups.
 abbrev pub with_groups : App → List Group → App
 with_groups app [] = app
 with_groups app (group ∷ more) = with_groups (with_rules app (rules_of group)) more
 
--- a subcommand, with its options
+-- A subcommand with its options.
 abbrev pub app_of_row : Subcommand → App
 app_of_row row = with_groups (new_app row.name.now) row.groups.now
 
--- with the subcommands of a table, in their order
+-- The command line with the subcommands of a table, in order.
 abbrev pub with_rows : App → List Subcommand → App
 with_rows app [] = app
 with_rows app (row ∷ more) = with_rows (with_subcommand app (app_of_row row).top) more

@@ -1,4 +1,4 @@
--- How the boards of a hub are joined to one.
+-- Joining the boards of a hub into one.
 use Rattle.std.specs.Prelude.{◌≡◌, ℕ, ◌<◌, List, length, slice_get, Some}
 use Rattle.inst_settings.specs.Settings.{HubSettings}
 use Rattle.inst_board.specs.declared.about.Fact.{Fact}
@@ -9,8 +9,8 @@ use Rattle.inst_slot.specs.Book.{Book}
 use Rattle.inst_slot.specs.LawfulBoard.{IsLawfulBoard}
 use Rattle.inst_participant.specs.Together.{IsMemberBook}
 
--- the board has the roles of the participants whose boards these were, and is lawful for their
--- books
+-- The board has the roles of the participants whose boards were joined, and is lawful for their
+-- books.
 pub record AreJoined (words : SharedBoard) (O : Opening) (s : HubSettings) (slots : List Book)
     (done : List SharedBoard) (whole : SharedBoard) : Type 0 where
   pub one : AtOneTable words whole
@@ -18,7 +18,7 @@ pub record AreJoined (words : SharedBoard) (O : Opening) (s : HubSettings) (slot
   pub member : (p : ℕ) (x : Book) → p < length done → slice_get slots p ≡ Some x →
       IsMemberBook settings_of knows has_role whole s O p x
 
--- the same board later, which knows more, and is lawful for what it was lawful for
+-- The same board later: it knows more, and is lawful for what it was lawful for.
 pub record IsToldMore (a b : SharedBoard) : Type 0 where
   pub stays : Stays a b
   pub kept : (f : Fact) → knows a f → knows b f

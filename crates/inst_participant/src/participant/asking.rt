@@ -1,4 +1,4 @@
-//! What a participant is asked under its lock.
+//! Commands of the participant.
 ghost use Rattle.std.specs.Prelude.{◌≡◌, IfOk, OnErr};
 ghost use Rattle.inst_board.specs.Learning.{KnowTheSame};
 ghost use Rattle.inst_cell.specs.Held.{AtOneTable, knows};
@@ -17,8 +17,14 @@ use inst_command::{Ask, Reply, refusals_told};
 use std::alloc::AllocError;
 
 impl Participant {
-    /// What a command of the participant is answered, a refusal too, and a ticket where it tells of
-    /// a live transfer. Where memory is refused its history is as it was.
+    /// Answers one command of the participant.
+    ///
+    /// Returns the reply, which may be a refusal, and a [`Ticket`] if the reply concerns a live
+    /// transfer. The teller then knows all that the board knows of that transfer.
+    ///
+    /// # Errors
+    ///
+    /// [`AllocError`] if the event or the reply can't be allocated; the slot is unchanged.
     pub fn serve(
         &mut self,
         teller: &mut Sight,
@@ -37,7 +43,7 @@ impl Participant {
         Ok((reply, ticket))
     }
 
-    /// What a command of the participant is answered, a refusal too.
+    /// Answers a command. A refusal is a reply too.
     fn answer(&mut self, ask: &Ask) -> Result<Reply, AllocError>
         requires may { MayServe self.old ask.now }
         ensures stays { StaysReady self.old self.new }
@@ -51,7 +57,7 @@ impl Participant {
         refusals_told(answer)
     }
 
-    /// Tells the teller of the transfer that the reply tells of.
+    /// Returns a ticket for the transfer that the reply concerns, if it is live.
     fn ticket(&mut self, teller: &mut Sight, who: u8, reply: &Reply) -> Option<Ticket>
         requires ready { IsReady self.old }
         requires one { AtOneTable self.old.board (board_of_sight teller.old) }
@@ -69,8 +75,8 @@ impl Participant {
         }
     }
 
-    /// Tells the teller all that the participant's board knows, where this transfer is live; the
-    /// ticket names its place.
+    /// Returns a ticket for this transfer if it is live, and lets the teller know what the board
+    /// knows.
     fn tell(&mut self, teller: &mut Sight, from: u8, id: &Ident) -> Option<Ticket>
         requires ready { IsReady self.old }
         requires one { AtOneTable self.old.board (board_of_sight teller.old) }

@@ -1,4 +1,4 @@
-//! What follows from a command under the other side's lock.
+//! Follow-ups.
 ghost use Rattle.std.specs.Prelude.{◌≡◌, true, IfSome};
 ghost use Rattle.inst_settings.specs.Settings.{is_participant};
 ghost use Rattle.inst_command.specs.Ask.{command_fits};
@@ -14,8 +14,10 @@ use inst_command::{Command, Place, Reply, State};
 use std::alloc::AllocError;
 
 impl Participant {
-    /// What the other side has to do once the command was answered so: nothing where there is no
-    /// ticket, and nothing where an investigation found its transfer pending.
+    /// Returns the follow-up that a command and its answer cause at the other side.
+    ///
+    /// Returns `None` if there is no ticket, if an investigation found its transfer pending, or if
+    /// the command failed.
     pub fn follow_up(
         &self,
         command: &Command,
@@ -48,7 +50,7 @@ impl Participant {
         Some(FollowUp { who, kind, place })
     }
 
-    /// What the place shows.
+    /// Looks at a place.
     pub(super) fn look(&mut self, place: Place) -> Look
         requires ready { IsReady self.old }
         ensures ready { IsReady self.new }
@@ -59,8 +61,12 @@ impl Participant {
         self.board.look(place)
     }
 
-    /// Does this with the place: `true` where it brought something new. Where memory is refused the
-    /// history is as it was.
+    /// Delivers the transfer of a place or learns its outcome, and returns `true` if this stored an
+    /// event.
+    ///
+    /// # Errors
+    ///
+    /// [`AllocError`] if the event can't be stored; the slot is unchanged.
     pub fn follow(&mut self, kind: FollowUpKind, place: Place) -> Result<bool, AllocError>
         requires ready { IsReady self.old }
         ensures ready { IsReady self.new }

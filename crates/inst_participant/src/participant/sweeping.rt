@@ -1,4 +1,4 @@
-//! What a participant does by itself about all its transfers, under its lock.
+//! Sweeps: all open work of one participant.
 ghost use Rattle.std.specs.Prelude.{◌≡◌, IfOk, None, is_ok};
 ghost use Rattle.inst_settings.specs.Settings.{participants};
 ghost use Rattle.inst_participant.specs.LockLaw.{IsReady, IsLater};
@@ -15,10 +15,18 @@ use inst_command::Place;
 use std::alloc::AllocError;
 
 impl Participant {
-    /// Lets each own transfer with nothing booked expire if it may at this reading, in order of
-    /// deadline and place; then learns how the forwarded ones ended, in order of arrival; then gets
-    /// what other originators have for it, by their numbers and places. How many of these were new.
-    /// Refused memory ends it: what was done before stands, and nothing is done after it.
+    /// Expires, learns and delivers all open work of the participant at clock reading `at`. Returns
+    /// the number of events stored, at most 2^32 - 1.
+    ///
+    /// First it expires each own transfer without a booked outcome, in order of deadline and place:
+    /// an outcome is booked, and a due transfer times out. Then it learns the outcomes of forwarded
+    /// transfers, in order of arrival. Then it delivers the pending transfers of each other
+    /// originator, by its number and by place, up to the first unused place.
+    ///
+    /// # Errors
+    ///
+    /// [`AllocError`] if an event can't be stored; what was done before is kept, and nothing is
+    /// done after it.
     pub fn sweep(&mut self, at: Moment) -> Result<u32, AllocError>
         requires ready { IsReady self.old }
         ensures ready { IsReady self.new }
@@ -35,7 +43,7 @@ impl Participant {
         Ok(u32::try_from(after - before).unwrap_or(u32::MAX))
     }
 
-    /// Lets each own transfer with nothing booked expire if it may.
+    /// Expires each own transfer without a booked outcome.
     fn let_expire(&mut self, at: Moment) -> Result<(), AllocError>
         requires ready { IsReady self.old }
         ensures ready { IsReady self.new }
@@ -45,7 +53,7 @@ impl Participant {
     {
         let mut last = None;
         while let Some((deadline, index)) = self.slot.due_after(last) {
-            // The check is told how late a moment can be only by a call.
+            // Calls `past_base` because its contract tells the verifier how late a moment can be.
             let _ = deadline.past_base();
             self.expire(index, at)?;
             last = Some((deadline, index));
@@ -53,7 +61,8 @@ impl Participant {
         Ok(())
     }
 
-    /// Lets the own transfer at this index expire if it may: `true` where something was booked.
+    /// Books the outcome of the own transfer at this index, or times it out if due. Returns `true`
+    /// if this stored an event.
     fn expire(&mut self, index: u16, at: Moment) -> Result<bool, AllocError>
         requires ready { IsReady self.old }
         ensures ready { IsReady self.new }
@@ -64,7 +73,7 @@ impl Participant {
         self.slot.expire(&mut self.board, index, at)
     }
 
-    /// Learns how the forwarded transfers ended of which nothing is booked.
+    /// Learns the outcomes of forwarded transfers that have none booked.
     fn learn_all(&mut self) -> Result<(), AllocError>
         requires ready { IsReady self.old }
         ensures ready { IsReady self.new }
@@ -80,7 +89,7 @@ impl Participant {
         Ok(())
     }
 
-    /// Gets what all other originators have for it.
+    /// Delivers the pending transfers of all other originators.
     fn deliver_all(&mut self) -> Result<(), AllocError>
         requires ready { IsReady self.old }
         ensures ready { IsReady self.new }
@@ -98,7 +107,7 @@ impl Participant {
         Ok(())
     }
 
-    /// Gets what this other originator has for it.
+    /// Delivers the pending transfers of one other originator.
     fn deliver_from(&mut self, owner: u8) -> Result<(), AllocError>
         requires ready { IsReady self.old }
         ensures ready { IsReady self.new }
@@ -115,7 +124,8 @@ impl Participant {
         Ok(())
     }
 
-    /// Gets what is pending at the place, if it is for it and new: whether the place is used.
+    /// Delivers the transfer at the place if it is pending, for this participant and new. Returns
+    /// `true` if the place is used.
     fn look_at(&mut self, place: Place) -> Result<bool, AllocError>
         requires ready { IsReady self.old }
         ensures ready { IsReady self.new }

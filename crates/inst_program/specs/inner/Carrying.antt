@@ -1,4 +1,4 @@
--- Why the next log isn't made, in each part of its making.
+-- Why `next` is refused, for each part of the task.
 use Rattle.std.specs.Prelude.{◌≡◌, ◌⊎◌, ◌<◌, ℕ, List, length, Option, None, Some, Result}
 use Rattle.std.specs.Prelude.{MatchResult, IfErr, IfOk, IsTrue, OnErr}
 use Rattle.sqlite_disk.specs.declared.Disk.{Ghosts}
@@ -23,18 +23,17 @@ use Rattle.inst_program.specs.inner.ExitReason.{status_of_ending}
 use Rattle.inst_program.specs.declared.carrying.Closed.{Closed}
 use Rattle.inst_program.specs.declared.exit_reason.ExitReason.{ExitReason}
 
--- the hub of the log of this file isn't closed: another program has it open, it is none that can be
--- closed, or has no opening left
+-- Why the hub of this log isn't closed: another program may have it open, it can't be closed, or it
+-- has no opening left.
 abbrev pub IsLogUnclosed : Type 0 → Type 0 → Option Digest → List ℕ → Type 0
 IsLogUnclosed in_use faith wanted file =
     in_use ⊎ ((faith → ¬ (IsGoodToClose wanted file)) ⊎ (faith → HasNoOpeningLeft file))
 
--- the log of this file isn't begun with these lines: another program has it open, or it is another
--- one
+-- Why the log isn't begun with these lines: another program may have it open, or it is another log.
 abbrev pub IsLogUnbegun : Type 0 → Type 0 → List ℕ → List ℕ → Type 0
 IsLogUnbegun in_use faith first file = in_use ⊎ (faith → ¬ (IsLogTaken Two first None None file))
 
--- what a log's first line says is read, and the log isn't refused for it
+-- The contents of a log's first line were read, and the log isn't refused for them.
 abbrev pub ReadsBeginning : List ℕ → Result (Option LogHeader) ExitReason → Type 0
 ReadsBeginning file result =
     (version : Version) (mode : Mode) (s : HubSettings) (first : List ℕ) →
@@ -42,16 +41,15 @@ ReadsBeginning file result =
     → MatchResult result (λ found. (books : Option ℕ)
     × (found ≡ Some (beginning_with mode s books))) (λ ending. status_of_ending ending ≡ 2 → ⊥)
 
--- the file has a line, and if it begins as a log of a hub does, that is one of this kind and these
--- settings
+-- The file has a line, and if it begins as a hub's log does, the log has this mode and these
+-- settings.
 pub record IsReadAsLog (mode : Mode) (s : HubSettings) (file : List ℕ) : Type 0 where
   pub there : 0 < length (recovered_lines file)
   pub settings : (version : Version) (m : Mode) (t : HubSettings) (first : List ℕ) →
       AreFirstLines version m t first → Begins first file → (m ≡ mode) × (t ≡ s)
 
 -- The hub of the log on a disk was closed, and its books begin the next log; or it wasn't, and the
--- log is safe. can: a hub can open from the books refused: why it wasn't, where the exit status is
--- 2
+-- log is safe. `can`: a hub can open from the books. `refused`: the cause of exit status 2.
 pub record IsHubClosed {D : Type 0} (disks : Ghosts D) (wanted : Option Digest) (old new : D)
     (result : Result Closed ExitReason) : Type 0 where
   pub ok : IfOk result (λ closed. HasKeptFaith disks new → (digest : Option (List ℕ)) →

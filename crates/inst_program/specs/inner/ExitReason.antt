@@ -1,5 +1,4 @@
--- How what the words ask for is done, or ends, in each of the parts that the program's run has.
--- Exit statuses are this hub's own choice.
+-- How each task is done or ends. The exit statuses are a choice of this hub.
 use Rattle.std.specs.Prelude.{◌≡◌, ◌≢◌, ◌⊎◌, ℕ, List, Option, Some, None, IfSome, IsTrue}
 use Rattle.clap.specs.Words.{kind_of}
 use Rattle.clap.specs.declared.error.kind.ErrorKind.{ErrorKind}
@@ -27,32 +26,33 @@ use Rattle.inst_program.specs.Files.{Change, Files, IsAsItWas, OthersStay, Stay,
 use Rattle.inst_program.specs.Keeping.{IsUntaken, KeepsAFront, KeepsLines, KeptRun, kept_run}
 use Rattle.inst_program.specs.Program.{status_of, AnswersInput, Failed, Refused}
 
--- for words that ask for nothing that can be done: 0 where they ask for a text
+-- The exit status for words that ask for no task: 0 if they ask for help or the version.
 abbrev pub status_of_kind : ErrorKind → ℕ
 status_of_kind DisplayHelp = 0
 status_of_kind DisplayVersion = 0
 status_of_kind _ = 2
 
+-- The exit status for an error of the words.
 abbrev pub status_of_error : WordsError → ℕ
 status_of_error (error.Words e) = status_of_kind (kind_of e)
 status_of_error (error.Option bad) = 2
 status_of_error (error.Fault fault) = status_of fault
 
--- the exit status for them: 3 too, where a text that they ask for can't be written
+-- The exit status for this error; also 3 if a text that was asked for can't be written.
 abbrev pub IsErrorStatus : WordsError → ℕ → Type 0
 IsErrorStatus e status = (status ≡ status_of_error e) ⊎ ((status_of_error e ≡ 0) × (status ≡ 3))
 
--- how the program ends by an error of opening a log
+-- The reason to end for an error of opening a log.
 abbrev pub ending_of_error : LogsError → ExitReason
 ending_of_error opening.Memory = ending.Fault Memory
 ending_of_error (opening.Log fault) = ending.Log fault
 
--- and by an error of a drill
+-- The reason to end for an error of a drill.
 abbrev pub ending_of_drill : DrillError → ExitReason
 ending_of_drill (drill.Fault fault) = ending.Fault fault
 ending_of_drill drill.NoInterleaving = ending.NoInterleaving
 
--- and for words whose task wasn't done
+-- The exit status for a reason to end.
 abbrev pub status_of_ending : ExitReason → ℕ
 status_of_ending (ending.Fault fault) = status_of fault
 status_of_ending (ending.Log fault) = status_of_log fault
@@ -60,8 +60,8 @@ status_of_ending ending.Unexplained = 2
 status_of_ending ending.NoInterleaving = 3
 status_of_ending ending.ScriptNotEmpty = 2
 
--- how an explanation ends: no fault is named so, and nothing is written, or one is, and the writer
--- failed
+-- The end of an explanation: no fault has this name and nothing was written, or one has it and the
+-- writer failed.
 abbrev pub IsUnexplained : List ℕ → Type 0 → ExitReason → Type 0
 IsUnexplained word unwritten (ending.Fault fault) =
     (fault ≡ WriteFault) × ((named : AnyFault) × IsNamed word named)
@@ -71,15 +71,15 @@ IsUnexplained word unwritten ending.Unexplained =
 IsUnexplained word unwritten ending.NoInterleaving = ⊥
 IsUnexplained word unwritten ending.ScriptNotEmpty = ⊥
 
--- a run with a log ends with this exit status: the log isn't taken, and nothing was done, or some
--- lines were answered in_use: another program has it open
+-- A run with a log ends with this exit status: the log was refused and nothing done, or some lines
+-- were answered. `in_use`: another program may have the log open.
 pub record IsUnkept (run : KeptRun) (t : Streams) (mixes in_use faith : Type 0) (c : Change)
     (status : ℕ) : Type 0 where
   pub refused : status ≡ 2 →
       t.unread × t.unwritten × (faith → IsAsItWas c) × (in_use ⊎ (faith → IsUntaken run c.was))
   pub front : KeepsAFront run t mixes faith c
 
--- the lines of the reader are answered at a hub of these settings, with this log
+-- The input was answered by a hub of these settings, with this log.
 abbrev pub AreLinesAnswered : Mode → HubSettings → Option LogOptions → Streams → Files → Files →
     Type 0
 AreLinesAnswered mode s None t old new = AnswersInput mode s t × Stay old new
@@ -87,7 +87,7 @@ AreLinesAnswered mode s (Some log) t old new =
     KeepsLines (kept_run mode s log) t (IsTrue new.is_clean) (change_of old new log.path.now)
     × OthersStay old new log.path.now
 
--- they are not, and the program ends so
+-- The input wasn't answered, and the program ends for this reason.
 abbrev pub IsUnanswered : Mode → HubSettings → Option LogOptions → Streams → Files → Files →
     ExitReason → Type 0
 IsUnanswered mode s None t old new (ending.Fault fault) =
@@ -101,7 +101,7 @@ IsUnanswered mode s (Some log) t old new e =
     (change_of old new log.path.now) (status_of_ending e)
     × OthersStay old new log.path.now
 
--- a check is ended by this fault, when no more than a front was told
+-- A check ended for this reason; a prefix of the report was written.
 abbrev pub IsUnchecked : HubSettings → Option (List ℕ) → Option (List ℕ) → Option (List ℕ) →
     ExitReason → Type 0
 IsUnchecked s left held held' (ending.Fault fault) =
@@ -111,7 +111,7 @@ IsUnchecked s left held held' ending.Unexplained = ⊥
 IsUnchecked s left held held' ending.NoInterleaving = ⊥
 IsUnchecked s left held held' ending.ScriptNotEmpty = ⊥
 
--- the words' task isn't done, and this is the exit status
+-- The task wasn't done, and this is the exit status.
 pub record IsUndone (words : List (List ℕ)) (t : Streams) (old new : Files) (status : ℕ) : Type 0
   where
     pub refused : status ≡ 2 → Refused words t old new

@@ -10,9 +10,10 @@ use crate::lawful::Lawful;
 use crate::seat::RowSeat;
 
 impl<T: Drop, E, K, L: Lawful<T, E, K>> LockRow<T, E, K, L> {
-    /// Ends the row. Who has all its parts knows that each value is there and keeps its law, with a
-    /// history that it has seen and that goes on from all that it has seen. Take each one out, and
-    /// then call `free`.
+    /// Ends the row and returns its values. The seat must have all parts.
+    ///
+    /// Each value is there and keeps its law. Its history is one that the seat has seen, and
+    /// extends all that the seat has seen of it.
     pub fn take_apart(self, seat: RowSeat<T, E, K>) -> EndedRow<T>
         requires on { IsOn (row_id self) (key_of self) seat }
         requires all { HasAll seat }

@@ -1,4 +1,4 @@
-//! Taking a lock and giving it back.
+//! Taking locks and giving them back.
 ghost use Rattle.std.specs.Prelude.{◌≡◌, ◌<◌, IfSome, IfNone, List};
 ghost use mathlib.Core.List.{IsPrefix};
 ghost use Rattle.inst_row.specs.Seated.{IsOn, IsFree, Has, IsFoundBehind, HasTaken, HasGivenBack};
@@ -11,19 +11,18 @@ use crate::steps::{Awaiting, Giving, LockTaking};
 use std::sync::Wait;
 use std::thread::yield_now;
 
-/// How often a lock is tried before its taker sleeps until it is given back.
+/// How often a seat tries a lock before its thread sleeps.
 const TRIES: u32 = 64;
 
 /// The word of a lock that a seat has.
 const TAKEN: u64 = 1;
 
-/// The word of a lock that a seat has while others may sleep until it is given back.
+/// The word of a lock that a seat has while others may sleep.
 const AWAITED: u64 = 2;
 
 impl<T, E, K, L: Lawful<T, E, K>> LockRow<T, E, K, L> {
-    /// The value behind the lock, whose word is `word` from then on, where no seat has it at one of
-    /// some tries. Between them the thread lets others run: who has a lock keeps it for one event,
-    /// which is sooner over than a sleep.
+    /// Tries to take the lock some times and to set its word to `word`. Yields between tries: a
+    /// lock is held for one event, which is shorter than a sleep.
     fn try_take(&self, seat: &mut RowSeat<T, E, K>, lock: usize, word: u64) -> Option<T>
         requires on { IsOn (row_id self.now) (key_of self.now) seat.old }
         requires lock { lock < size self.now }
@@ -47,7 +46,7 @@ impl<T, E, K, L: Lawful<T, E, K>> LockRow<T, E, K, L> {
         None
     }
 
-    /// Says that a seat waits for the lock, and sleeps until it is given back.
+    /// Marks the lock as awaited, and sleeps until it is given back.
     fn wait<R: Wait>(&self, rt: &R, seat: &mut RowSeat<T, E, K>, lock: usize)
         requires on { IsOn (row_id self.now) (key_of self.now) seat.old }
         requires lock { lock < size self.now }
@@ -60,8 +59,10 @@ impl<T, E, K, L: Lawful<T, E, K>> LockRow<T, E, K, L> {
         shared.park(rt, place, AWAITED as u32);
     }
 
-    /// The value behind the lock. It waits while another seat has it; a seat that has a lock takes
-    /// no second one.
+    /// Takes the lock and returns its value. A seat can't take a second lock.
+    ///
+    /// Blocks while another seat has the lock: after 64 tries the thread sleeps. The order in which
+    /// waiters get a lock is not defined.
     pub fn take<R: Wait>(&self, rt: &R, seat: &mut RowSeat<T, E, K>, lock: usize) -> T
         requires on { IsOn (row_id self.now) (key_of self.now) seat.old }
         requires lock { lock < size self.now }
@@ -83,8 +84,8 @@ impl<T, E, K, L: Lawful<T, E, K>> LockRow<T, E, K, L> {
         unreachable!()
     }
 
-    /// Gives the lock back, with a value that keeps its law and whose history goes on from the one
-    /// that was found. Where seats may sleep until then, one of them is woken.
+    /// Gives the lock back, with a value that keeps its law and whose history extends the one that
+    /// was found. Wakes one waiter if any may be asleep.
     pub fn give(&self, seat: &mut RowSeat<T, E, K>, lock: usize, value: T)
         requires on { IsOn (row_id self.now) (key_of self.now) seat.old }
         requires lock { lock < size self.now }

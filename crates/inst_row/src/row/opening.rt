@@ -1,4 +1,4 @@
-//! How a row of locks is made.
+//! Opening a row of locks.
 ghost use Rattle.std.specs.Prelude.{◌≡◌, ℕ, ◌<◌, length, slice_get, slice_index_or, Some, None};
 ghost use Rattle.std.specs.Prelude.{IfOk};
 ghost use Rattle.inst_row.specs.Seated.{IsOn, HasAll, view_of};
@@ -16,9 +16,14 @@ use std::alloc::{AllocError, Global};
 use std::snapshot::Snapshot;
 
 impl<T: Drop, E, K, L: Lawful<T, E, K>> LockRow<T, E, K, L> {
-    /// A row of these values, each of which is there and keeps its law, and a free seat with all
-    /// parts, which has seen the history of each value. Where memory is missing the values are
-    /// dropped.
+    /// Opens a row over these values, and returns it with a seat that has all parts and has seen
+    /// the history of each value.
+    ///
+    /// Each value must be there and keep its law. The row has 8 words and 8 slots for each value.
+    ///
+    /// # Errors
+    ///
+    /// [`AllocError`] if the row can't be allocated; the values are dropped.
     pub fn open(
         alloc: Global,
         values: Vec<Option<T>>,
@@ -49,7 +54,7 @@ impl<T: Drop, E, K, L: Lawful<T, E, K>> LockRow<T, E, K, L> {
         }
     }
 
-    /// How many locks there are.
+    /// Returns the number of locks.
     pub fn len(&self) -> usize
         ensures { result ≡ size self.now }
     {
@@ -57,8 +62,7 @@ impl<T: Drop, E, K, L: Lawful<T, E, K>> LockRow<T, E, K, L> {
     }
 }
 
-/// A slot for each word: the values lie where their locks have their places, and nothing lies
-/// between.
+/// Puts each value into the slot of its lock, and nothing into the slots between.
 fn spread<T: Drop>(
     alloc: Global,
     mut values: Vec<Option<T>>,

@@ -1,4 +1,4 @@
-//! Seats beside one another.
+//! Splitting and joining seats.
 ghost use Rattle.std.specs.Prelude.{◌≡◌, ◌+◌, ◌<◌};
 ghost use Rattle.inst_row.specs.Seated.{IsOn, IsIdle, IsFree, HasJoined, HasMet, Halves};
 ghost use Rattle.inst_row.specs.Row.{row_id, key_of, size};
@@ -9,8 +9,9 @@ use crate::seat::RowSeat;
 use crate::steps::{TellFront, UniteSeats};
 
 impl<T, E, K, L: Lawful<T, E, K>> LockRow<T, E, K, L> {
-    /// A new seat with one of the seat's parts, which has seen as much. A seat that gave its last
-    /// part takes no lock until it is joined with another.
+    /// Splits off a new seat with one of the seat's parts. It has seen as much as the old seat.
+    ///
+    /// A seat without parts takes no lock until it is joined with another.
     pub fn split(&self, seat: &mut RowSeat<T, E, K>) -> RowSeat<T, E, K>
         requires some { 0 < size self.now }
         requires on { IsOn (row_id self.now) (key_of self.now) seat.old }
@@ -24,7 +25,7 @@ impl<T, E, K, L: Lawful<T, E, K>> LockRow<T, E, K, L> {
         }
     }
 
-    /// One seat with the parts of both, which has seen what both had seen.
+    /// Joins two seats into one that has the parts of both and has seen what either had seen.
     pub fn join(&self, seat: &mut RowSeat<T, E, K>, other: RowSeat<T, E, K>)
         requires some { 0 < size self.now }
         requires on { IsOn (row_id self.now) (key_of self.now) seat.old
@@ -38,7 +39,7 @@ impl<T, E, K, L: Lawful<T, E, K>> LockRow<T, E, K, L> {
             .join_seat::<UniteSeats>(&mut seat.seat, other);
     }
 
-    /// Each has then seen what either had.
+    /// Lets each of two seats see what either had seen. The seats keep their parts.
     pub fn meet(&self, one: &mut RowSeat<T, E, K>, two: &mut RowSeat<T, E, K>)
         requires some { 0 < size self.now }
         requires on { IsOn (row_id self.now) (key_of self.now) one.old

@@ -1,5 +1,5 @@
--- What a command asks of the board, with the transfer as its participant's table has it: so it is
--- looked up once. This hub's own choice.
+-- The decision that a command asks of the board, with the transfer as the participant's table has
+-- it. A choice of this hub.
 use Rattle.std.specs.Prelude.{◌≡◌, ℕ, Bool, true, false, List, [], slice_get, Option, Some, None}
 use Rattle.std.specs.Prelude.{Result, Err}
 use Rattle.inst_base.specs.declared.fault.Fault.{Fault}
@@ -20,42 +20,42 @@ use Rattle.inst_slot.specs.Book.{Book}
 use Rattle.inst_ledger.specs.Right.{own_ids}
 use Rattle.inst_slot.specs.Spots.{rows_of, arrivals_of}
 
--- a participant's book with these arrivals, of what its ledger keeps
+-- A participant's book with the history of its ledger and these arrivals.
 abbrev pub book_with_arrivals : Kept → List Arrival → Book
 book_with_arrivals kept arrivals =
     record { settings = kept.settings; who = kept.who; events = kept.events; arrivals = arrivals }
 
--- with the arrivals that it has
+-- The same, with the arrivals at these spots.
 abbrev pub book_with_spots : Kept → List Spot → Book
 book_with_spots kept spots =
     book_with_arrivals kept (arrivals_of (rows_of kept.who kept.events) spots)
 
--- the identifier of the transfer that the command decides
+-- The identifier of the transfer that the command decides.
 abbrev pub decided_id : Command → List ℕ
 decided_id (Confirm from id) = id
 decided_id (Reject from id reason) = id
 decided_id (Investigate id) = id
 decided_id _ = []
 
--- whether it is wished that the transfer expires
+-- True if the wish is an expiry.
 abbrev pub is_expiry : Wish → Bool
 is_expiry Accept = false
 is_expiry (WishReject reason) = false
 is_expiry Expire = true
 
--- what the participant is answered where the transfer stays pending
+-- The reply if the transfer stays pending.
 abbrev pub pending_for : Wish → ℕ → List ℕ → Result Handled Fault
 pending_for Accept from id = Err Expired
 pending_for (WishReject reason) from id = still_pending from id
 pending_for Expire from id = still_pending from id
 
--- the place is that of the participant's own live transfer with this identifier
+-- The place is that of the own live transfer with this identifier.
 pub record IsOwnAt (book : Kept) (id : List ℕ) (place : Place) : Type 0 where
   pub own : place.owner ≡ book.who
   pub at : slice_get (own_ids book.who book.events) place.index ≡ Some id
   pub only : (k : ℕ) → slice_get (own_ids book.who book.events) k ≡ Some id → place.index ≡ k
 
--- what is asked, of the transfer with this identifier, which was found
+-- The request is what the command asks, for the transfer with this identifier, which was found.
 pub record IsAsking (l : BookAndRoom) (asked : Option (Place
     × Wish)) (id : List ℕ) (r : Request) : Type 0 where
   pub is : asked ≡ Some (r.place, r.wish)
@@ -64,6 +64,7 @@ pub record IsAsking (l : BookAndRoom) (asked : Option (Place
   pub id_is : r.found.id ≡ id
   pub expiring : is_expiry r.wish ≡ true → IsOwnAt l.book id r.place
 
+-- The request of a command, or none if it asks for no decision.
 abbrev pub GivesRequest : BookAndRoom → Option (Place × Wish) → List ℕ → Option Request → Type 0
 GivesRequest l asked id None = asked ≡ None
 GivesRequest l asked id (Some r) = IsAsking l asked id r

@@ -1,4 +1,4 @@
--- What a command keeps that is no submission and decides no transfer.
+-- The effect of a command that is no submission and decides no transfer.
 use Rattle.std.specs.Prelude.{◌≡◌, ◌⊎◌, true, None, Result, Err}
 use Rattle.std.specs.List.{list_all}
 use Rattle.inst_base.specs.declared.fault.Fault.{Fault}
@@ -10,8 +10,8 @@ use Rattle.inst_slot.specs.Asking.{handle_ask, book_after, takes_memory}
 use Rattle.inst_slot.specs.Book.{Book}
 use Rattle.inst_slot.specs.inner.Waiting.{is_apart}
 
--- it is answered as the books demand, and they keep what they are to keep, which is of no transfer;
--- or memory was refused, and nothing changed
+-- Either the reply and the book are those of handle_ask, and the event concerns no transfer; or an
+-- allocation failed and nothing changed.
 abbrev pub EntersAlone : Book → Ask → Result Reply Fault → Book → Type 0
 EntersAlone book ask result new =
     ((result ≡ reply_result (handle_ask book ask None)) × (new ≡ book_after book ask None)

@@ -1,5 +1,5 @@
--- What a look at a place teaches, with the transfer as its participant's table has it: so it is
--- looked up once. This hub's own choice.
+-- The resolution of a look at a place, with the transfer as the participant's table has it. A
+-- choice of this hub.
 use Rattle.std.specs.Prelude.{◌≡◌, ℕ, Bool, is_some, Option, Some, None, Result}
 use Rattle.std.specs.declared.alloc.AllocError.{AllocError}
 use Rattle.inst_command.specs.declared.outcome.Outcome.{Outcome}
@@ -18,14 +18,13 @@ use Rattle.inst_slot.specs.inner.Answering.{IsOwnAt}
 use Rattle.inst_slot.specs.Book.{Book}
 use Rattle.inst_slot.specs.Telling.{resolution, with_event, Keeps}
 
--- what is shown decided at a place of the participant's own is its live transfer that lies there
+-- A transfer that a look shows decided at an own place is the own live transfer of that place.
 abbrev pub ShowsOwn : Kept → Place → Look → Type 0
 ShowsOwn book place look =
     (terms : Terms) (outcome : Outcome) → look ≡ Decided terms outcome → place.owner ≡ book.who →
     IsOwnAt book terms.id place
 
--- the event books the outcome of a transfer that was found; it lies at the place, where it is the
--- participant's own
+-- The event books the outcome of the transfer found; if that is an own one, it has this place.
 pub record IsResolution (l : BookAndRoom) (place : Place) (event : Option Event) (x : Resolution) :
     Type
     0 where
@@ -34,12 +33,13 @@ pub record IsResolution (l : BookAndRoom) (place : Place) (event : Option Event)
   pub owner : x.found.from ≡ place.owner
   pub own : x.found.from ≡ l.book.who → IsOwnAt l.book x.found.id place
 
+-- That resolution, or none if there is no event.
 abbrev pub GivesResolution : BookAndRoom → Place → Option Event → Option Resolution → Type 0
 GivesResolution l place event None = event ≡ None
 GivesResolution l place event (Some x) = IsResolution l place event x
 
--- From the board b to the board c the place was looked at, and what that teaches is booked; or
--- memory was refused for it
+-- From board b to board c the place was looked at, and its resolution is booked; or an allocation
+-- for it failed.
 abbrev pub LearnsOutcome : {B : Type 0} → ℕ → (B → Fact → Type 0) → (B → ℕ → Type 0) →
     (B → Place → Outcome → Type 0) →
     B → Book → Place → Result Bool AllocError → B → Book → Type 0

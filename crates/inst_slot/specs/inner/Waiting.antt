@@ -1,14 +1,14 @@
--- The pairs of what waits, and which events leave them alone.
+-- Pairs of deadline and index, and the events that leave them unchanged.
 use Rattle.std.specs.Prelude.{◌≡◌, ℕ, Bool, true, false, List, slice_get, Some}
 use Rattle.inst_due.specs.Due.{has}
 use Rattle.inst_journal.specs.declared.event.Event.{Event}
 use Rattle.inst_journal.specs.declared.event.Event.TheVariants.{Funded, Defunded, Fetched}
 
--- each pair is of a deadline and of its index
+-- Each pair has the deadline at its index.
 abbrev pub AreTimed : List ℕ → List (ℕ × ℕ) → Type 0
 AreTimed deadlines pairs = (d k : ℕ) → has pairs d k ≡ true → slice_get deadlines k ≡ Some d
 
--- whether the event is of money or of the inbox alone: it takes, forwards and books no transfer
+-- True if the event takes, forwards and books no transfer, and is no opening.
 abbrev pub is_apart : Event → Bool
 is_apart (Funded funding) = true
 is_apart (Defunded funding) = true

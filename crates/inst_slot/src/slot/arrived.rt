@@ -1,4 +1,4 @@
-//! Which of the transfers that were forwarded to a participant have nothing booked.
+//! Forwarded transfers without a booked outcome.
 ghost use Rattle.std.specs.Prelude.{◌≡◌, ◌<◌, ◌^◌, length};
 ghost use Rattle.inst_journal.specs.Sound.{IsSound};
 ghost use Rattle.inst_slot.specs.Arrived.{unbooked_place, GivesUnbooked};
@@ -9,8 +9,8 @@ use crate::arrivals::Spot;
 use inst_command::Place;
 
 impl Slot {
-    /// The place of the arrival at this spot, where nothing is booked of it and its place was
-    /// found. It looks nothing up by its key.
+    /// Returns the place of the arrival if it has no booked outcome and its place is known. Doesn't
+    /// hash.
     fn unbooked_place(&self, spot: &Spot) -> Option<Place>
         requires { spot.now.position < length (rows_of self.now.who self.now.events) }
         ensures { result ≡ unbooked_place self.now
@@ -25,9 +25,11 @@ impl Slot {
         Some(Place { owner, index })
     }
 
-    /// Of the live transfers that were forwarded, in order of arrival, the first at this position
-    /// or later with nothing booked and a place that was found: its position, counted from 0, and
-    /// that place. The cost grows with the number of those that are passed over.
+    /// Returns the first arrival at this position or later that has no booked outcome and a known
+    /// place.
+    ///
+    /// The result is its position in order of arrival, counted from 0, and its place. Costs one
+    /// step per arrival passed over.
     pub fn unbooked_from(&self, position: usize) -> Option<(usize, Place)>
         ensures next { GivesUnbooked self.now position result }
         ensures few { length self.now.arrivals < 2 ^ 64 }

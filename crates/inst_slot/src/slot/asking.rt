@@ -1,4 +1,4 @@
-//! What a participant asks of its slot.
+//! Commands of the slot's own participant: [`Slot::apply`] and the private steps it is made of.
 ghost use Rattle.std.specs.Prelude.{◌≡◌, ◌≢◌, [], ◌∷◌, true, false, IfOk, OnErr};
 ghost use Rattle.std.specs.Prelude.{OnOk, Some, None};
 ghost use Rattle.inst_base.specs.Fault.{IsUnlessMemory};
@@ -27,7 +27,7 @@ use inst_terms::Terms;
 use std::alloc::AllocError;
 
 impl Slot {
-    /// What an ask that decides no transfer is answered, and what is to be kept of it.
+    /// Returns the reply to a command that decides no transfer, and the event to append for it.
     fn handle(&self, ask: &Ask) -> Result<Handled, Fault>
         requires fits { ask_fits self.now.settings ask.now ≡ true }
         ensures reply { IsUnlessMemory result (handle_ask self.now ask.now None) }
@@ -39,7 +39,8 @@ impl Slot {
         self.ledger.handle(self.alloc, &ask.command, ask.at, None)
     }
 
-    /// Keeps a submission with this deadline, and opens the next place for it.
+    /// Stores an accepted submission and opens its place on the board. On allocation failure slot
+    /// and board are unchanged.
     fn take<B: Board>(
         &mut self,
         board: &mut B,
@@ -73,9 +74,8 @@ impl Slot {
         Ok(())
     }
 
-    /// Answers a submission, which is kept where it is new.
-    // A function clears the locals of all that is inlined into it, and the other commands have no
-    // use for these.
+    /// Answers a submission, and stores it if it is new.
+    // Kept out of line: inlined, its locals would be cleared on every command.
     #[inline(never)]
     fn submit<B: Board>(
         &mut self,
@@ -100,7 +100,7 @@ impl Slot {
         Ok(Reply::Taken { id, deadline })
     }
 
-    /// Keeps an event of money or of the inbox.
+    /// Appends an event that concerns no transfer: a funding, a defunding or a fetch.
     fn keep(&mut self, event: Event) -> Result<(), AllocError>
         requires fits { Fits self.old.settings self.old.who self.old.events event }
         requires apart { is_apart event ≡ true }
@@ -111,8 +111,7 @@ impl Slot {
         Ok(())
     }
 
-    /// Answers a command that is no submission and decides no transfer: the board has no part in
-    /// it.
+    /// Answers a command that doesn't concern the board.
     fn enter_alone(&mut self, ask: &Ask) -> Result<Reply, Fault>
         requires own { ask.now.who ≡ self.old.who }
         requires fits { ask_fits self.old.settings ask.now ≡ true }
@@ -126,8 +125,8 @@ impl Slot {
         Ok(reply)
     }
 
-    /// Answers a query, and keeps nothing. A position needs none of the room that other replies
-    /// take.
+    /// Answers a query; appends nothing. A position is answered here, without the space that other
+    /// replies take.
     fn answer_query(&mut self, ask: &Ask, query: &Query) -> Result<Reply, Fault>
         requires own { ask.now.who ≡ self.old.who }
         requires fits { ask_fits self.old.settings ask.now ≡ true }
@@ -157,10 +156,21 @@ impl Slot {
         }
     }
 
-    /// Answers a command of the participant, and keeps what its history is to keep of it. Refused
-    /// by the first of `SelfTransfer` to `Shortage` that holds, and then the slot and what the
-    /// board has decided are as they were; so they are after `Memory`, which comes only where an
-    /// event is to be kept, or entries or lines are to be told.
+    /// Answers a command of the participant, and appends its event.
+    ///
+    /// A confirmation, rejection or investigation of a transfer without a booked outcome asks the
+    /// board to decide it. A new submission opens the next place.
+    ///
+    /// Requires a lawful board (see [`Slot`]), and an ask of this participant that fits the
+    /// settings. A carried transfer must be adopted before it is confirmed or rejected (see
+    /// [`adopt`](Slot::adopt)).
+    ///
+    /// # Errors
+    ///
+    /// - The first fault that applies, in the order of [`Fault`] from `SelfTransfer` to `Shortage`.
+    ///   A refusal changes neither the slot nor what the board's holder knows.
+    /// - `Memory`, only if an event is to be appended, or entries or lines are returned. The slot
+    ///   is unchanged, and nothing was decided.
     pub fn apply<B: Board>(&mut self, board: &mut B, ask: &Ask) -> Result<Reply, Fault>
         requires own { ask.now.who ≡ self.old.who }
         requires fits { ask_fits self.old.settings ask.now ≡ true }

@@ -1,4 +1,4 @@
-//! How the transfers of a slot expire.
+//! Deadlines of own transfers, and their expiry.
 ghost use Rattle.std.specs.Prelude.{◌≡◌, Some};
 ghost use Rattle.inst_slot.specs.LawfulBoard.{IsLawfulBoard, KeepsLawful};
 ghost use Rattle.inst_slot.specs.inner.Answering.{book_with_spots};
@@ -21,18 +21,29 @@ use inst_transfers::Found;
 use std::alloc::AllocError;
 
 impl Slot {
-    /// Of the own live transfers with nothing booked, the pair of a deadline and an index that
-    /// comes next after this one, by deadline and then by index; of `None`, the first of all. The
-    /// cost grows with the logarithm of their number.
+    /// Returns the next own live transfer without a booked outcome after `pair`, by deadline, then
+    /// by index.
+    ///
+    /// A pair is a deadline, in milliseconds since base, and the index of a place. With `None` it
+    /// returns the first of all. Costs O(log n) of their number.
     pub fn due_after(&self, pair: Option<(Moment, u16)>) -> Option<(Moment, u16)>
         ensures { GivesNextDue self.now pair result }
     {
         self.waiting.after(pair)
     }
 
-    /// Lets the participant's live transfer at this index expire at the reading `at`, and books
-    /// what is found: `true` where it is decided, and wasn't booked. Where memory is refused the
-    /// slot is as it was, and nothing was decided.
+    /// Expires the own live transfer at this index at clock reading `at`, if it is due, and books
+    /// its outcome.
+    ///
+    /// Returns `true` if an outcome was booked, whatever it is: a transfer that is already decided
+    /// keeps its outcome. Returns `false` if the transfer stays pending, is booked already or
+    /// doesn't exist.
+    ///
+    /// Requires a lawful board (see [`Slot`]).
+    ///
+    /// # Errors
+    ///
+    /// [`AllocError`] if the event can't be stored; the slot is unchanged, and nothing was decided.
     pub fn expire<B: Board>(
         &mut self,
         board: &mut B,
@@ -60,8 +71,7 @@ impl Slot {
     }
 }
 
-/// The participant's own live transfer at this index, where nothing is booked of it. It looks
-/// nothing up by its key.
+/// Returns the own live transfer at this index if it has no booked outcome. Doesn't hash.
 pub(super) fn unbooked_at(ledger: &Ledger, index: u16) -> Option<Found>
     ensures { FindsUnbooked ledger.now index result }
 {
@@ -72,8 +82,8 @@ pub(super) fn unbooked_at(ledger: &Ledger, index: u16) -> Option<Found>
     Some(found)
 }
 
-/// Lets the transfer that was found, which lies at the index, expire. All room is made before the
-/// board decides, and after the decision nothing fails.
+/// Expires the transfer found. All capacity is reserved before the board decides; nothing fails
+/// after the decision.
 fn let_expire<B: Board>(
     ledger: &mut Ledger,
     waiting: &mut Waiting,

@@ -1,4 +1,4 @@
-//! What a slot learns from its board: how its transfers ended.
+//! Learning the outcomes of the participant's transfers from the board.
 ghost use Rattle.std.specs.Prelude.{◌≡◌, is_some, IfSome};
 ghost use Rattle.inst_board.specs.declared.look.Look.{Look};
 ghost use Rattle.inst_board.specs.Learning.{Looks};
@@ -24,8 +24,14 @@ use inst_transfers::Found;
 use std::alloc::AllocError;
 
 impl Slot {
-    /// Books the outcome of a place of the participant's, if it is decided and not yet booked:
-    /// `true` where it was. Where memory is refused the slot is as it was.
+    /// Books the outcome at a place, if it is decided, the participant's and not booked yet.
+    /// Returns `true` if an outcome was booked.
+    ///
+    /// Requires a lawful board (see [`Slot`]).
+    ///
+    /// # Errors
+    ///
+    /// [`AllocError`] if the event can't be stored; the slot is unchanged.
     pub fn learn<B: Board>(&mut self, board: &mut B, place: Place) -> Result<bool, AllocError>
         requires lawful { IsLawfulBoard B.settings B.knows B.has_role board.old self.old }
         ensures learns { (look : Look)
@@ -49,7 +55,7 @@ impl Slot {
         }
     }
 
-    /// The same, whoever's transfer lies at the place.
+    /// Books the outcome at a place of any originator.
     fn learn_by_look<B: Board>(&mut self, board: &mut B, place: Place) -> Result<bool, AllocError>
         requires lawful { IsLawfulBoard B.settings B.knows B.has_role board.old self.old }
         ensures learns { LearnsOutcome (B.settings board.old).margin B.knows B.has_role B.stood
@@ -74,8 +80,7 @@ impl Slot {
     }
 }
 
-/// The participant's own live transfer at the place, where nothing is booked of it. It looks
-/// nothing up by its key.
+/// Returns the own live transfer at the place if it has no booked outcome. Doesn't hash.
 fn own_unbooked(ledger: &Ledger, place: Place) -> Option<Found>
     ensures owner { IfSome result (λ found. place.owner ≡ ledger.now.book.who) }
     ensures unbooked { IfSome result (λ found. IsUnbooked ledger.now place.index found) }
@@ -86,9 +91,8 @@ fn own_unbooked(ledger: &Ledger, place: Place) -> Option<Found>
     unbooked_at(ledger, place.index)
 }
 
-/// Books the outcome of the participant's own live transfer at the place, which was found with
-/// nothing booked, if it is decided. Its terms are known, so the board is asked for none, and
-/// nothing is looked up by its key.
+/// Books the outcome of the own live transfer found, if it is decided. Its terms are known, so the
+/// board isn't asked for them, and nothing is hashed.
 fn learn_own<B: Board>(
     ledger: &mut Ledger,
     waiting: &mut Waiting,

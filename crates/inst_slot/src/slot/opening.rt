@@ -1,4 +1,4 @@
-//! A slot that opens again from its books, and finds the places of what was forwarded to it before.
+//! Opening a slot again from its books, and adopting the transfers that were forwarded before.
 ghost use Rattle.std.specs.Prelude.{◌≡◌, ◌≤◌, true, map, IfOk, OnErr, IsTrue};
 ghost use Rattle.inst_settings.specs.Settings.{is_participant};
 ghost use Rattle.inst_board.specs.declared.about.About.TheVariants.{Opened};
@@ -29,10 +29,19 @@ use inst_terms::Terms;
 use std::alloc::{AllocError, Global};
 
 impl Slot {
-    /// The slot of the participant `who` with this history, opened again from it: its live
-    /// transfers get the first places, in order of taking, and are pending there. Where memory is
-    /// refused the board is as it was. The places of what was forwarded to the participant are then
-    /// to be found by `adopt`. It walks the history.
+    /// Opens the slot of participant `who` again from its history.
+    ///
+    /// Its own live transfers get the first places, in the order in which they were taken, and are
+    /// pending there. The places of forwarded live transfers are unknown until
+    /// [`adopt`](Slot::adopt) finds them. Scans the history.
+    ///
+    /// Requires a sound history of `who`, a participant, with fewer than 500 openings; and a board
+    /// whose holder has its role and knows none of its places as opened, and no acceptance or
+    /// rejection of a transfer to it (`MayOpenAgain`).
+    ///
+    /// # Errors
+    ///
+    /// [`AllocError`] if the slot can't be allocated; the board is unchanged.
     pub fn open_from<B: Board>(
         alloc: Global,
         settings: &Settings,
@@ -53,7 +62,7 @@ impl Slot {
         Ok(slot)
     }
 
-    /// The books of a slot that opens again.
+    /// Returns the slot opened again from a history, without opening its places on a board.
     fn carry(
         alloc: Global,
         settings: &Settings,
@@ -73,7 +82,7 @@ impl Slot {
         })
     }
 
-    /// Writes the terms of a place of the participant's, and opens it.
+    /// Writes the terms of an own place to the board, and opens it.
     pub(super) fn open_place<B: Board>(
         &self,
         board: &mut B,
@@ -98,9 +107,14 @@ impl Slot {
         board.open(place, deadline);
     }
 
-    /// Opens the places of the live transfers on a board, where the history ends with an opening:
-    /// they get the first places of the participant, in order of taking, and are pending there.
-    /// `open_from` does so, and a slot that moves to another board of a hub which opens.
+    /// Opens the places of the own live transfers on a board.
+    ///
+    /// They get the participant's first places, in the order in which they were taken, and are
+    /// pending there. `open_from` calls this, and so does a hub that moves a slot to another board
+    /// while it opens. Scans the history; allocates nothing.
+    ///
+    /// Requires that the history ends with an opening, and a board as for
+    /// [`open_from`](Slot::open_from).
     pub fn open_places<B: Board>(&self, board: &mut B)
         requires participant { is_participant self.now.settings self.now.who ≡ true }
         requires opened { carried self.now.events ≡ self.now.events }
@@ -135,7 +149,7 @@ impl Slot {
         }
     }
 
-    /// How many places of carried transfers aren't found yet: 0 where all were adopted.
+    /// Returns the number of carried transfers that aren't adopted yet. Visits each arrival once.
     pub fn unfound(&self) -> usize
         ensures { result ≡ unfound self.now }
     {
@@ -145,8 +159,10 @@ impl Slot {
             .count()
     }
 
-    /// Finds the place of a transfer that was carried over the opening: `true` exactly where the
-    /// place shows it pending, and it wasn't found before. It takes no memory.
+    /// Adopts the carried transfer that is pending at the place.
+    ///
+    /// Returns `true` if the place shows a transfer with the identifier, amount and deadline of an
+    /// arrival whose place wasn't known. Allocates nothing. Requires a lawful board (see [`Slot`]).
     pub fn adopt<B: Board>(&mut self, board: &mut B, place: Place) -> bool
         requires lawful { IsLawfulBoard B.settings B.knows B.has_role board.old self.old }
         ensures finds { (look : Look)
@@ -161,7 +177,7 @@ impl Slot {
         self.find(place, &look)
     }
 
-    /// Keeps the place of a transfer that a look at it shows.
+    /// Stores the place of the carried transfer that a look shows.
     fn find(&mut self, place: Place, look: &Look) -> bool
         ensures found { result ≡ finds_carried self.old place look.now }
         ensures kept { self.new ≡ with_found self.old place look.now }
@@ -177,7 +193,7 @@ impl Slot {
     }
 }
 
-/// What is live in books that end with an opening: what arrived, and what waits.
+/// Returns the arrivals and the deadlines that are live in books that end with an opening.
 fn carried_over(alloc: Global, ledger: &Ledger) -> Result<(Vec<Spot>, Waiting), AllocError>
     requires { carried ledger.now.book.events ≡ ledger.now.book.events }
     ensures arrived { IfOk result (λ live.

@@ -1,4 +1,4 @@
-//! What a participant's history has, read off what stands beside it.
+//! Lookups in a slot's tables and totals.
 ghost use Rattle.std.specs.Prelude.{◌≡◌, ◌<◌, ◌^◌, IfOk};
 ghost use Rattle.inst_journal.specs.Money.{position};
 ghost use Rattle.inst_journal.specs.Statement.{statement_part};
@@ -9,8 +9,8 @@ use inst_command::{Lines, State};
 use std::alloc::{AllocError, Global};
 
 impl Slot {
-    /// The state that the participant's books tell of its own live transfer at this index: `Unused`
-    /// where none was taken there.
+    /// Returns the state of the own live transfer at this index as the books have it; `Unused` if
+    /// there is none.
     pub fn own_state(&self, index: u16) -> State
         ensures { result ≡ own_state self.now.who self.now.events index }
     {
@@ -24,7 +24,7 @@ impl Slot {
         }
     }
 
-    /// Net funding and credits less debits, in cents.
+    /// Returns the position in cents: net funding and credits, less debits.
     pub fn position(&self) -> u128
         ensures value { result ≡ position self.now.events }
         ensures within { result < 2 ^ 64 }
@@ -33,11 +33,13 @@ impl Slot {
     }
 
     /// Returns at most `count` lines of the participant's statement since the last opening, after
-    /// the first `skip`. It costs the lines that it returns.
+    /// the first `skip`.
+    ///
+    /// Cost: linear in the lines returned.
     ///
     /// # Errors
     ///
-    /// Returns `AllocError` if memory is refused.
+    /// [`AllocError`] if the lines can't be allocated.
     pub fn statement(&self, alloc: Global, skip: u64, count: u32) -> Result<Lines, AllocError>
         ensures { IfOk result (λ lines. lines ≡ statement_part self.now.events skip count) }
     {

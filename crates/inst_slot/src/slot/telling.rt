@@ -1,4 +1,4 @@
-//! What a board tells a slot is forwarded to it.
+//! Delivering pending transfers to the slot's participant.
 ghost use Rattle.std.specs.Prelude.{◌≡◌, true, is_some, OnErr, OnOk, Some};
 ghost use Rattle.inst_board.specs.declared.look.Look.{Look};
 ghost use Rattle.inst_board.specs.Learning.{Looks};
@@ -14,7 +14,7 @@ use inst_command::{Entry, Place};
 use std::alloc::AllocError;
 
 impl Slot {
-    /// The transfer that a look at the place delivers.
+    /// Returns the entry of the transfer that a look at the place delivers.
     fn delivery(&self, place: Place, look: &Look) -> Option<Entry>
         ensures entry { result ≡ delivery self.now place look.now }
         ensures sound { IsSound self.now.settings self.now.who self.now.events }
@@ -37,7 +37,8 @@ impl Slot {
         }
     }
 
-    /// Keeps that the transfer was forwarded from the place.
+    /// Appends that the transfer was forwarded from the place. On allocation failure the slot is
+    /// unchanged.
     fn forward(&mut self, place: Place, entry: Entry) -> Result<(), AllocError>
         requires fits { Fits self.old.settings self.old.who self.old.events
             (Event.Forwarded entry.from entry.id entry.cents entry.deadline) }
@@ -52,8 +53,14 @@ impl Slot {
         Ok(())
     }
 
-    /// Forwards what is pending at the place, if it is for the participant and new to it: `true`
-    /// where it was. Where memory is refused the slot is as it was.
+    /// Forwards the transfer pending at the place, if the participant is its beneficiary and
+    /// doesn't have it yet. Returns `true` if a transfer was forwarded.
+    ///
+    /// Requires a lawful board (see [`Slot`]), and that all carried transfers are adopted.
+    ///
+    /// # Errors
+    ///
+    /// [`AllocError`] if the transfer can't be stored; the slot is unchanged.
     pub fn deliver<B: Board>(&mut self, board: &mut B, place: Place) -> Result<bool, AllocError>
         requires lawful { IsLawfulBoard B.settings B.knows B.has_role board.old self.old }
         requires adopted { AllAreAdopted self.old }

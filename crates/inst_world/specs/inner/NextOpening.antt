@@ -1,5 +1,5 @@
--- How the slots of a world open again, one after another over an empty board, and how each transfer
--- that was carried then finds its place.
+-- Opening the slots of a world again, one after another over an empty board, and adopting each
+-- carried transfer.
 use Rattle.std.specs.Prelude.{◌≡◌, ◌↔◌, ◌⊎◌, ℕ, zero, suc, ◌<◌, ◌≤◌, true, is_some, List, [], ◌∷◌}
 use Rattle.std.specs.Prelude.{◌++◌, length, slice_get, Contains, Some}
 use Rattle.inst_settings.specs.Settings.{HubSettings, participants, is_participant}
@@ -18,21 +18,22 @@ use Rattle.inst_slot.specs.LawfulBoard.{IsLawfulBoard}
 use Rattle.inst_slot.specs.Opening.{opened_again, MayOpenAgain, IsOfTakenSubmission}
 use Rattle.inst_world.specs.HasRun.{World, world_settings, journal_of}
 
--- the books of the first n participants, opened again
+-- The books of the first n participants, opened again.
 abbrev pub books_again : HubSettings → (ℕ → List Event) → ℕ → List Book
 books_again s J zero = []
 books_again s J (suc n) = books_again s J n ++ opened_again s n (J n) ∷ []
 
--- the fact is of the opening of a live transfer of one of the first n participants
+-- The fact is part of the opening of a live transfer of one of the first n participants.
 pub record IsOpenedBelow (s : HubSettings) (J : ℕ → List Event) (n : ℕ) (f : Fact) : Type 0 where
   pub owner : ℕ
   pub below : owner < n
   pub opening : IsOfTakenSubmission s owner (live_taken owner (J owner ++ Opened ∷ [])) f
 
--- The books of the first n participants are opened again, over a board that was empty
--- known: the board has their live transfers, pending, and nothing else
--- lawful: the books are lawful over it
--- next: those of the others can be opened over it
+-- The books of the first n participants are opened again, over a board that was empty.
+--
+-- - known: the board has their live transfers, pending, and nothing else
+-- - lawful: the books are lawful over it
+-- - next: those of the others can be opened over it
 pub record AreOpenedAgain (s : HubSettings) (J : ℕ →
     List Event) (n : ℕ) (world : World) : Type 0 where
   pub settings_are : world_settings world ≡ s
@@ -44,14 +45,13 @@ pub record AreOpenedAgain (s : HubSettings) (J : ℕ →
   pub next : (p : ℕ) → n ≤ p →
       MayOpenAgain (λ b. b.settings) plain_knows (λ b q. Unit {0}) world.board s p
 
--- the book of the participant p over this board; some carried transfers may still await their
--- places
+-- The book of participant p over this board. Some carried transfers may not be adopted yet.
 pub record IsCarrying (s : HubSettings) (board : Contents) (p : ℕ) (book : Book) : Type 0 where
   pub settings_are : book.settings ≡ s
   pub who_is : book.who ≡ p
   pub lawful : IsLawfulBoard (λ b. b.settings) plain_knows (λ b q. Unit {0}) board book
 
--- one book for each participant; what is pending is addressed to a participant
+-- One book for each participant, and each pending transfer is for a participant.
 pub record IsCarryingWorld (world : World) : Type 0 where
   pub one_each : length world.books ≡ participants (world_settings world)
   pub member : (p : ℕ) (book : Book) → slice_get world.books p ≡ Some book →
@@ -59,12 +59,11 @@ pub record IsCarryingWorld (world : World) : Type 0 where
   pub addressed : (k : Place) (t : Terms) (d : ℕ) → standing_at world.board k ≡ pending t d →
       is_participant (world_settings world) t.to ≡ true
 
--- the place stands before this one, by its owner's number and its index
+-- The place is before this one, by its owner's number and its index.
 abbrev pub StandsBefore : ℕ → ℕ → Place → Type 0
 StandsBefore owner index k = (k.owner < owner) ⊎ ((k.owner ≡ owner) × (k.index < index))
 
--- each transfer that was carried to a participant has found its place, where it is pending before
--- this place
+-- Each carried transfer that is pending before this place has been adopted.
 abbrev pub HaveFoundBefore : ℕ → ℕ → World → Type 0
 HaveFoundBefore owner index world = (p : ℕ) (book : Book) → slice_get world.books p ≡ Some book →
     (x : Arrival) → Contains book.arrivals x → (i : ℕ) →
@@ -73,7 +72,7 @@ HaveFoundBefore owner index world = (p : ℕ) (book : Book) → slice_get world.
     ≡ pending (terms_to p x.entry.cents x.entry.id) x.entry.deadline →
     is_some x.index ≡ true
 
--- from the first world to the second nothing else happened than that transfers found their places
+-- From the first world to the second transfers were adopted, and nothing else changed.
 pub record OnlyFinds (old new : World) : Type 0 where
   pub settings_are : world_settings new ≡ world_settings old
   pub histories : (p : ℕ) → journal_of new p ≡ journal_of old p

@@ -1,4 +1,4 @@
-//! How a hub in one thread is closed, and its books are carried to the next opening.
+//! Closing a hub in one thread, and copying its books for the next opening.
 ghost use Rattle.std.specs.Prelude.{◌≡◌, ◌++◌, ℕ, List, true, false, None, IfOk, IfSome, OnOk};
 ghost use Rattle.inst_settings.specs.Settings.{is_participant, participants};
 ghost use Rattle.inst_command.specs.declared.step.Step.{Step};
@@ -15,7 +15,7 @@ use inst_command::Step;
 use inst_journal::Journal;
 use std::alloc::{AllocError, Global};
 
-/// Whether each journal can be opened from once more. It walks over the events of each.
+/// Returns `true` if each journal can be opened from once more. Scans the events of each.
 fn have_openings_left(journals: &[Journal]) -> bool
     ensures few { result ≡ true → (p : ℕ) → HasOpeningsLeft (books_of journals.now p) }
     ensures many { result ≡ false → ¬ ((p : ℕ) → HasOpeningsLeft (books_of journals.now p)) }
@@ -29,7 +29,8 @@ fn have_openings_left(journals: &[Journal]) -> bool
 }
 
 impl World {
-    /// The participant is told of the places of the originator.
+    /// Lets the participant learn the outcome at each place of the originator, and delivers the
+    /// pending transfers to it.
     fn tell_places(&mut self, who: u8, from: u8, places: u16) -> Result<(), AllocError>
         requires who { is_participant self.old.board.settings who ≡ true }
         requires from { is_participant self.old.board.settings from ≡ true }
@@ -46,7 +47,7 @@ impl World {
         Ok(())
     }
 
-    /// The participant is told of the places of all originators.
+    /// Does the same for the places of all originators.
     fn tell_originators(&mut self, who: u8) -> Result<(), AllocError>
         requires who { is_participant self.old.board.settings who ≡ true }
         ensures ran { OnOk result ((O : Opening) (L : List Step) → HasRun O L self.old →
@@ -63,11 +64,16 @@ impl World {
         Ok(())
     }
 
-    /// Closes the hub: each participant is told of each place, one after another.
+    /// Closes the hub: each participant learns the decided outcomes and gets the pending transfers,
+    /// at every place. Decides nothing.
+    ///
+    /// The hub may run further steps. Cost: participants² × places visits, each a `Learn` and a
+    /// `Deliver`.
     ///
     /// # Errors
     ///
-    /// An allocation failed. Some participants were told of some places, and nothing else was done.
+    /// [`AllocError`]. Some participants learnt or got some transfers; nothing else changed, and
+    /// the call can be repeated.
     pub fn close(&mut self) -> Result<(), AllocError>
         ensures ran { OnOk result ((O : Opening) (L : List Step) → HasRun O L self.old →
             HasRun O (closing self.old.board.settings ++ L) self.new) }
@@ -82,7 +88,7 @@ impl World {
         Ok(())
     }
 
-    /// Copies of all journals, in the order of the participants.
+    /// Returns copies of all journals, in the order of the participants.
     fn journals(&self, alloc: Global) -> Result<Vec<Journal>, AllocError>
         ensures ok { IfOk result (λ journals. (O : Opening) (L : List Step) → HasRun O L self.now →
             AreJournalsOf self.now.board.settings (history self.now.board.settings O L)
@@ -96,12 +102,15 @@ impl World {
         Ok(journals)
     }
 
-    /// Closes the hub, and copies its books for the next opening. Returns `None` if one of them
-    /// can't be opened from once more.
+    /// Closes the hub as [`close`](World::close) does, and copies its books for the next opening.
+    ///
+    /// Returns `None` if a participant's history can't be opened from once more, which is after 500
+    /// openings. Cost: that of `close`, and linear in the events.
     ///
     /// # Errors
     ///
-    /// As from `close`.
+    /// [`AllocError`], as for [`close`](World::close), or if the copies can't be allocated; the hub
+    /// is then closed.
     pub fn carry(&mut self, alloc: Global) -> Result<Option<Vec<Journal>>, AllocError>
         ensures books { IfOk result (λ books.
             IfSome books (λ journals. (O : Opening) (L : List Step) → HasRun O L self.old →

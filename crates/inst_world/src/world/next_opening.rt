@@ -1,4 +1,4 @@
-//! A hub that opens again from the journals of its participants.
+//! Opening a hub again from the journals of its participants.
 ghost use Rattle.std.specs.Prelude.{◌≡◌, ◌+◌, [], reverse, IfOk};
 ghost use Rattle.inst_settings.specs.Settings.{participants};
 ghost use Rattle.inst_model.specs.Interleaving.{IsInterleaving};
@@ -18,9 +18,16 @@ use std::alloc::{AllocError, Global};
 use std::marker::Model;
 
 impl World {
-    /// A hub that opens again from these journals, one for each participant by number. What was
-    /// pending goes on, what was decided gives its place back. They are copied, and stay as they
-    /// are.
+    /// Opens a hub again from these journals, one for each participant by number.
+    ///
+    /// Pending transfers stay pending; the places of decided ones are free again. The journals are
+    /// copied. Requires journals from which a hub with these settings can open (`CanOpenFrom`):
+    /// those of [`carry`](World::carry), or others that `inst_books::can_open` accepts. Cost:
+    /// linear in the events and in all places.
+    ///
+    /// # Errors
+    ///
+    /// [`AllocError`] if the hub or the copies can't be allocated.
     pub fn open_from(
         alloc: Global,
         settings: &Settings,
@@ -41,8 +48,15 @@ impl World {
         })
     }
 
-    /// Runs the steps in order, at a hub that opens again from these journals. Refused memory ends
-    /// the run. What it returns keeps what `run` promises.
+    /// Runs the steps in order on a hub that opens again from these journals. Returns the hub and
+    /// the answers, which keep what [`run`](World::run) promises.
+    ///
+    /// Requires journals as for [`open_from`](World::open_from), and steps that fit the settings.
+    ///
+    /// # Errors
+    ///
+    /// [`AllocError`] from the opening, or from the first step that fails to allocate; the hub is
+    /// dropped.
     pub fn run_from(
         alloc: Global,
         settings: &Settings,
@@ -63,8 +77,8 @@ impl World {
     }
 }
 
-/// The slots of a hub that opens again, over its board. Transfers that were carried to them may
-/// still await their places.
+/// The slots of a hub that opens again, over its board. Some carried transfers may not be adopted
+/// yet.
 #[derive(Drop)]
 struct Reopened {
     slots: Vec<Slot>,
@@ -84,7 +98,7 @@ impl Model for Reopened {
 }
 
 impl Reopened {
-    /// The slots of the participants, opened again from their journals over an empty board.
+    /// Opens the slots of the participants from their journals over an empty board.
     fn open(
         alloc: Global,
         settings: &Settings,
@@ -103,7 +117,7 @@ impl Reopened {
         Ok(Reopened { slots, board })
     }
 
-    /// Looks at each place, so that each carried transfer finds its own.
+    /// Visits each place, so that each carried transfer is adopted.
     fn adopt_all(&mut self, settings: &Settings)
         requires settings { self.old.board.settings ≡ settings.now }
         ensures found { HaveFoundBefore (participants settings.now) 0 self.new }
@@ -114,7 +128,7 @@ impl Reopened {
         }
     }
 
-    /// Looks at each of the originator's places.
+    /// Visits each place of an originator.
     fn adopt_from(&mut self, owner: u8, places: u16)
         requires places { places ≡ self.old.board.settings.places }
         requires found { HaveFoundBefore owner 0 self.old }
@@ -126,7 +140,7 @@ impl Reopened {
         }
     }
 
-    /// The beneficiary of what is pending at the place finds it there.
+    /// Lets the beneficiary adopt the transfer that is pending at the place.
     fn adopt_at(&mut self, place: Place)
         requires found { HaveFoundBefore place.owner place.index self.old }
         ensures found { HaveFoundBefore place.owner (place.index + 1) self.new }

@@ -1,4 +1,4 @@
-//! How a hub in one thread runs a step: by the slot of its participant.
+//! Running a step by the slot of its participant.
 ghost use Rattle.std.specs.Prelude.{◌≡◌, true};
 ghost use Rattle.inst_settings.specs.Settings.{is_participant};
 ghost use Rattle.inst_command.specs.Ask.{ask_fits};
@@ -13,7 +13,7 @@ use inst_command::{Answer, Ask, Place, Reply, Step, refusals_told};
 use std::alloc::AllocError;
 
 impl World {
-    /// Runs one step, by the slot of its participant.
+    /// Runs one step by the slot of its participant.
     pub(super) fn run_by_slot(&mut self, step: &Step) -> Result<Answer, AllocError>
         requires fits { step_fits self.old.board.settings step.now ≡ true }
         ensures { RunsOrNeedsMemory (λ answer. answer) self.old step.now result self.new }
@@ -38,7 +38,7 @@ impl World {
         }
     }
 
-    /// What is pending at the place comes to the participant `to`: whether it is new to it.
+    /// Delivers the transfer at the place to participant `to`; returns `true` if it is new to it.
     fn deliver(&mut self, place: Place, to: u8) -> Result<bool, AllocError>
         requires participants { (is_participant self.old.board.settings place.owner ≡ true)
             × (is_participant self.old.board.settings to ≡ true) }
@@ -48,7 +48,7 @@ impl World {
         self.slots[usize::from(to)].deliver(&mut self.board, place)
     }
 
-    /// The participant `who` learns of the place: whether it books its outcome anew.
+    /// Lets participant `who` learn the outcome at the place; returns `true` if it is booked.
     fn learn(&mut self, who: u8, place: Place) -> Result<bool, AllocError>
         requires participants { (is_participant self.old.board.settings who ≡ true)
             × (is_participant self.old.board.settings place.owner ≡ true) }
@@ -58,8 +58,7 @@ impl World {
         self.slots[usize::from(who)].learn(&mut self.board, place)
     }
 
-    /// The transfer at this index of the participant's may expire: whether it books its outcome
-    /// anew.
+    /// Expires the participant's transfer at this index; returns `true` if an outcome is booked.
     fn expire(&mut self, who: u8, index: u16, at: Moment) -> Result<bool, AllocError>
         requires participant { is_participant self.old.board.settings who ≡ true }
         ensures { RunsOrNeedsMemory (λ is_new. Answer.New is_new) self.old
@@ -68,7 +67,7 @@ impl World {
         self.slots[usize::from(who)].expire(&mut self.board, index, at)
     }
 
-    /// Answers an ask by the slot of its participant, a refusal as a reply.
+    /// Answers a command by the slot of its participant; a refusal is a reply.
     fn ask(&mut self, ask: &Ask) -> Result<Reply, AllocError>
         requires fits { ask_fits self.old.board.settings ask.now ≡ true }
         ensures { RunsOrNeedsMemory (λ reply. Answer.Reply reply) self.old

@@ -1,11 +1,11 @@
-//! Which lines one pass knows to be no JSON, and which it leaves to be read in another way.
+//! Lines that one pass finds not to be JSON, and lines that it leaves to the JSON reader.
 use crate::comparing::same_at;
 use crate::json::hub::{MOST, refusal};
 use inst_base::Fault;
 use inst_json::{Fields, Form, scan};
 use std::process::Abort;
 
-/// Lines that are no JSON, and are known to be none where the pass stops.
+/// Lines that aren't JSON, where the pass finds the error.
 const BROKEN: &[&[u8]] = &[
     // No value.
     b"",
@@ -35,7 +35,7 @@ const BROKEN: &[&[u8]] = &[
     b"{\"at\":0,}",
     b"{\"at\":0, \t}",
     b"{,}",
-    // A key that breaks off, or has no colon.
+    // A key that is cut off or has no colon.
     b"{\"",
     b"{\"at",
     b"{\"a\nt\":0}",
@@ -59,7 +59,7 @@ const BROKEN: &[&[u8]] = &[
     b"{\"at\":\"0",
     b"{\"at\":\"0\t\"}",
     b"{\"cmd\":\"sub",
-    // Nothing behind a value, or neither a comma nor a brace.
+    // Nothing after a value, or neither a comma nor a brace.
     b"{\"at\":\"0\"",
     b"{\"at\":0 ",
     b"{\"at\":0 1}",
@@ -67,7 +67,7 @@ const BROKEN: &[&[u8]] = &[
     b"{\"at\":0 ]",
     b"{\"at\":\"0\"{}}",
     b"{\"at\":\"0\"x}",
-    // Something behind the object.
+    // Something after the object.
     b"{\"at\":0}}",
     b"{\"at\":0} {\"at\":0}",
     b"{\"at\":0},",
@@ -75,7 +75,7 @@ const BROKEN: &[&[u8]] = &[
     b"{\"at\":0} x",
 ];
 
-/// Lines that are left, though they are no JSON either.
+/// Lines that aren't JSON either, and that the pass leaves.
 const LEFT: &[&[u8]] = &[
     b"{\"at\":\"0\":1}",
     b"{\"at\":01}",
@@ -90,7 +90,7 @@ const LEFT: &[&[u8]] = &[
     b"{\"at\":[}",
 ];
 
-/// JSON that is left to be read in another way; no command is in it.
+/// JSON that the pass leaves. None of it is a command.
 const OTHER: &[&[u8]] = &[
     b"{}",
     b" { } ",
@@ -125,7 +125,8 @@ fn is_left(line: &[u8]) -> bool {
     matches!(scan(line, &mut fields), Form::Other)
 }
 
-/// Each line is known to be broken or left to another way, as wanted, and is refused for that.
+/// Checks that the pass finds each line broken, or leaves it, as wanted, and that reading it fails
+/// with this fault.
 fn refuses(rt: &(impl Abort + AllocGlobal), lines: &[&[u8]], is_known: bool, fault: Fault) {
     for (place, line) in lines.iter().enumerate() {
         let found = (
@@ -144,7 +145,7 @@ fn broken_lines_are_known_in_one_pass(rt: HostRuntime) {
     refuses(&rt, OTHER, false, Fault::BadField);
 }
 
-/// A whole line, with a space in front.
+/// A whole line, with a leading space.
 const WHOLE: &[u8] = br#" {"at":1000,"cmd":"position","who":"AAAADEFF"}"#;
 
 #[test]

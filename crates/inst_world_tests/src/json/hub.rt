@@ -1,4 +1,4 @@
-//! The hub that lines are read and written for, and how it reads them.
+//! The hub of the lines, and how it reads them.
 ghost use Rattle.std.specs.Prelude.{◌≡◌, IfOk};
 ghost use Rattle.inst_settings.specs.Settings.{participants};
 
@@ -11,7 +11,8 @@ use std::alloc::Global;
 /// The largest ceiling, in cents.
 pub(crate) const MOST: u64 = 99_999_999_999;
 
-/// A hub of AAAADEFF, BBBBFRPP and CCCCITMM, numbered 0, 1 and 2, with a limit of 10,000 ms.
+/// Returns the settings of AAAADEFF, BBBBFRPP and CCCCITMM, numbered 0, 1 and 2, with a limit of
+/// 10,000 ms.
 pub(crate) fn hub(alloc: Global, ceiling: u64, base: u64) -> Result<Settings, Fault>
     ensures { IfOk result (λ s. participants s ≡ 3) }
 {
@@ -28,19 +29,19 @@ pub(crate) fn hub(alloc: Global, ceiling: u64, base: u64) -> Result<Settings, Fa
     Settings::check(codes.to_vec(alloc)?, numbers)
 }
 
-/// What a line is read as by the hub with this ceiling and base.
+/// Reads a command with this ceiling and base.
 pub(crate) fn read(alloc: Global, ceiling: u64, base: u64, line: &[u8]) -> Result<Ask, Fault> {
     let hub = hub(alloc, ceiling, base)?;
     read_command(alloc, &hub, line)
 }
 
-/// What it is refused for, if it is.
+/// Returns the fault that reading the line gives, if it does.
 pub(crate) fn refusal(alloc: Global, ceiling: u64, base: u64, line: &[u8]) -> Option<Fault> {
     mention::<Command>();
     read(alloc, ceiling, base, line).err()
 }
 
-/// What a line of a script is read as by the hub with the largest ceiling.
+/// Reads a line of a script with the largest ceiling.
 pub(crate) fn read_script(alloc: Global, line: &[u8]) -> Result<Step, Fault> {
     let hub = hub(alloc, MOST, 0)?;
     read_step(alloc, &hub, line)

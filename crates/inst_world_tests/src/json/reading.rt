@@ -1,11 +1,11 @@
-//! Each command and each step as it is read.
+//! Reading of each command and step.
 use crate::comparing::same_at;
 use crate::json::hub::{MOST, read, read_script};
 use inst_base::{Cents, Fault, Ident, Moment, Reason};
 use inst_command::{Ask, Command, Funding, Query, Step, Submission};
 use std::process::Abort;
 
-/// Who asks what, and when.
+/// The participant, its command, and the clock reading.
 type Asked = (u8, Command, u64);
 
 /// Lines of commands.
@@ -23,7 +23,7 @@ const COMMANDS: &[&str; 11] = &[
     r#"{"cents":null,"step2":1,"cmd":"position","who":"AAAADEFF","at":5}"#,
 ];
 
-/// The asks that they are.
+/// Returns the asks of these lines.
 fn asks() -> Result<[Asked; 11], Fault> {
     let id = Ident::new("T1")?;
     let cents = Cents::new(50_000)?;
@@ -69,7 +69,7 @@ fn asks() -> Result<[Asked; 11], Fault> {
     ])
 }
 
-/// The nth of them.
+/// Returns the one with this number, from 0.
 fn ask(asks: &[Asked], nth: usize) -> Result<Ask, Fault> {
     let Some(&(who, command, at)) = asks.get(nth) else {
         return Err(Fault::BadField);
@@ -78,7 +78,7 @@ fn ask(asks: &[Asked], nth: usize) -> Result<Ask, Fault> {
     Ok(Ask { who, command, at })
 }
 
-/// Each line is read as its ask.
+/// Checks that each line is read as its ask.
 fn reads(rt: &(impl Abort + AllocGlobal), asks: &[Asked; 11]) -> Result<(), Fault> {
     for (nth, line) in COMMANDS.iter().enumerate() {
         let read = read(rt.alloc(), MOST, 0, line.as_bytes());
@@ -100,7 +100,7 @@ const STEPS: &[&str; 4] = &[
     r#"{"at":11000,"cmd":"position","who":"AAAADEFF"}"#,
 ];
 
-/// The steps that they are.
+/// Returns the steps of these lines.
 fn steps() -> Result<[Step; 4], Fault> {
     let at = Moment::new(0, 11_000)?;
     Ok([
@@ -127,12 +127,12 @@ fn steps() -> Result<[Step; 4], Fault> {
     ])
 }
 
-/// The nth of them.
+/// Returns the one with this number, from 0.
 fn step(steps: &[Step], nth: usize) -> Result<Step, Fault> {
     steps.get(nth).copied().ok_or(Fault::BadField)
 }
 
-/// Each line of a script is read as its step.
+/// Checks that each line of a script is read as its step.
 fn reads_steps(rt: &(impl Abort + AllocGlobal), steps: &[Step; 4]) -> Result<(), Fault> {
     for (nth, line) in STEPS.iter().enumerate() {
         let read = read_script(rt.alloc(), line.as_bytes());

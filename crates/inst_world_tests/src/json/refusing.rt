@@ -1,4 +1,4 @@
-//! What lines are refused for, in the order of the refusals.
+//! The faults of lines that are refused, in the order of the checks.
 use crate::comparing::{same, same_at};
 use crate::json::hub::{hub, read_script, refusal};
 use inst_base::{Fault, mention};
@@ -7,10 +7,10 @@ use inst_json::{LineReader, Name, Refusal};
 use inst_settings::Settings;
 use std::process::Abort;
 
-/// A line, and what it is refused for.
+/// A line and its fault.
 type Row = (&'static str, Fault);
 
-/// Of commands, at a ceiling of 1,000 cents.
+/// Lines of commands, at a ceiling of 1,000 cents.
 const COMMANDS: &[Row] = &[
     ("", Fault::NotJson),
     ("    ", Fault::NotJson),
@@ -91,7 +91,7 @@ const COMMANDS: &[Row] = &[
     ),
 ];
 
-/// Of steps.
+/// Lines of steps.
 const STEPS: &[Row] = &[
     (
         r#"{"from":"AAAADEFF","place":1024,"step":"learn","who":"AAAADEFF"}"#,
@@ -144,10 +144,10 @@ fn refuses_steps_in_order(rt: HostRuntime) {
     }
 }
 
-/// A line, what it is refused for, and the name of the field by which.
+/// A line, its fault, and the name of the field that is wrong.
 type Blame = (&'static str, Fault, Option<Name>, &'static str);
 
-/// Of commands.
+/// Lines of commands.
 const BLAMED: &[Blame] = &[
     ("{", Fault::NotJson, None, ""),
     ("{}", Fault::BadField, Some(Name::Cmd), "cmd"),
@@ -171,7 +171,7 @@ const BLAMED: &[Blame] = &[
     ),
 ];
 
-/// The line is refused by its field.
+/// Checks that the line's refusal names its field.
 fn blames_field(rt: &impl Abort, reader: &mut LineReader, hub: &Settings, blame: &Blame) {
     let (line, fault, field, name) = *blame;
     let read = reader.read_blamed_command(hub, line.as_bytes());
@@ -179,7 +179,7 @@ fn blames_field(rt: &impl Abort, reader: &mut LineReader, hub: &Settings, blame:
     same_at(rt, line, found, (Err(Refusal { fault, field }), name));
 }
 
-/// Each line is, and a step that tells no place by that.
+/// Checks that each line's refusal names its field, and that of a step without a place too.
 fn blames(rt: &impl Abort, reader: &mut LineReader, hub: &Settings) {
     for blame in BLAMED {
         blames_field(rt, reader, hub, blame);

@@ -1,5 +1,4 @@
-//! Which lines are read in one pass, without a tree. What they are read as a contract says,
-//! whichever way it is.
+//! Lines that one pass reads without a tree. The contract says what is read, in either way.
 use crate::comparing::same_at;
 use inst_base::Fault;
 use inst_json::{Fields, Form, scan};
@@ -86,7 +85,7 @@ const LINES: &[&[&str]] = &[
     ],
 ];
 
-/// Members that a line may have before and behind its own, and whether one pass reads the line.
+/// Members that a line may have before or after its own, and whether one pass reads the line.
 const MEMBERS: &[(&str, bool)] = &[
     (r#""at":7"#, true),
     (r#""at":"7""#, true),
@@ -128,7 +127,7 @@ const MEMBERS: &[(&str, bool)] = &[
     (r#","#, false),
 ];
 
-/// Adds the members to the line, each with a comma before it unless it is the first.
+/// Appends the members to the line, with commas between them.
 fn push_members(line: &mut String, members: &[&str]) -> Result<(), Fault> {
     for member in members {
         line.push_str(if line.len() == 1 { "" } else { "," })?;
@@ -137,14 +136,14 @@ fn push_members(line: &mut String, members: &[&str]) -> Result<(), Fault> {
     Ok(())
 }
 
-/// Adds all that comes behind the first brace.
+/// Appends everything after the first brace.
 fn push_object(line: &mut String, front: &[&str], back: &[&str]) -> Result<(), Fault> {
     push_members(line, front)?;
     push_members(line, back)?;
     Ok(line.push_str("}")?)
 }
 
-/// Whether one pass reads an object of these members.
+/// Returns `true` if one pass reads an object of these members.
 fn is_scanned(alloc: Global, front: &[&str], back: &[&str]) -> Result<bool, Fault> {
     let mut line = String::from_str(alloc, "{")?;
     push_object(&mut line, front, back)?;
@@ -152,7 +151,7 @@ fn is_scanned(alloc: Global, front: &[&str], back: &[&str]) -> Result<bool, Faul
     Ok(matches!(scan(line.as_bytes(), &mut fields), Form::Plain))
 }
 
-/// The members in each order, each of them once in front.
+/// Checks each rotation of the members, so that each comes first once.
 fn scans_each_order(rt: &(impl Abort + AllocGlobal), members: &[&str]) -> Result<(), Fault> {
     for first in 0..members.len() {
         let scanned = is_scanned(rt.alloc(), &members[first..], &members[..first])?;
@@ -169,7 +168,7 @@ fn keys_in_any_order_are_read_in_one_pass(rt: HostRuntime) -> Result<(), Fault> 
     Ok(())
 }
 
-/// Whether a line with another member before or behind its own is scanned.
+/// Returns `true` if one pass reads the line with another member before or after its own.
 fn is_scanned_with(
     alloc: Global,
     members: &[&str],
@@ -183,7 +182,7 @@ fn is_scanned_with(
     }
 }
 
-/// A line with each of the other members before or behind its own.
+/// Checks a line with each of the other members, before and after its own.
 fn scans_with_more(
     rt: &(impl Abort + AllocGlobal),
     members: &[&str],

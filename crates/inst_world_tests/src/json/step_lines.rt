@@ -6,7 +6,7 @@ use inst_json::{append_step, read_step};
 use inst_settings::Settings;
 use std::process::Abort;
 
-/// The line of each command and each step. Their moments are past a base of 1,000.
+/// A line of each command and each step, with a base of 1,000 ms.
 const LINES: &[&str] = &[
     r#"{"at":1000,"cents":50000,"cmd":"fund","ref":"F1","who":"AAAADEFF"}"#,
     r#"{"at":3000,"cents":5000,"cmd":"defund","ref":"D 1","who":"AAAADEFF"}"#,
@@ -22,7 +22,7 @@ const LINES: &[&str] = &[
     r#"{"at":12000,"place":7,"step":"expire","who":"AAAADEFF"}"#,
 ];
 
-/// The step of this line is written as the line, and is read of what was written.
+/// Checks that the line's step is written as the line and read back.
 fn is_written(
     rt: &(impl Abort + AllocGlobal),
     hub: &Settings,

@@ -13,7 +13,7 @@ use inst_json::{write_answer, write_reply};
 use inst_settings::Settings;
 use std::process::Abort;
 
-/// The answer is written as this line, and so is the reply that it is.
+/// Checks that the answer, and the reply in it, are written as this line.
 fn is_written(rt: &(impl Abort + AllocGlobal), settings: &Settings, answer: &Answer, wanted: &str)
     requires { answer_can_be_written settings.now answer.now ≡ true }
 {
@@ -25,7 +25,7 @@ fn is_written(rt: &(impl Abort + AllocGlobal), settings: &Settings, answer: &Ans
     }
 }
 
-/// The same of an answer that is not used again.
+/// Does the same with an answer that isn't used again.
 fn writes(rt: &(impl Abort + AllocGlobal), settings: &Settings, answer: Answer, wanted: &str)
     requires { answer_can_be_written settings.now answer ≡ true }
 {
@@ -68,7 +68,7 @@ fn writes_position(rt: &(impl Abort + AllocGlobal), hub: &Settings)
     writes(rt, hub, Answer::Reply(position), line);
 }
 
-/// The state of this transfer of this originator is written so.
+/// Checks the line of a transfer's state.
 fn writes_state(
     rt: &(impl Abort + AllocGlobal),
     hub: &Settings,
@@ -106,7 +106,7 @@ fn writes_each_state(rt: &(impl Abort + AllocGlobal), hub: &Settings) -> Result<
     Ok(())
 }
 
-/// An inbox of these entries is written so.
+/// Checks the line of an inbox with these entries.
 fn writes_inbox(rt: &(impl Abort + AllocGlobal), hub: &Settings, entries: &[Entry], wanted: &str)
     requires { list_all (λ entry. is_participant hub.now entry.from) entries.now ≡ true }
 {
@@ -140,7 +140,7 @@ fn writes_each_inbox(rt: &(impl Abort + AllocGlobal), hub: &Settings) -> Result<
     Ok(())
 }
 
-/// A statement of these lines is written so.
+/// Checks the line of a statement with these lines.
 fn writes_statement(rt: &(impl Abort + AllocGlobal), hub: &Settings, lines: &[Line], wanted: &str)
     requires { list_all (line_fits hub.now) lines.now ≡ true }
 {

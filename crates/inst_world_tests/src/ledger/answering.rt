@@ -1,5 +1,5 @@
-//! Rows that are answered: by the ledger, by the plain functions on its events, and a statement by
-//! a walk over them.
+//! Answers the rows by the ledger and by the plain functions on its events, and each statement also
+//! by a pass over the events.
 ghost use Rattle.std.specs.Prelude.{◌≡◌, true};
 ghost use Rattle.inst_command.specs.Ask.{command_fits};
 ghost use Rattle.inst_journal.specs.Sound.{Fits};
@@ -16,10 +16,10 @@ use inst_statement::statement;
 use std::alloc::Global;
 use std::process::Abort;
 
-/// What is asked, its reading, what is found of its transfer, and what is told.
+/// The command, the clock reading, how its transfer ended, and the expected reply.
 pub(crate) type Row = (ShortAsk, u64, Option<End>, ExpectedReply);
 
-/// Whether the plain function that answers alone answers so.
+/// Returns `true` if the plain function that only answers gives this reply.
 fn is_answered(
     alloc: Global,
     ledger: &Ledger,
@@ -37,7 +37,8 @@ fn is_answered(
     }
 }
 
-/// Whether the plain function that handles a command answers so, and says that this is to be kept.
+/// Returns `true` if the plain function that handles a command gives this reply and this event to
+/// store.
 fn is_handled(
     alloc: Global,
     ledger: &Ledger,
@@ -56,7 +57,7 @@ fn is_handled(
     }
 }
 
-/// Compares what the plain functions answer, and what is to be kept of it.
+/// Compares the replies of the plain functions, and the event to store.
 fn plainly(
     rt: &(impl Abort + AllocGlobal),
     ledger: &Ledger,
@@ -73,7 +74,7 @@ fn plainly(
     same_at(rt, *ask, is_handled, true);
 }
 
-/// Compares the lines that a walk over the events gives.
+/// Compares the statement lines that a pass over the events gives.
 pub(crate) fn walks(
     rt: &(impl Abort + AllocGlobal),
     ledger: &Ledger,
@@ -88,7 +89,7 @@ pub(crate) fn walks(
     Ok(())
 }
 
-/// Compares them where a statement is asked for.
+/// Does so if the command is that of a statement.
 fn by_a_walk(
     rt: &(impl Abort + AllocGlobal),
     ledger: &Ledger,
@@ -103,7 +104,7 @@ fn by_a_walk(
     }
 }
 
-/// Keeps the event; a submission in room that was made before.
+/// Stores the event; a submission with reserved capacity.
 fn keep(ledger: &mut Ledger, event: Event) -> Result<(), Fault>
     requires { Fits ledger.old.book.settings ledger.old.book.who ledger.old.book.events event }
 {
@@ -122,8 +123,7 @@ fn keep(ledger: &mut Ledger, event: Event) -> Result<(), Fault>
     Ok(())
 }
 
-/// Whether the ledger, asked by itself whether a submission is new, tells what it tells where it
-/// handles it.
+/// Returns `true` if `is_new_submission` agrees with `handle`.
 fn is_new(ledger: &Ledger, ask: &Ask, handled: &Result<Handled, Fault>) -> bool
     requires { command_fits ledger.now.book.settings ask.now.command ≡ true }
 {
@@ -141,7 +141,7 @@ fn is_new(ledger: &Ledger, ask: &Ask, handled: &Result<Handled, Fault>) -> bool
     }
 }
 
-/// Whether the ledger, asked by itself for the position, tells what is told.
+/// Returns `true` if the ledger's sums agree with the reply.
 fn is_position(ledger: &Ledger, ask: &Ask, told: &ExpectedReply) -> bool {
     match &ask.command {
         Command::Query(Query::Position) => is_reply(&ledger.position_reply(), told),
@@ -149,7 +149,7 @@ fn is_position(ledger: &Ledger, ask: &Ask, told: &ExpectedReply) -> bool {
     }
 }
 
-/// Compares what the ledger and the plain functions answer, and keeps what is to be kept.
+/// Compares the replies of the ledger and of the plain functions, and stores the event.
 fn by_the_ledger(
     rt: &(impl Abort + AllocGlobal),
     ledger: &mut Ledger,
@@ -178,7 +178,7 @@ fn by_the_ledger(
     Ok(())
 }
 
-/// What the participant `who` asks at this reading.
+/// Returns the ask of the participant `who` at this clock reading.
 fn ask(who: u8, asks: &ShortAsk, at: u64) -> Result<Ask, Fault> {
     Ok(Ask {
         who,
@@ -187,7 +187,7 @@ fn ask(who: u8, asks: &ShortAsk, at: u64) -> Result<Ask, Fault> {
     })
 }
 
-/// What is found of a transfer that ended so, if it did.
+/// Returns the outcome, if the transfer ended.
 fn found(end: &Option<End>) -> Result<Option<Outcome>, Fault> {
     match end {
         None => Ok(None),
@@ -204,7 +204,7 @@ fn answer(rt: &(impl Abort + AllocGlobal), ledger: &mut Ledger, row: &Row) -> Re
     by_the_ledger(rt, ledger, &ask, &found, told)
 }
 
-/// Answers the rows in order.
+/// Checks the rows in order.
 pub(crate) fn answers(
     rt: &(impl Abort + AllocGlobal),
     ledger: &mut Ledger,

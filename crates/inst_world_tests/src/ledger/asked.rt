@@ -1,4 +1,4 @@
-//! What is asked, by short texts and plain numbers.
+//! Commands, as short texts and plain numbers.
 use inst_base::{Cents, Fault, Ident, Moment, Reason};
 use inst_command::{Command, Funding, Outcome, Query, Submission};
 use inst_fixtures::End;
@@ -8,14 +8,14 @@ use inst_fixtures::End;
 pub(crate) enum ShortAsk {
     Fund(&'static str, u64),
     Defund(&'static str, u64),
-    /// The identifier, the beneficiary, the cents and the stamp.
+    /// The identifier, the beneficiary, the amount in cents and the time stamp.
     Submit(&'static str, u8, u64, u64),
     Confirm(u8, &'static str),
     Reject(u8, &'static str, &'static str),
     Investigate(&'static str),
     Fetch(u32),
     Position,
-    /// The lines that are skipped, and how many are asked for.
+    /// The number of lines to skip, and the most to return.
     Statement(u64, u32),
 }
 

@@ -1,4 +1,4 @@
-//! What a participant is answered to which transfers were forwarded.
+//! Replies to a participant that transfers were forwarded to.
 use crate::ledger::answering::Row;
 use crate::ledger::asked::ShortAsk;
 use crate::ledger::cases::{Does, First, goes};
@@ -131,8 +131,8 @@ const FETCHES_AND_DECIDES: &[Does] = &[
     Does::Knows("T1", (false, None, [true, false]), Some(End::Accepted)),
 ];
 
-/// It fetches, confirms and rejects, defunds what came, and reads its statement. T1 came from
-/// participant 0, and from nobody of the number 1.
+/// A beneficiary fetches, confirms and rejects, defunds what it received, and reads its statement.
+/// T1 came from participant 0; none came from participant 1.
 #[test]
 fn fetches_confirms_and_rejects(rt: HostRuntime) -> Result<(), Fault> {
     goes(
@@ -169,7 +169,8 @@ const RECEIVES_BOTH: &[Row] = &[
 
 const RECEIVES: &[Does] = &[Does::Answers(RECEIVES_BOTH)];
 
-/// Two transfers of one name, of two originators, are received: each line has its own amount.
+/// Two transfers with the same identifier from two originators: each statement line has its own
+/// amount.
 #[test]
 fn receives_two_of_one_name(rt: HostRuntime) -> Result<(), Fault> {
     goes(&rt, 1, First::Forwarded(100, 300), RECEIVES)

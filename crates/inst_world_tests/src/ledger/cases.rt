@@ -1,4 +1,4 @@
-//! A ledger that tables go over: what it begins with, and what it then answers and tells.
+//! The ledger of a table: its first events, its replies, and its sums.
 ghost use Rattle.std.specs.Prelude.{◌≡◌, ◌≤◌, [], IfOk};
 ghost use Rattle.inst_settings.specs.Settings.{participants};
 ghost use Rattle.inst_settings.specs.Lawful.{IsSettings};
@@ -13,42 +13,42 @@ use inst_ledger::Ledger;
 use std::alloc::Global;
 use std::process::Abort;
 
-/// What is kept before anything is asked.
+/// The events before the first command.
 #[derive(Clone, Copy)]
 pub(crate) enum First {
     Nothing,
     /// An opening.
     Opened,
-    /// A T1 over so many cents from participant 0, and another over so many from participant 2, to
-    /// participant 1.
+    /// T1 of participant 0 and T1 of participant 2, both to participant 1, with these amounts in
+    /// cents.
     Forwarded(u64, u64),
 }
 
-/// How many events, fundings and live submissions there are; the reserved sum, the position and the
-/// available sum; and by the journal the net funding, the debits, the credits, and those three sums
-/// again.
+/// The numbers of events, fundings and live submissions; the reserved sum, the position and the
+/// available sum; and from the journal the net funding, the debits, the credits, and those three
+/// sums again.
 pub(crate) type Held = ([usize; 3], [u128; 3], i128, [u128; 5]);
 
-/// Whether a transfer of a name is taken, its beneficiary, and whether it was forwarded from
-/// participant 0 and from participant 1.
+/// Whether the identifier is taken, its beneficiary, and whether one was forwarded from participant
+/// 0 and from participant 1.
 pub(crate) type KnownTransfer = (bool, Option<u8>, [bool; 2]);
 
-/// What the ledger does, and what is compared of it.
+/// What the ledger does and what is compared.
 pub(crate) enum Does {
-    /// It answers these rows.
+    /// Answers these rows.
     Answers(&'static [Row]),
-    /// It opens from its own books.
+    /// Opens again from its own books.
     OpensAgain,
-    /// It has kept so many events.
+    /// Has stored this many events.
     Keeps(usize),
     Holds(Held),
-    /// It knows this of transfers of a name, and how that of participant 0 ended.
+    /// Knows this of the transfers with an identifier, and how that of participant 0 ended.
     Knows(&'static str, KnownTransfer, Option<End>),
-    /// A walk over its events gives these lines: how many are skipped, and how many are asked for.
+    /// A pass over its events gives these lines: the number to skip, the most to return, the lines.
     Walks(u64, u32, &'static [Shown]),
 }
 
-/// One after the other is forwarded.
+/// Stores both forwarded transfers, one after the other.
 fn keep_both(
     ledger: &mut Ledger,
     id: Ident,
@@ -88,7 +88,7 @@ fn forward_both(rt: &impl Abort, ledger: &mut Ledger, first: u64, second: u64) -
     keep_both(ledger, id, amounts, deadline)
 }
 
-/// Room that is made is no event, and what is kept is one.
+/// Reserving capacity adds no event, and storing adds one.
 fn keep_an_opening(rt: &impl Abort, ledger: &mut Ledger) -> Result<(), Fault>
     requires { ledger.old.book.events ≡ [] }
 {
@@ -110,7 +110,7 @@ fn begin(rt: &impl Abort, ledger: &mut Ledger, first: First) -> Result<(), Fault
     }
 }
 
-/// Whether there are so many events, and an opening behind them.
+/// Returns `true` if there are `kept` events followed by `Opened`.
 fn is_opened_behind(journal: &Journal, kept: usize) -> bool {
     match journal.events().split_last() {
         Some((last, events)) => *last == Event::Opened && events.len() == kept,
@@ -118,8 +118,7 @@ fn is_opened_behind(journal: &Journal, kept: usize) -> bool {
     }
 }
 
-/// A ledger that opens from these books, and keeps an opening behind what they have, is in this
-/// one's place.
+/// Replaces the ledger by one that opens from its books, which has `Opened` after their events.
 fn open_again(rt: &(impl Abort + AllocGlobal), ledger: &mut Ledger) -> Result<(), Fault> {
     let kept = ledger.journal().events().len();
     assert!(rt; ledger.journal().has_openings_left());
@@ -159,7 +158,7 @@ fn is_ended(outcome: &Option<Outcome>, end: &Option<End>) -> bool {
     }
 }
 
-/// Compares what is known of transfers of this name.
+/// Compares what the ledger knows of transfers with this identifier.
 fn knows(rt: &impl Abort, ledger: &Ledger, id: &Ident, wanted: KnownTransfer, end: &Option<End>) {
     let forwarded = [ledger.is_forwarded(0, id), ledger.is_forwarded(1, id)];
     let found = (ledger.is_taken(id), ledger.beneficiary_of(id), forwarded);
@@ -179,7 +178,7 @@ fn act(rt: &(impl Abort + AllocGlobal), ledger: &mut Ledger, does: &Does) -> Res
     Ok(())
 }
 
-/// It begins so, and then does one after the other.
+/// Stores the first events, and then acts in order.
 fn act_all(
     rt: &(impl Abort + AllocGlobal),
     ledger: &mut Ledger,
@@ -196,7 +195,7 @@ fn act_all(
     Ok(())
 }
 
-/// The ledger of the participant `who`, with no history.
+/// Opens a ledger of the participant `who` without a history.
 fn opened(alloc: Global, who: u8) -> Result<Ledger, Fault>
     ensures blank { IfOk result (λ ledger. ledger.book.events ≡ []) }
     ensures lawful { IfOk result (λ ledger. IsSettings ledger.book.settings) }
@@ -205,7 +204,7 @@ fn opened(alloc: Global, who: u8) -> Result<Ledger, Fault>
     Ok(Ledger::open(alloc, &settings, who)?)
 }
 
-/// The ledger of the participant `who` begins so, and then does one after the other.
+/// Runs a table with a new ledger of the participant `who`.
 pub(crate) fn goes(
     rt: &(impl Abort + AllocGlobal),
     who: u8,

@@ -1,18 +1,18 @@
-//! Journals by themselves.
+//! Journals without a ledger.
 use crate::comparing::same;
 use inst_base::{Cents, Fault, Ident, Moment};
 use inst_command::{Funding, Outcome};
 use inst_journal::{Event, Journal};
 use std::process::Abort;
 
-/// The journal has this one event, and so does a copy of it.
+/// Checks that the journal and a copy of it have only this event.
 fn has_one(rt: &impl Abort, journal: &Journal, event: Event) -> Result<(), Fault> {
     same(rt, journal.events(), [event].as_slice());
     same(rt, journal.copy()?.events(), [event].as_slice());
     Ok(())
 }
 
-/// Room that is made is no event, and what is pushed is one.
+/// Reserving capacity adds no event, and pushing adds one.
 fn pushes_one(rt: &impl Abort, journal: &mut Journal) -> Result<(), Fault> {
     let funded = Event::Funded(Funding {
         reference: Ident::new("F1")?,
@@ -37,7 +37,7 @@ fn begins_empty_with_room(rt: HostRuntime) -> Result<(), Fault> {
     pushes_one(&rt, &mut journal)
 }
 
-/// The event that takes a transfer over 100 cents to participant 1.
+/// Returns the event that takes a transfer of 100 cents to participant 1.
 fn taken(id: Ident) -> Result<Event, Fault> {
     Ok(Event::Taken {
         id,
@@ -47,8 +47,8 @@ fn taken(id: Ident) -> Result<Event, Fault> {
     })
 }
 
-/// Participant 0 has its first transfer settled before the hub is opened again, and its third taken
-/// after it. One of the first one's name comes from participant 2.
+/// Returns six events of participant 0: its first transfer is settled before the hub opens again,
+/// its third is taken afterwards. Participant 2 sends one with the identifier of the first.
 fn events(ids: [Ident; 3]) -> Result<[Event; 6], Fault> {
     let [first, second, third] = ids;
     Ok([
@@ -77,14 +77,14 @@ fn push_all(journal: &mut Journal, events: &[Event]) -> Result<(), Fault> {
     Ok(())
 }
 
-/// It was opened from once, and T2 and T3 are live.
+/// Checks that the journal has one opening, and that T2 and T3 are live.
 fn has_two_live(rt: &impl Abort, journal: &Journal) {
     let openings = (journal.openings(), journal.has_openings_left());
     same(rt, openings, (1, true));
     same(rt, journal.live_submissions(0), 2);
 }
 
-/// T1 of participant 0 is booked, and that of participant 2 was forwarded.
+/// Checks that T1 of participant 0 is booked and T1 of participant 2 was forwarded.
 fn has_two_of_one_name(rt: &impl Abort, journal: &Journal, id: &Ident) {
     let booked = [journal.booked(0, id), journal.booked(2, id)];
     same(rt, booked, [Some(Outcome::Accepted), None]);
@@ -92,7 +92,7 @@ fn has_two_of_one_name(rt: &impl Abort, journal: &Journal, id: &Ident) {
     same(rt, forwarded, [true, false]);
 }
 
-/// T1 is settled before the hub is opened again, T2 goes on, and T3 is taken behind the opening.
+/// T1 is settled before the hub opens again, T2 is carried, and T3 is taken after the opening.
 fn opens_with_two_live(rt: &impl Abort, journal: &mut Journal) -> Result<(), Fault> {
     let first = Ident::new("T1")?;
     let ids = [first, Ident::new("T2")?, Ident::new("T3")?];
@@ -108,7 +108,7 @@ fn tells_what_is_live_and_booked(rt: HostRuntime) -> Result<(), Fault> {
     opens_with_two_live(&rt, &mut journal)
 }
 
-/// Books are opened from 500 times, and not once more.
+/// A journal can be opened from 500 times, and not once more.
 fn opens_often(rt: &impl Abort, journal: &mut Journal) -> Result<(), Fault> {
     for _ in 0..499 {
         journal.push(Event::Opened)?;

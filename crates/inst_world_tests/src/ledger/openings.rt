@@ -36,7 +36,7 @@ const GOES_ON: &[Row] = &[
 
 const OPENS_AND_GOES_ON: &[Does] = &[Does::OpensAgain, Does::Answers(GOES_ON)];
 
-/// What came before an opening is fetched and confirmed after it.
+/// A transfer that was forwarded before an opening is fetched and confirmed after it.
 #[test]
 fn goes_on_after_an_opening(rt: HostRuntime) -> Result<(), Fault> {
     goes(&rt, 1, First::Forwarded(20_000, 20_000), OPENS_AND_GOES_ON)
@@ -49,7 +49,7 @@ const FUNDED: &[Row] = &[(
     ExpectedReply::Done("F1"),
 )];
 
-/// 500 cents before an opening and 300 after it: one line.
+/// 500 cents before an opening and 300 after it give one statement line.
 pub(crate) const FUNDED_AGAIN: &[Row] = &[
     (
         ShortAsk::Statement(0, 10),
@@ -77,7 +77,8 @@ const OPENS_AND_FUNDS: &[Does] = &[
     Does::Answers(FUNDED_AGAIN),
 ];
 
-/// After an opening the lines count from 1 again, from the position that was reached.
+/// After an opening the lines are numbered from 1 again, and start from the position reached
+/// before.
 #[test]
 fn begins_a_new_statement(rt: HostRuntime) -> Result<(), Fault> {
     goes(&rt, 0, First::Nothing, OPENS_AND_FUNDS)

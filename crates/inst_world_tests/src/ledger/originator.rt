@@ -1,4 +1,4 @@
-//! What a participant is answered that funds, submits and learns outcomes.
+//! Replies to a participant that funds, submits and learns outcomes.
 use crate::ledger::answering::Row;
 use crate::ledger::asked::ShortAsk;
 use crate::ledger::cases::{Does, First, goes};
@@ -133,8 +133,8 @@ const FUNDS_AND_PAYS: &[Does] = &[
     Does::Knows("T2", (true, Some(1), [false; 2]), Some(End::TimedOut)),
 ];
 
-/// A participant funds, submits, learns outcomes, defunds, and reads its statement. A settled
-/// transfer keeps its place: T1 is paid, T2 timed out.
+/// A participant funds, submits, learns outcomes, defunds, and reads its statement: T1 is paid, T2
+/// timed out. A decided transfer keeps its place.
 #[test]
 fn funds_submits_and_learns(rt: HostRuntime) -> Result<(), Fault> {
     goes(&rt, 0, First::Nothing, FUNDS_AND_PAYS)
@@ -204,7 +204,7 @@ const REPEATS_ITSELF: &[Does] = &[
     Does::Knows("F1", (false, None, [false; 2]), None),
 ];
 
-/// Repeats get their replies again and keep nothing; duplicates and a submission above what is
+/// Repeats get the same replies and store nothing; duplicates and a submission of more than is
 /// available are refused.
 #[test]
 fn repeats_its_commands(rt: HostRuntime) -> Result<(), Fault> {
@@ -268,7 +268,7 @@ const ONE_REJECTED: &[Row] = &[
 
 const IS_REJECTED: &[Does] = &[Does::Answers(ONE_REJECTED), Does::Keeps(6)];
 
-/// A rejected transfer has no line.
+/// A rejected transfer has no statement line.
 #[test]
 fn pays_and_is_rejected(rt: HostRuntime) -> Result<(), Fault> {
     goes(&rt, 0, First::Nothing, IS_REJECTED)

@@ -77,8 +77,8 @@ const REFUSED: &[Row] = &[
 
 const IS_REFUSED: &[Does] = &[Does::Answers(REFUSED), Does::Keeps(3)];
 
-/// Each refused command meets the refusal that it gets and some of the later ones, so that the
-/// first in order answers: all seven that a participant's books can give, by number.
+/// Each command could be refused for several faults, and gets the first in order: all seven that a
+/// participant's books can give, by number.
 #[test]
 fn meets_the_first_refusal(rt: HostRuntime) -> Result<(), Fault> {
     goes(&rt, 0, First::Nothing, IS_REFUSED)

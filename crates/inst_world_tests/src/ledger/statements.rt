@@ -1,5 +1,4 @@
-//! What is funded, paid, received and defunded, in parts of a statement: as the ledger keeps its
-//! lines, and as a walk over the events gives them.
+//! Parts of statements, from the ledger's lines and from a pass over the events.
 use crate::ledger::answering::Row;
 use crate::ledger::asked::ShortAsk;
 use crate::ledger::cases::{Does, First, goes};
@@ -101,10 +100,10 @@ const SHOWS_PARTS: &[Does] = &[
     Does::Answers(FUNDED_AGAIN),
 ];
 
-/// 500 cents are funded, 200 paid, 300 received and 100 defunded, while another transfer of the
-/// same name is pending: four lines, of which parts are asked for; a walk gives none or all where
-/// none or more than all are. After an opening the lines count from 1 again, from the position that
-/// was reached.
+/// 500 cents are funded, 200 paid, 300 received and 100 defunded, while another transfer with the
+/// same identifier is pending. Parts of the four lines are asked for; the pass also for none and
+/// for more than all. After an opening the lines are numbered from 1 again, and start from the
+/// position reached before.
 #[test]
 fn shows_what_moved_the_position(rt: HostRuntime) -> Result<(), Fault> {
     goes(&rt, 1, First::Forwarded(100, 300), SHOWS_PARTS)

@@ -1,4 +1,4 @@
-//! What is told, by short texts and plain numbers.
+//! Expected replies, as short texts and plain numbers.
 use inst_base::{Fault, Ident};
 use inst_command::{Reply, State};
 use inst_fixtures::{Came, End, Shown, are_entries, are_lines, is_end};
@@ -9,7 +9,7 @@ pub(crate) enum ExpectedReply {
     Taken(&'static str, u64),
     Pending(u8, &'static str),
     Decided(u8, &'static str, End),
-    /// The position, what of it is reserved, and what is available.
+    /// Position, reserved and available, in cents.
     Position(u64, u64, u64),
     Inbox(&'static [Came]),
     Lines(&'static [Shown]),
@@ -28,7 +28,7 @@ fn is_state(from: u8, id: &Ident, state: &State, told: &ExpectedReply) -> bool {
     }
 }
 
-/// Whether the reply is what is told.
+/// Returns `true` if the reply is the expected one.
 pub(crate) fn is_reply(reply: &Reply, told: &ExpectedReply) -> bool {
     match (reply, told) {
         (Reply::Done { reference }, ExpectedReply::Done(name)) => reference.text() == *name,
@@ -56,7 +56,7 @@ pub(crate) fn is_reply(reply: &Reply, told: &ExpectedReply) -> bool {
     }
 }
 
-/// Whether it is refused as it is told.
+/// Returns `true` if this refusal is expected.
 pub(crate) fn is_refused(fault: Fault, told: &ExpectedReply) -> bool {
     match told {
         ExpectedReply::Refused(wanted) => fault == *wanted,

@@ -10,15 +10,14 @@ use std::alloc::Global;
 use std::process::Abort;
 use std::test::Fail;
 
-/// Five lines, the last one without a newline, of which the second and the fourth are no commands.
+/// Five lines, the last one without a newline; the second and the fourth are no commands.
 const LINES: &str = r#"{"at":0,"cents":500,"cmd":"fund","ref":"F1","who":"AAAADEFF"}
 {"at":0,"cents":500,"cmd":"fund","who":"AAAADEFF"}
 {"at":0,"cents":500,"cmd":"submit","id":"T1","stamp":0,"to":"BBBBFRPP","who":"AAAADEFF"}
 
 {"at":10,"cents":100,"cmd":"defund","ref":"D1","who":"AAAADEFF"}"#;
 
-/// What the first participant is answered that asks for its position: that, what is reserved and
-/// what is available.
+/// Returns position, reserved and available of the first participant.
 fn money_of(runner: &mut Runner) -> Result<[u64; 3], Fail> {
     let step = Step::Ask(Ask {
         who: A,
@@ -40,7 +39,7 @@ fn money_of(runner: &mut Runner) -> Result<[u64; 3], Fail> {
     }
 }
 
-/// Three of five lines were refused, and the first participant has its money.
+/// Checks that the counts of lines and refusals, and the first participant's money, are right.
 fn has_answered(rt: &impl Abort, served: &mut Served) -> Result<(), Fail> {
     let counts = Counts {
         lines: 5,
@@ -51,7 +50,7 @@ fn has_answered(rt: &impl Abort, served: &mut Served) -> Result<(), Fail> {
     Ok(())
 }
 
-/// A hub that has answered the lines.
+/// Answers the lines and returns the hub.
 fn served(alloc: Global, settings: &Settings) -> Result<Served, Fault> {
     let mut reader = LINES.as_bytes();
     let mut replies = Vec::new(alloc);

@@ -8,7 +8,7 @@ use std::alloc::Global;
 use std::process::Abort;
 use std::test::Fail;
 
-/// A statement with its pages, and the steps that a run takes by itself after each line.
+/// A statement with its pages, and the steps that a run takes after each line.
 const STATEMENT_LINES: &[Row] = &[
     (
         br#"{"at":0,"cents":50000,"cmd":"fund","ref":"F1","who":"AAAADEFF"}"#,
@@ -80,7 +80,7 @@ const STATEMENT_LINES: &[Row] = &[
     ),
 ];
 
-/// The rows of commands alone.
+/// Returns only the rows of commands.
 fn commands(alloc: Global, rows: &'static [Row<'static>]) -> Result<Vec<Row<'static>>, Fail> {
     let mut commands = Vec::new(alloc);
     for row in rows {
@@ -92,7 +92,7 @@ fn commands(alloc: Global, rows: &'static [Row<'static>]) -> Result<Vec<Row<'sta
     Ok(commands)
 }
 
-/// Compares what is written to this front of the lines.
+/// Compares the replies to this prefix of the lines.
 fn cut_after(
     rt: &(impl Abort + AllocGlobal),
     mode: Mode,
@@ -104,7 +104,7 @@ fn cut_after(
     are_replies(rt, &written, rows, front.len())
 }
 
-/// Compares what is written where this input is cut after each byte, and before the first one.
+/// Compares the replies if the input is cut before the first byte and after each byte.
 fn cut_input(
     rt: &(impl Abort + AllocGlobal),
     mode: Mode,
@@ -118,7 +118,7 @@ fn cut_input(
     Ok(())
 }
 
-/// Compares what is written where the lines are cut after each byte, and before the first one.
+/// Does so for the lines of these rows.
 fn cut_after_each_byte(
     rt: &(impl Abort + AllocGlobal),
     mode: Mode,
@@ -129,7 +129,7 @@ fn cut_after_each_byte(
     cut_input(rt, mode, settings, rows, &input)
 }
 
-/// Compares what a run writes for the commands, and what playing all lines writes.
+/// Does so for a run over the commands and for a play of all lines.
 fn cut_in_each_mode(
     rt: &(impl Abort + AllocGlobal),
     settings: &Settings,

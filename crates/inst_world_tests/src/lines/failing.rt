@@ -1,5 +1,4 @@
-//! A reader that fails behind each byte, and a writer that fails behind each byte and in each
-//! flush.
+//! A reader that fails after each byte, and a writer that fails after each byte and in each flush.
 use crate::comparing::{same, same_at};
 use crate::lines::failing_writers::{FullOnce, Manner, UnflushedOnce};
 use crate::lines::serving::{Row, are_replies, lines_of, serve, written};
@@ -21,10 +20,10 @@ const FUND_THEN_POSITION: &[Row] = &[
     ),
 ];
 
-/// How many bytes a read gives, or a write takes, at most.
+/// The most bytes of a read or a write.
 const SIZES: &[usize] = &[1, 7, 64, 4_096];
 
-/// How many of the bytes are those of whole lines.
+/// Returns the length of the whole lines in these bytes.
 fn whole(bytes: &[u8]) -> usize {
     bytes
         .iter()
@@ -32,8 +31,7 @@ fn whole(bytes: &[u8]) -> usize {
         .map_or(0, |at| at + 1)
 }
 
-/// Compares what is answered where the reader fails behind these bytes: the lines whose newline it
-/// gave.
+/// Compares the replies if the reader fails after these bytes: those to the whole lines among them.
 fn read_fails(
     rt: &(impl Abort + AllocGlobal),
     settings: &Settings,
@@ -52,7 +50,7 @@ fn read_fails(
     are_replies(rt, &written, FUND_THEN_POSITION, whole(bytes))
 }
 
-/// The reader fails behind each byte, and before the first one.
+/// Lets the reader fail before the first byte and after each byte.
 fn reads_fail(
     rt: &(impl Abort + AllocGlobal),
     settings: &Settings,
@@ -66,7 +64,7 @@ fn reads_fail(
     Ok(())
 }
 
-/// The reader gives so many bytes at once, to a run and to a play.
+/// Does so for a run and a play, with reads of at most `most` bytes.
 fn reads_fail_in_each_mode(
     rt: &(impl Abort + AllocGlobal),
     settings: &Settings,
@@ -85,14 +83,14 @@ fn a_reader_fails_at_each_byte(rt: HostRuntime) -> Result<(), Fail> {
     Ok(())
 }
 
-/// How the writer of a test takes bytes: so many at once, and how it fails.
+/// How the writer takes bytes and fails.
 #[derive(Clone, Copy)]
 struct WriterLimits {
     most: usize,
     manner: Manner,
 }
 
-/// Compares what is written where the writer is full behind so many bytes of the replies.
+/// Compares what is written if the writer fails after `room` bytes of the replies.
 fn write_fails(
     rt: &(impl Abort + AllocGlobal),
     settings: &Settings,
@@ -113,7 +111,7 @@ fn write_fails(
     same(rt, writer.taken.as_slice(), front);
 }
 
-/// The writer is full behind each byte of the replies but the last, and before the first one.
+/// Lets the writer fail before the first byte of the replies and after each byte but the last.
 fn writes_fail_in(
     rt: &(impl Abort + AllocGlobal),
     settings: &Settings,
@@ -127,8 +125,7 @@ fn writes_fail_in(
     }
 }
 
-/// The writer is full behind each byte but the last of what is written to this input, which are the
-/// replies.
+/// Does so for the replies to this input.
 fn writes_fail(
     rt: &(impl Abort + AllocGlobal),
     settings: &Settings,
@@ -141,7 +138,7 @@ fn writes_fail(
     are_replies(rt, &replies, FUND_THEN_POSITION, input.len())
 }
 
-/// The writer takes bytes so, from a run and from a play.
+/// Does so for a run and a play.
 fn writes_fail_in_each_mode(
     rt: &(impl Abort + AllocGlobal),
     settings: &Settings,
@@ -152,7 +149,7 @@ fn writes_fail_in_each_mode(
     writes_fail(rt, settings, Mode::Play, taking, &input)
 }
 
-/// The writer fails in each manner, and takes each size.
+/// Does so for each way to fail and each size.
 fn writes_fail_in_each_manner(
     rt: &(impl Abort + AllocGlobal),
     settings: &Settings,
@@ -171,8 +168,8 @@ fn a_writer_fails_after_each_number_of_bytes(rt: HostRuntime) -> Result<(), Fail
     writes_fail_in_each_manner(&rt, &settings)
 }
 
-/// Compares what is written where so many flushes come before the one that fails: the replies to so
-/// many bytes of the lines.
+/// Compares what is written if the writer fails in the flush after `before` others: the replies to
+/// `len` bytes of the lines.
 fn flush_fails(
     rt: &(impl Abort + AllocGlobal),
     mode: Mode,
@@ -197,12 +194,12 @@ fn flush_fails(
     are_replies(rt, &writer.taken, FUND_THEN_POSITION, len)
 }
 
-/// How many bytes a read gives at most, how many flushes come before the one that fails, and how
-/// many bytes are answered. A flush comes after each read in which a line ends. The first line has
-/// 64 bytes with its newline, the second 43.
+/// The most bytes of a read, the number of flushes before the one that fails, and how many bytes
+/// are answered. A flush comes after each read in which a line ends. The first line has 64 bytes
+/// with its newline, the second 43.
 const FLUSHES: &[(usize, usize, usize)] = &[(1, 0, 64), (1, 1, 107), (4_096, 0, 107)];
 
-/// Each of the flushes fails.
+/// Lets each of these flushes fail.
 fn flushes_fail(
     rt: &(impl Abort + AllocGlobal),
     mode: Mode,

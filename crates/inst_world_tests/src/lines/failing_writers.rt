@@ -1,16 +1,16 @@
-//! Writers that fail once, so that a run which tries again, or goes on, is seen. Their error is the
-//! one after which std's own loops try again.
+//! Writers that fail once, so that a run which tries again or continues is found. Their error is
+//! the one after which the loops of `std` try again.
 use std::io::{self, ErrorKind, Write};
 
-/// What a full writer does.
+/// How a writer fails.
 #[derive(Clone, Copy, PartialEq, Eq)]
 pub(crate) enum Manner {
     Fails,
     TakesNone,
 }
 
-/// Takes at most `most` bytes a write, and all of them but once: the write behind `room` bytes
-/// fails or takes none.
+/// A writer that takes at most `most` bytes in a write. Once, the write after `room` bytes fails or
+/// takes none.
 #[derive(Drop)]
 pub(crate) struct FullOnce {
     pub(crate) taken: Vec<u8>,
@@ -40,7 +40,7 @@ impl Write for FullOnce {
     }
 }
 
-/// Takes all, and fails in the flush after `before` others.
+/// A writer that takes everything, and fails in the flush after `before` others.
 #[derive(Drop)]
 pub(crate) struct UnflushedOnce {
     pub(crate) taken: Vec<u8>,

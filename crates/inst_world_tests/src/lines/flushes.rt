@@ -1,4 +1,4 @@
-//! When a run writes and flushes, as a reader and a writer note it.
+//! The order of reads, writes and flushes in a run.
 use crate::comparing::same;
 use crate::lines::serving::{BAD_FIELD, Row, are_replies};
 use inst_fixtures::{Pieces, settings};
@@ -41,7 +41,7 @@ impl CallLog {
     }
 }
 
-/// Notes each read.
+/// A reader that notes each read.
 #[derive(Drop)]
 struct NotingReader<'a> {
     pieces: Pieces<'a>,
@@ -55,7 +55,7 @@ impl Read for NotingReader<'_> {
     }
 }
 
-/// Takes at most 40 bytes a write, and notes each write and flush.
+/// A writer that takes at most 40 bytes in a write, and notes each write and flush.
 #[derive(Drop)]
 struct NotingWriter<'a> {
     taken: Vec<u8>,
@@ -79,7 +79,7 @@ impl Write for NotingWriter<'_> {
 /// Two lines that are refused.
 const LINES: &[Row] = &[(b"[]", BAD_FIELD), (b"[]", BAD_FIELD)];
 
-/// Compares the calls that a run makes over two lines `[]` which come in pieces of `most` bytes.
+/// Compares the calls of a run over two lines `[]`, with reads of at most `most` bytes.
 fn run_pieces(
     rt: &(impl Abort + AllocGlobal),
     settings: &Settings,
@@ -111,7 +111,7 @@ fn run_pieces(
     are_replies(rt, &writer.taken, LINES, input.len())
 }
 
-/// How many bytes a piece has at most, and the calls.
+/// The most bytes of a read, and the calls.
 const CALLS: &[(usize, &[u8])] = &[(3, b"rwwfrwwfr"), (9, b"rwwwfr"), (2, b"rrwwfrwwfr")];
 
 #[test]

@@ -1,4 +1,4 @@
-//! As many lines as a run answers, and a byte more.
+//! The most lines that a run answers, and one byte more.
 use crate::comparing::same;
 use crate::lines::serving::NOT_JSON;
 use inst_base::Fault;
@@ -9,10 +9,10 @@ use std::io::{self, Write};
 use std::process::Abort;
 use std::test::Fail;
 
-/// How many bytes a refusal has, with its newline.
+/// The length of a refusal with its newline, in bytes.
 const REFUSAL_BYTES: usize = 49;
 
-/// Compares each byte with that of refusals one after another, and keeps none.
+/// A writer that compares each byte with those of refusals, and stores none.
 #[derive(Drop)]
 struct Refusals {
     taken: usize,
@@ -36,7 +36,7 @@ impl Write for Refusals {
     }
 }
 
-/// Compares how a run over so many newlines ends, and what is written.
+/// Compares the result of a run over `count` newlines, and what is written.
 fn ends(
     rt: &(impl Abort + AllocGlobal),
     settings: &Settings,

@@ -1,4 +1,4 @@
-//! Runs and plays of lines, and what they write.
+//! Runs and plays of lines, and their replies.
 use crate::comparing::same_at;
 use inst_base::Fault;
 use inst_lines::{Counts, Mode, play_lines, run_lines};
@@ -28,7 +28,7 @@ pub(crate) fn serve<R: Read, W: Write>(
     }
 }
 
-/// The lines, each with a newline.
+/// Joins the lines, each with a newline.
 pub(crate) fn lines_of(alloc: Global, rows: &[Row]) -> Result<Vec<u8>, Fail> {
     let mut lines = Vec::new(alloc);
     for (line, _) in rows {
@@ -38,8 +38,8 @@ pub(crate) fn lines_of(alloc: Global, rows: &[Row]) -> Result<Vec<u8>, Fail> {
     Ok(lines)
 }
 
-/// The replies to so many bytes of the lines, each with a newline. A line that is cut off is no
-/// JSON.
+/// Returns the replies to the first `len` bytes of the lines, each with a newline. A line that is
+/// cut off isn't JSON.
 fn replies_to(alloc: Global, rows: &[Row], len: usize) -> Result<Vec<u8>, Fail> {
     let mut replies = Vec::new(alloc);
     let mut left = len;
@@ -55,7 +55,7 @@ fn replies_to(alloc: Global, rows: &[Row], len: usize) -> Result<Vec<u8>, Fail> 
     Ok(replies)
 }
 
-/// What is written to this input.
+/// Returns what is written for this input.
 pub(crate) fn written(
     alloc: Global,
     mode: Mode,
@@ -68,7 +68,7 @@ pub(crate) fn written(
     Ok(written)
 }
 
-/// Compares what is written with the replies to so many bytes of the lines.
+/// Compares what is written with the replies to the first `len` bytes of the lines.
 pub(crate) fn are_replies(
     rt: &(impl Abort + AllocGlobal),
     written: &[u8],

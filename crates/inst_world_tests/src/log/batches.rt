@@ -7,7 +7,7 @@ use inst_log::{close_batch, push_line};
 use std::process::Abort;
 use std::test::Fail;
 
-/// Adds a line without a newline.
+/// Appends a line to a batch.
 pub(crate) fn add(
     rt: &(impl Abort + AllocGlobal),
     batch: &mut Vec<u8>,

@@ -1,20 +1,29 @@
-//! What the errors of a log tell.
+//! The texts of a log's errors.
 use crate::comparing::tells;
 use inst_log::LogError;
 use std::io::{Error, ErrorKind};
 use std::test::Fail;
 
-/// Errors that hold nothing, and what each tells.
+/// Errors without a field, and their texts.
 const ROWS: &[(LogError, &str)] = &[
-    (LogError::Memory, "memory was refused"),
-    (LogError::Full, "the log has no room for more"),
-    (LogError::Write, "the replies could not be written"),
-    (LogError::Told, "more was told than the log has replies"),
+    (LogError::Memory, "an allocation failed"),
+    (
+        LogError::Full,
+        "the log has 2^62 bytes or more; nothing can be appended",
+    ),
+    (
+        LogError::Write,
+        "the replies could not be written; the log has their lines",
+    ),
+    (
+        LogError::Told,
+        "more replies were acknowledged than the log has",
+    ),
     (
         LogError::OtherSettings,
-        "the log begins with other settings",
+        "the log begins with other settings; it is unchanged",
     ),
-    (LogError::NoLog, "the file is no log"),
+    (LogError::NoLog, "the file isn't a log; it is unchanged"),
 ];
 
 #[test]

@@ -1,10 +1,10 @@
-//! How lines stand in the file, and that they come back.
+//! The escaped form of lines in the file, and how it is read back.
 use crate::comparing::same_at;
 use crate::log::batches::add;
 use inst_log::{first_line, line_of};
 use std::test::Fail;
 
-/// A line, and what the file has of it.
+/// A line, and its form in the file.
 const ROWS: &[(&[u8], &[u8])] = &[
     (b"{}", b"{}"),
     (b"{\"at\":0}", b"{\"at\":0}"),
@@ -20,7 +20,7 @@ const ROWS: &[(&[u8], &[u8])] = &[
     (b"{\x01}", b"{\x01{\x01}"),
 ];
 
-/// Whether the file has this text of the line alone, which comes back.
+/// Returns `true` if the line has this form in the file and is read back from it.
 fn comes_back(text: &[u8], line: &[u8], raw: &[u8]) -> bool {
     match text {
         [front @ .., newline] => {

@@ -1,4 +1,4 @@
-//! Which files open with some settings, and what is left of those that don't.
+//! Files that open with some settings, and the bytes that are left in those that don't.
 use crate::comparing::same_at;
 use crate::disks::filled;
 use crate::log::batches::one;
@@ -11,7 +11,7 @@ const SETTINGS: &[u8] = b"{\"s\":1}";
 
 #[derive(Clone, Copy)]
 enum Opening {
-    /// It opens, and has this text.
+    /// It opens, and has these lines.
     Text(&'static [u8]),
     OtherSettings,
     NoLog,
@@ -22,7 +22,7 @@ use Opening::{NoLog, OtherSettings, Text};
 const NEW: Opening = Text(b"{\"s\":1}\n");
 
 const ROWS: &[(&[u8], Opening)] = &[
-    // new files, and what a crash leaves of one
+    // new files, and what a crash may leave of one
     (b"", NEW),
     (b"\0", NEW),
     (b"{", NEW),
@@ -42,12 +42,12 @@ const ROWS: &[(&[u8], Opening)] = &[
         b"{\"s\":1}\n{\0}\n\0{\"b\":3}\n",
         Text(b"{\"s\":1}\n{\0}\n"),
     ),
-    // logs with others
+    // logs with other settings
     (b"{\"s\":2}\n\0", OtherSettings),
     (b"{\"s\":1} \n\0", OtherSettings),
     (b"{}\n", OtherSettings),
     (b"{\"a\":2}\n{\"s\":1}\n\0", OtherSettings),
-    // no logs
+    // not logs
     (b"hello\n", NoLog),
     (b"ab", NoLog),
     (b"{\"s\":1}", NoLog),
@@ -55,7 +55,7 @@ const ROWS: &[(&[u8], Opening)] = &[
     (b"\n{\"s\":1}\n\0", NoLog),
 ];
 
-/// Whether these lines are left, and behind them a byte with which no line begins.
+/// Returns `true` if these lines are left, followed by a byte that begins no line.
 fn are_left(left: &[u8], lines: &[u8]) -> bool {
     match left {
         [front @ .., closed] => front == lines && *closed != b'{',
@@ -63,7 +63,7 @@ fn are_left(left: &[u8], lines: &[u8]) -> bool {
     }
 }
 
-/// Whether the file opened with these lines, which are left.
+/// Returns `true` if the file opened with these lines and has them now.
 fn has_lines(opened: &Result<Vec<u8>, LogError>, left: &[u8], lines: &[u8]) -> bool {
     match opened {
         Ok(text) => text.as_slice() == lines && are_left(left, lines),
@@ -71,7 +71,7 @@ fn has_lines(opened: &Result<Vec<u8>, LogError>, left: &[u8], lines: &[u8]) -> b
     }
 }
 
-/// Whether a file with these bytes opened so; one that didn't is left as it is.
+/// Returns `true` if opening the file had this result. If it failed, the file must be unchanged.
 fn is_so(opened: &Result<Vec<u8>, LogError>, left: &[u8], bytes: &[u8], opening: Opening) -> bool {
     match opening {
         Text(lines) => has_lines(opened, left, lines),
@@ -80,7 +80,7 @@ fn is_so(opened: &Result<Vec<u8>, LogError>, left: &[u8], bytes: &[u8], opening:
     }
 }
 
-/// Whether a file with these bytes opens so.
+/// Opens a file with these bytes, and returns `true` if that had this result.
 fn opens(rt: &(impl Abort + AllocGlobal), bytes: &[u8], opening: Opening) -> Result<bool, Fail> {
     let settings = one(rt, SETTINGS)?;
     let disk = filled(Memory::new(rt.alloc()), bytes)?;

@@ -1,4 +1,4 @@
-//! What is read of files of which nothing is repaired.
+//! Reading of files without repairing them.
 use crate::comparing::{same, same_at};
 use crate::disks::filled;
 use inst_log::{Extent, LogError, lines_len, read_lines, survey};
@@ -7,7 +7,7 @@ use std::alloc::Global;
 use std::process::Abort;
 use std::test::Fail;
 
-/// Files, how many lines are asked for, and those that come.
+/// Files, the number of lines to read, and these lines.
 const ROWS: &[(&[u8], u64, &[u8])] = &[
     (b"{\"s\":1}\n\0", 1, b"{\"s\":1}\n"),
     (b"{\"s\":1}\n{\"a\":2}\n\0", 0, b""),
@@ -27,10 +27,10 @@ const ROWS: &[(&[u8], u64, &[u8])] = &[
     (b"hello\n{}\n", 1, b""),
 ];
 
-/// How long the lines are of a file that is read in several pieces.
+/// The length of the lines in a file that is read in several pieces.
 const LONG: usize = 40_000;
 
-/// Reads lines of a file with these bytes, which is left as it is.
+/// Reads lines of a file with these bytes, and checks that it is unchanged.
 fn lines_of(
     rt: &(impl Abort + AllocGlobal),
     bytes: &[u8],
@@ -42,7 +42,7 @@ fn lines_of(
     Ok(lines)
 }
 
-/// How far the lines of a file go with these bytes, which is left as it is.
+/// Surveys a file with these bytes, and checks that it is unchanged.
 fn extent_of(
     rt: &(impl Abort + AllocGlobal),
     bytes: &[u8],
@@ -53,7 +53,7 @@ fn extent_of(
     Ok(extent)
 }
 
-/// A file's lines go as far as those of its bytes.
+/// Checks that surveying a file gives the extent of its bytes.
 fn is_surveyed(rt: &(impl Abort + AllocGlobal), bytes: &[u8]) -> Result<(), Fail> {
     let found = extent_of(rt, bytes)??;
     let wanted = Extent::of(bytes);
@@ -75,7 +75,7 @@ fn files_are_read_and_left(rt: HostRuntime) -> Result<(), Fail> {
     Ok(())
 }
 
-/// So many long lines, each with its newline.
+/// Returns `count` long lines, each with its newline.
 fn long_lines(alloc: Global, count: usize) -> Result<Vec<u8>, Fail> {
     let mut text = Vec::new(alloc);
     for _ in 0..count {

@@ -1,5 +1,4 @@
-//! Two runs of one log, of which the first is cut off after each call of its disk: each line is
-//! answered once.
+//! Two runs of one log, where the first stops at each call to its disk: each line is answered once.
 ghost use Rattle.std.specs.Prelude.{◌≡◌, [], IfOk};
 ghost use Rattle.std.proofs.Common.{ap};
 ghost use Rattle.inst_log.specs.Layout.{blocks, IsBatch};
@@ -14,7 +13,7 @@ use std::alloc::{AllocError, Global};
 use std::process::Abort;
 use std::test::Fail;
 
-/// Answers each line with itself.
+/// A responder that answers each line with itself.
 #[derive(Drop)]
 struct Echo;
 
@@ -28,7 +27,7 @@ impl Responder for Echo {
     }
 }
 
-/// What both runs told, if so many batches of the first stand.
+/// The replies of both runs, by how many batches of the first are in the log.
 const TOLD: &[&[u8]] = &[
     b"{last}\n",
     b"{\"a\":1}\n{\"b\":2}\n{last}\n",
@@ -52,7 +51,7 @@ fn last_batch(rt: &(impl Abort + AllocGlobal)) -> Result<Vec<Vec<u8>>, Fail>
     Ok(vec![in rt.alloc(); last]?)
 }
 
-/// What the reader has of both runs, of which the first stops after so many calls.
+/// Returns the replies of both runs, if the first stops after `calls` calls.
 fn told(
     alloc: Global,
     calls: u64,
@@ -77,13 +76,13 @@ fn told(
     Ok(run_twice(alloc, machine, settings, first, again)?.told)
 }
 
-/// How many batches of the first run stand by what was told, if that is what it may be.
+/// Returns how many batches of the first run these replies show, if they are right.
 fn standing(told: &[u8]) -> Option<usize> {
     TOLD.iter().position(|front| *front == told)
 }
 
-/// Each line is told once, and the later the first run stops the more of its batches stand, up to
-/// all.
+/// Checks that each line is answered once, and that a later stop leaves no fewer batches, in the
+/// end all.
 fn say_each_line_once(
     rt: &(impl Abort + AllocGlobal),
     settings: &[u8],

@@ -1,4 +1,4 @@
-//! A machine that stops at each call of its disk in turn. What the last call wrote is torn at each
+//! A machine that stops at each call to its disk in turn. What the last call wrote is torn at each
 //! byte.
 ghost use Rattle.inst_log.specs.Disks.{IsJustOpened};
 ghost use Rattle.inst_log.specs.Layout.{IsBatch};
@@ -21,16 +21,16 @@ const SECOND: &[u8] = b"{\0}";
 
 const TEXT_OF_SETTINGS: &[u8] = b"{\"s\":1}\n";
 
-/// What both batches may have brought.
+/// The lines that prefixes of the two batches leave.
 const FRONTS: [&[u8]; 3] = [b"", b"{\"d\":5}\n{\x01\n", b"{\"d\":5}\n{\x01\n{\0}\n"];
 
 /// More calls than a run makes.
 const CALLS: u64 = 30;
 
-/// The calls that put the first bytes on the disk.
+/// The calls that write the first bytes to the disk.
 const FIRST_CALLS: u64 = 2;
 
-/// New files, and logs that are cut short, each with the lines that it has behind its settings.
+/// New files, and logs that are cut short, each with its lines after the settings.
 const STARTS: &[(&[u8], &[u8])] = &[
     (b"", b""),
     (b"{", b""),
@@ -39,7 +39,7 @@ const STARTS: &[(&[u8], &[u8])] = &[
     (b"{\"s\":1}\n\0\"a\":2}\n{\"b\":3}\n{\"c\":4}\n\0", b""),
 ];
 
-/// Opens a log and adds two batches, and says how much of that is acknowledged.
+/// Opens a log and appends two batches. Returns how many of the three were acknowledged.
 fn acknowledged<D: Disk>(
     alloc: Global,
     log: &mut Log<D>,
@@ -58,7 +58,7 @@ fn acknowledged<D: Disk>(
     appended(log, first, second)
 }
 
-/// Adds two batches to a log that is open, and says how much of it and of them is acknowledged.
+/// Appends two batches to an open log. Returns how many of the three were acknowledged.
 fn appended<D: Disk>(log: &mut Log<D>, first: &[u8], second: &[u8]) -> usize
     requires open { IsOpenLog D.Disk log.old }
     requires first { IsBatch first.now }
@@ -73,14 +73,15 @@ fn appended<D: Disk>(log: &mut Log<D>, first: &[u8], second: &[u8]) -> usize
     3
 }
 
-/// What a run leaves that stops after so many calls, and how much of it is acknowledged.
+/// What a run leaves that stops, and how many of the three were acknowledged.
 #[derive(Drop)]
 struct Stopped {
     bytes: Vec<u8>,
     added: usize,
 }
 
-/// How much is acknowledged of the settings and both batches.
+/// Opens the log with the settings and appends both batches. Returns how many of the three were
+/// acknowledged.
 fn added<D: Disk>(rt: &(impl Abort + AllocGlobal), log: &mut Log<D>) -> Result<usize, Fail>
     requires ready { IsJustOpened D.Disk log.old.disk }
 {
@@ -98,7 +99,7 @@ fn stop(rt: &(impl Abort + AllocGlobal), start: &[u8], calls: u64) -> Result<Sto
     Ok(Stopped { bytes, added })
 }
 
-/// The file after a call that was cut off behind so many of its bytes.
+/// Returns the file after a call of which only the first `len` bytes were written.
 pub(crate) fn torn(
     alloc: Global,
     before: &[u8],
@@ -111,7 +112,7 @@ pub(crate) fn torn(
     Ok(bytes)
 }
 
-/// The text of a log with these bytes.
+/// Returns the lines of a log with these bytes.
 fn text_of(rt: &(impl Abort + AllocGlobal), bytes: &[u8]) -> Result<Vec<u8>, Fail> {
     let alloc = rt.alloc();
     let settings = one(rt, SETTINGS)?;
@@ -120,8 +121,8 @@ fn text_of(rt: &(impl Abort + AllocGlobal), bytes: &[u8]) -> Result<Vec<u8>, Fai
     Ok(log.open(alloc, &settings)?)
 }
 
-/// Says whether the text is that of a log with the settings, the lines that it had at first, and
-/// then a front of the two batches, of which so many are acknowledged.
+/// Returns `true` if the text is the settings, the lines that the log had at first, and then a
+/// prefix of the two batches, with at least the acknowledged ones.
 fn is_front(text: &[u8], kept: &[u8], acknowledged: usize) -> bool {
     let batches = match text.strip_prefix(TEXT_OF_SETTINGS) {
         Some(lines) => lines.strip_prefix(kept),
@@ -136,7 +137,8 @@ fn is_front(text: &[u8], kept: &[u8], acknowledged: usize) -> bool {
     }
 }
 
-/// Whether a log opens to a front where the last call was cut off behind so many of its bytes.
+/// Returns `true` if the log opens to such a prefix, where only the first `len` bytes of the last
+/// call were written.
 fn leaves_a_front(
     rt: &(impl Abort + AllocGlobal),
     kept: &[u8],
@@ -149,7 +151,7 @@ fn leaves_a_front(
     Ok(is_front(&text, kept, before.added.saturating_sub(1)))
 }
 
-/// Tries each byte at which the last call may be cut off.
+/// Tries each byte at which the last call may be torn.
 fn tears(
     rt: &(impl Abort + AllocGlobal),
     kept: &[u8],
@@ -162,7 +164,7 @@ fn tears(
     Ok(())
 }
 
-/// Stops at each call of a run that starts so, until all is acknowledged.
+/// Stops a run from these bytes at each call, until everything is acknowledged.
 fn stop_at_each_call(
     rt: &(impl Abort + AllocGlobal),
     start: &[u8],

@@ -1,4 +1,4 @@
-//! Books that were changed in a log of version 1, which has no marks.
+//! Books in a log of version 1, which has no marks, that were changed.
 use crate::comparing::{same, same_at};
 use crate::disks::filled;
 use crate::logged::keeping::text_of;
@@ -12,7 +12,7 @@ use std::alloc::Global;
 use std::process::Abort;
 use std::test::Fail;
 
-/// The line of the settings before four lines of books.
+/// The line of the settings, before four lines of books.
 const SETTINGS: &[u8] =
     br#"{"ahead":1000,"base":0,"books":4,"ceiling":99999999999,"fundings":4,"limit":10000,"log":"run","margin":0,"participants":["AAAADEFF","BBBBFRPP","CCCCITMM"],"places":2,"version":1}"#;
 
@@ -35,60 +35,60 @@ const WRONG: &[[&[u8]; 4]] = &[
         CAME,
         FETCHED,
     ],
-    // a transfer before the money
+    // a transfer before its funding
     [TAKEN, FUNDED, CAME, FETCHED],
     // a reference twice
     [FUNDED, FUNDED, CAME, FETCHED],
-    // what came is another amount
+    // forwarded with another amount
     [
         FUNDED,
         TAKEN,
         br#"{"book":"BBBBFRPP","cents":21,"deadline":11000,"event":"forwarded","from":"AAAADEFF","id":"T1"}"#,
         FETCHED,
     ],
-    // it came with another deadline
+    // forwarded with another deadline
     [
         FUNDED,
         TAKEN,
         br#"{"book":"BBBBFRPP","cents":20,"deadline":11001,"event":"forwarded","from":"AAAADEFF","id":"T1"}"#,
         FETCHED,
     ],
-    // it came to another one
+    // forwarded to another participant
     [
         FUNDED,
         TAKEN,
         br#"{"book":"CCCCITMM","cents":20,"deadline":11000,"event":"forwarded","from":"AAAADEFF","id":"T1"}"#,
         br#"{"book":"CCCCITMM","count":1,"event":"fetched"}"#,
     ],
-    // it never came, and is pending
+    // never forwarded, and pending
     [
         FUNDED,
         TAKEN,
         br#"{"book":"CCCCITMM","cents":1,"event":"funded","ref":"F1"}"#,
         br#"{"book":"CCCCITMM","cents":1,"event":"funded","ref":"F2"}"#,
     ],
-    // more is handed out than came
+    // more is fetched than was forwarded
     [
         FUNDED,
         TAKEN,
         CAME,
         br#"{"book":"BBBBFRPP","count":2,"event":"fetched"}"#,
     ],
-    // one side has booked it alone
+    // only one side booked it
     [
         FUNDED,
         TAKEN,
         CAME,
         br#"{"book":"BBBBFRPP","event":"booked","from":"AAAADEFF","id":"T1","outcome":"accepted"}"#,
     ],
-    // no event at all
+    // not an event
     [
         FUNDED,
         TAKEN,
         CAME,
         br#"{"book":"BBBBFRPP","event":"forgotten"}"#,
     ],
-    // a participant that there isn't
+    // an unknown participant
     [
         FUNDED,
         TAKEN,
@@ -97,7 +97,7 @@ const WRONG: &[[&[u8]; 4]] = &[
     ],
 ];
 
-/// A log with these lines of books.
+/// Returns a log with these lines of books.
 fn log_with(alloc: Global, books: &[&[u8]]) -> Result<Vec<u8>, Fail> {
     let books = text_of(alloc, books)?;
     let mut log = text_of(alloc, &[SETTINGS])?;
@@ -106,7 +106,7 @@ fn log_with(alloc: Global, books: &[&[u8]]) -> Result<Vec<u8>, Fail> {
     Ok(log)
 }
 
-/// How a hub opens on a log with these lines of books.
+/// Opens a hub on a log with these lines of books.
 fn open(
     alloc: Global,
     settings: &Settings,

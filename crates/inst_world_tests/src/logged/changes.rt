@@ -1,4 +1,4 @@
-//! Another program changes the file of a log under a hub that runs on it.
+//! Another program changes a log's file while a hub uses it.
 use crate::comparing::same_at;
 use crate::disks::filled;
 use crate::logged::changing::{Change, Changing};
@@ -11,10 +11,10 @@ use std::alloc::Global;
 use std::process::Abort;
 use std::test::Fail;
 
-/// How many bytes a read gives at most: few, so that the lines come in several batches.
+/// The most bytes of a read: few, so that the lines come in several batches.
 const MOST: usize = 100;
 
-/// Runs a hub on an empty disk whose file is changed after so many calls that ask for its size.
+/// Runs a hub on an empty disk whose file changes after `left` calls of `len`.
 fn serve_changed(
     alloc: Global,
     case: &Case,
@@ -46,7 +46,7 @@ fn serve_changed(
     )
 }
 
-/// How many calls of a run ask for the size of its file.
+/// Counts the calls of `len` in a run.
 fn count_sizes(alloc: Global, case: &Case) -> Result<u64, Fail> {
     let mut written = Vec::new(alloc);
     let ended = serve_changed(alloc, case, Change::Added, u64::MAX, &mut written)?;
@@ -54,8 +54,8 @@ fn count_sizes(alloc: Global, case: &Case) -> Result<u64, Fail> {
     Ok(u64::MAX - ended.disk.left)
 }
 
-/// The file is changed after so many calls that ask for its size, when so many bytes of the input
-/// are answered: the run ends, and writes nothing more.
+/// Changes the file after `left` calls of `len`, when `len` bytes of the input are answered. The
+/// run must end with `Changed` and write nothing more.
 fn change_behind(
     rt: &(impl Abort + AllocGlobal),
     case: &Case,
@@ -73,8 +73,8 @@ fn change_behind(
     Ok(())
 }
 
-/// Each read is followed by two calls that ask for the size: before the batch is written, and after
-/// it.
+/// Changes the file after each read. A read is followed by two calls of `len`: before the batch is
+/// written, and after it.
 fn change_behind_each_read(
     rt: &(impl Abort + AllocGlobal),
     mode: Mode,
@@ -91,7 +91,7 @@ fn change_behind_each_read(
     Ok(())
 }
 
-/// The file is cut while the replies to a batch are written.
+/// Cuts the file while the replies to each batch are written.
 fn cut_under_replies(rt: &(impl Abort + AllocGlobal), mode: Mode) -> Result<(), Fail> {
     let case = case_of(rt.alloc(), mode)?;
     let sizes = count_sizes(rt.alloc(), &case)?;

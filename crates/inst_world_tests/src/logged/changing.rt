@@ -5,24 +5,24 @@ ghost use Rattle.inst_world_tests.specs.Changing.{second_of};
 use sqlite_disk::{Disk, Tally};
 use std::io;
 
-/// What another program does to a file.
+/// How another program changes a file.
 #[derive(Clone, Copy, Debug, PartialEq, Eq)]
 pub(crate) enum Change {
-    /// It cuts the last byte off.
+    /// It cuts off the last byte.
     Cut,
-    /// It adds a byte.
+    /// It appends a byte.
     Added,
 }
 
-/// A disk whose file has another size from one call of `len` on.
+/// A disk whose file has another size from some call of `len` on.
 #[derive(Drop)]
 pub(crate) struct Changing<D: Disk> {
     pub(crate) inner: D,
     pub(crate) change: Change,
-    /// How many calls of `len` come before the change.
+    /// The number of calls of `len` before the change.
     pub(crate) left: u64,
     pub(crate) is_changed: bool,
-    /// How many calls wrote to the file after the change.
+    /// The number of calls that wrote to the file after the change.
     pub(crate) writes: u64,
 }
 
@@ -38,7 +38,7 @@ impl<D: Disk> Changing<D> {
     }
 }
 
-/// The size of a changed file that had so many bytes.
+/// Returns the size of a changed file that had `len` bytes.
 fn size_after(change: Change, len: usize) -> usize {
     match change {
         Change::Cut => len.saturating_sub(1),

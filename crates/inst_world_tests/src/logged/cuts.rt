@@ -1,4 +1,4 @@
-//! Lines that are cut into two runs of one log.
+//! Lines that are divided between two runs of one log.
 use crate::comparing::same_at;
 use crate::logged::keeping::{Case, LINES, case_of, front_len, go_on};
 use inst_lines::Mode;
@@ -6,7 +6,7 @@ use std::alloc::Global;
 use std::process::Abort;
 use std::test::Fail;
 
-/// What two runs write, of which the first gets so many of the lines and the second the others.
+/// Returns what two runs write: the first gets `count` lines, the second the others.
 fn in_two_runs(alloc: Global, case: &Case, count: usize) -> Result<Vec<u8>, Fail> {
     let (mode, settings) = (case.mode, &case.settings);
     let len = front_len(&case.input, count);
@@ -17,14 +17,14 @@ fn in_two_runs(alloc: Global, case: &Case, count: usize) -> Result<Vec<u8>, Fail
     Ok(written)
 }
 
-/// Compares that with what one run writes that keeps nothing.
+/// Compares this with what one run without a log writes.
 fn cut_after(rt: &(impl Abort + AllocGlobal), case: &Case, count: usize) -> Result<(), Fail> {
     let written = in_two_runs(rt.alloc(), case, count)?;
     same_at(rt, count, written.as_slice(), case.replies.as_slice());
     Ok(())
 }
 
-/// Cuts after each line, and before the first one.
+/// Divides the lines before the first one and after each.
 fn cut_after_each(rt: &(impl Abort + AllocGlobal), mode: Mode) -> Result<(), Fail> {
     let case = case_of(rt.alloc(), mode)?;
     for count in 0..=LINES.len() {

@@ -1,5 +1,5 @@
-//! Logs of which a byte or a line was changed: a run and a close refuse them, and they are left as
-//! they are.
+//! Logs in which a byte or a line was changed: a run and a close refuse them and leave them
+//! unchanged.
 ghost use Rattle.std.specs.Prelude.{◌<◌, length};
 ghost use Rattle.inst_logged.specs.Running.{IsReadyHub};
 
@@ -18,16 +18,16 @@ use std::alloc::{AllocError, Global};
 use std::process::Abort;
 use std::test::Fail;
 
-/// How a run or a close ended.
+/// The result of a run or a close.
 #[derive(Drop)]
 pub(crate) struct Ended {
     pub(crate) outcome: Result<(), LoggedError>,
-    /// What the log has then.
+    /// The log's bytes afterwards.
     pub(crate) log: Vec<u8>,
     pub(crate) written: Vec<u8>,
 }
 
-/// Runs this hub without input for a reader that has no reply.
+/// Runs this hub without input, for a client that has no reply.
 fn run_hub<D: Disk + Drop>(
     hub: &mut LoggedHub<D>,
     wanted: Option<Digest>,
@@ -50,7 +50,7 @@ fn close_hub<D: Disk + Drop>(
     Ok(())
 }
 
-/// What is done with a log.
+/// What a test does with a log.
 #[derive(Clone, Copy, Debug, PartialEq, Eq)]
 pub(crate) enum Use {
     Run,
@@ -59,7 +59,7 @@ pub(crate) enum Use {
 
 pub(crate) const USES: [Use; 2] = [Use::Run, Use::Close];
 
-/// Runs or closes the hub of a log that has these bytes.
+/// Runs or closes the hub of a log with these bytes.
 pub(crate) fn use_log(
     alloc: Global,
     settings: &Settings,
@@ -91,8 +91,8 @@ pub(crate) fn use_log(
     })
 }
 
-/// Where the log is damaged: behind this prefix; `None` if the run ended otherwise. A file of which
-/// no line is left is no log.
+/// Returns the prefix after which the log is damaged, or `None` if the run ended otherwise. A file
+/// without any line left is not a log.
 fn damage(outcome: &Result<(), LoggedError>) -> Option<Prefix> {
     match outcome {
         Err(LoggedError::Damaged(right)) => Some(*right),
@@ -101,8 +101,8 @@ fn damage(outcome: &Result<(), LoggedError>) -> Option<Prefix> {
     }
 }
 
-/// The log with these bytes is called damaged by a run and by a close, and is left as it is.
-/// Returns behind which prefix the run called it so.
+/// Checks that a run and a close find the log damaged and leave it unchanged. Returns the prefix
+/// before the damage.
 fn is_damaged(
     rt: &(impl Abort + AllocGlobal),
     settings: &Settings,
@@ -120,7 +120,7 @@ fn is_damaged(
     Ok(found)
 }
 
-/// These bytes with one bit flipped.
+/// Returns these bytes with one bit flipped.
 fn flipped(alloc: Global, log: &[u8], at: usize, bit: u8) -> Result<Vec<u8>, AllocError>
     requires { at < length log.now }
 {
@@ -129,12 +129,12 @@ fn flipped(alloc: Global, log: &[u8], at: usize, bit: u8) -> Result<Vec<u8>, All
     Ok(bytes)
 }
 
-/// The lowest bit of a byte, or another one.
+/// Returns the lowest bit of a byte, or another one.
 fn bit_at(at: usize) -> u8 {
     if at % 2 == 0 { 0x01 } else { 0x40 }
 }
 
-/// Flips a bit of each byte of a log, or of one in so many.
+/// Flips a bit of each byte of a log, or of every `step`th.
 fn flip_each(
     rt: &(impl Abort + AllocGlobal),
     settings: &Settings,
@@ -150,7 +150,7 @@ fn flip_each(
     Ok(())
 }
 
-/// A log that begins with books, and has lines behind them.
+/// Returns a log that begins with books, followed by lines.
 fn log_with_books(alloc: Global, settings: &Settings) -> Result<Vec<u8>, Fail> {
     let log = log_of(alloc, NEXT)?;
     let input = text_of(alloc, SECOND)?;
@@ -225,14 +225,14 @@ fn damage_is_told_with_the_lines_before_it(rt: HostRuntime) -> Result<(), Fail> 
     Ok(())
 }
 
-/// The lines of a log, each without its newline.
+/// Splits a log into lines without their newlines.
 fn lines_in<'a>(alloc: Global, log: &'a [u8]) -> Result<Vec<&'a [u8]>, AllocError> {
     log.split(|&byte| byte == b'\n')
         .take(count_lines(log))
         .collect(alloc)
 }
 
-/// Adds a line with its newline.
+/// Appends a line with its newline.
 fn push(log: &mut Vec<u8>, line: &[u8]) -> Result<(), AllocError> {
     log.extend_from_slice(line)?;
     log.push(b'\n')?;
@@ -244,13 +244,13 @@ fn push(log: &mut Vec<u8>, line: &[u8]) -> Result<(), AllocError> {
 enum Change {
     Dropped,
     Doubled,
-    /// It comes behind the next one.
+    /// It comes after the next one.
     Swapped,
 }
 
 const CHANGES: [Change; 3] = [Change::Dropped, Change::Doubled, Change::Swapped];
 
-/// A log of these lines, of which one is changed.
+/// Returns a log of these lines, with one of them changed.
 fn changed(
     alloc: Global,
     lines: &[&[u8]],
@@ -280,7 +280,7 @@ fn changed(
     Ok(log)
 }
 
-/// How often a line stands in the log, which is changed so or isn't.
+/// Returns how often the log has the line after this change.
 fn copies(is_changed: bool, change: Change) -> usize {
     match change {
         Change::Dropped if is_changed => 0,
@@ -289,7 +289,7 @@ fn copies(is_changed: bool, change: Change) -> usize {
     }
 }
 
-/// Tries each change of each line. The last line has none behind it with which it could be swapped.
+/// Tries each change of each line. The last line has none after it to be exchanged with.
 fn change_each(
     rt: &(impl Abort + AllocGlobal),
     settings: &Settings,
@@ -315,7 +315,7 @@ fn no_changed_line_is_taken(rt: HostRuntime) -> Result<(), Fail> {
     change_each(&rt, &settings, &log)
 }
 
-/// The log of the same settings whose second batch is another line.
+/// Returns the log of the same settings whose second batch is another line.
 fn other_log(alloc: Global, settings: &Settings) -> Result<Vec<u8>, Fail> {
     let first =
         b"{\"at\":0,\"cents\":50001,\"cmd\":\"fund\",\"ref\":\"F1\",\"who\":\"AAAADEFF\"}\n";
@@ -332,7 +332,7 @@ fn other_log(alloc: Global, settings: &Settings) -> Result<Vec<u8>, Fail> {
     )
 }
 
-/// The first lines of a log, so many, and the last batch of another.
+/// Returns the first `count` lines of a log, followed by the last batch of another.
 fn spliced(alloc: Global, log: &[u8], count: usize, other: &[u8]) -> Result<Vec<u8>, AllocError> {
     let mut bytes = log[..front_len(log, count)].to_vec(alloc)?;
     bytes.extend_from_slice(&other[front_len(other, 4)..])?;
@@ -352,7 +352,7 @@ fn no_spliced_log_is_taken(rt: HostRuntime) -> Result<(), Fail> {
 
 #[test]
 fn the_same_books_come_from_the_same_bytes(rt: HostRuntime) -> Result<(), Fail> {
-    // Nothing behind the closed byte is read.
+    // Nothing after the closed byte is read.
     let settings = vector::settings(rt.alloc())?;
     let mut log = vector::LOG.to_vec(rt.alloc())?;
     log.extend_from_slice(b"{\"at\":0}\n{\x01{0\n\0 and more")?;

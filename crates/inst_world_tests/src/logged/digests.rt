@@ -15,8 +15,8 @@ const ITS: [&str; 3] = [
     "0d5f61eaf5985576c2048c2d2a77b598caf566be348f75845506476b8970d7f0",
 ];
 
-/// The digest of no text, and two that a digest of the log is not: in capital letters, and with
-/// another last digit.
+/// The digest of the empty text, and two texts that aren't a digest of the log: one in capital
+/// letters, one with another last digit.
 const OTHERS: [&str; 3] = [
     "e3b0c44298fc1c149afbf4c8996fb92427ae41e4649b934ca495991b7852b855",
     "0D5F61EAF5985576C2048C2D2A77B598CAF566BE348F75845506476B8970D7F0",
@@ -26,13 +26,14 @@ const OTHERS: [&str; 3] = [
 /// The first digest without its first character.
 const SHORT: &str = "2639397cdb3038a8a14df57915fa340b0190580d3e5c1b81e7714aff3b2c0b9";
 
-/// A log of the same settings of version 1, without a line.
+/// A log of version 1 with the same settings and no line.
 const UNMARKED: &[u8] =
     b"{\"ahead\":1000,\"base\":0,\"ceiling\":99999999999,\"fundings\":256,\"limit\":10000,\
     \"log\":\"run\",\"margin\":0,\"participants\":[\"AAAADEFF\",\"BBBBFRPP\",\"CCCCITMM\"],\
     \"places\":256,\"version\":1}\n\0";
 
-/// How the log with these bytes is used, if it must have this digest. It is left as it is.
+/// Runs or closes the log with these bytes, which must have this digest, and checks that it is
+/// unchanged.
 fn outcome(
     rt: &(impl Abort + AllocGlobal),
     settings: &Settings,
@@ -54,7 +55,7 @@ fn outcome(
     Ok(ended.outcome)
 }
 
-/// The log with these bytes has these digests, and not those.
+/// Checks that the log has the digests `its` and none of `others`.
 fn has(
     rt: &(impl Abort + AllocGlobal),
     settings: &Settings,

@@ -1,17 +1,20 @@
-//! What the errors of a hub with a log tell.
+//! The texts of the errors of a hub with a log.
 use crate::comparing::tells;
 use inst_chain::{ChainError, Prefix};
 use inst_log::LogError;
 use inst_logged::LoggedError;
 use std::test::Fail;
 
-/// Errors, and what each tells: one of the log tells what the log's does.
+/// Errors and their texts. An error of the log has the log's text.
 const ROWS: &[(LoggedError, &str)] = &[
-    (LoggedError::Log(LogError::NoLog), "the file is no log"),
-    (LoggedError::Read, "a read of the lines failed"),
+    (
+        LoggedError::Log(LogError::NoLog),
+        "the file isn't a log; it is unchanged",
+    ),
+    (LoggedError::Read, "reading the input failed"),
     (
         LoggedError::Books,
-        "the books behind the log's settings are none that a hub can open from",
+        "a hub can't open from the books after the log's settings",
     ),
     (
         LoggedError::Damaged(Prefix {
@@ -20,7 +23,10 @@ const ROWS: &[(LoggedError, &str)] = &[
         }),
         "the log is damaged after line 5, byte 470",
     ),
-    (LoggedError::OtherDigest, "the log doesn't have the digest"),
+    (
+        LoggedError::OtherDigest,
+        "the log doesn't contain the digest that was asked for",
+    ),
     (
         LoggedError::Changed,
         "the log was changed by another program",
@@ -37,7 +43,11 @@ fn an_error_tells_what_went_wrong(rt: HostRuntime) -> Result<(), Fail> {
 
 #[test]
 fn an_error_of_a_chain_tells_the_same(rt: HostRuntime) -> Result<(), Fail> {
-    tells(&rt, &ChainError::Log(LogError::NoLog), "the file is no log")?;
+    tells(
+        &rt,
+        &ChainError::Log(LogError::NoLog),
+        "the file isn't a log; it is unchanged",
+    )?;
     let right = Prefix {
         lines: 5,
         bytes: 470,

@@ -1,5 +1,4 @@
-//! A reader that fails behind each byte, and another run that goes on behind the lines that it
-//! gave.
+//! A reader that fails after each byte, and another run that resumes after the lines read so far.
 use crate::comparing::same_at;
 use crate::logged::keeping::{Case, case_of, front_len, go_on, newlines, serve};
 use inst_fixtures::Pieces;
@@ -10,8 +9,8 @@ use std::alloc::Global;
 use std::process::Abort;
 use std::test::Fail;
 
-/// Runs a hub whose reader fails behind so many bytes, after the replies to the lines before are
-/// written, and gives its disk.
+/// Runs a hub whose reader fails after these bytes, checks the replies to their whole lines, and
+/// returns the disk.
 fn fail(
     rt: &(impl Abort + AllocGlobal),
     case: &Case,
@@ -32,7 +31,7 @@ fn fail(
     Ok(ended.disk)
 }
 
-/// Goes on from this log behind the lines that it has.
+/// Resumes after the lines of this log.
 fn go_on_behind(
     alloc: Global,
     case: &Case,
@@ -46,7 +45,7 @@ fn go_on_behind(
     Ok(())
 }
 
-/// Fails behind these bytes, and goes on.
+/// Fails after these bytes, and resumes.
 fn fail_behind(rt: &(impl Abort + AllocGlobal), case: &Case, bytes: &[u8]) -> Result<(), Fail> {
     let mut written = Vec::new(rt.alloc());
     let disk = fail(rt, case, bytes, &mut written)?;
@@ -61,7 +60,7 @@ fn fail_behind(rt: &(impl Abort + AllocGlobal), case: &Case, bytes: &[u8]) -> Re
     Ok(())
 }
 
-/// Fails behind each byte, and before the first one.
+/// Fails before the first byte and after each byte.
 fn fail_behind_each(rt: &(impl Abort + AllocGlobal), mode: Mode) -> Result<(), Fail> {
     let case = case_of(rt.alloc(), mode)?;
     for len in 0..=case.input.len() {

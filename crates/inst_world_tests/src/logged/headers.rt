@@ -1,4 +1,4 @@
-//! With which bytes a log begins. Each digest is what `sha256sum` prints for the line before it.
+//! The first lines of a log. Each digest is what `sha256sum` prints for the line before it.
 use crate::comparing::same;
 use inst_fixtures::{settings, settings_with};
 use inst_lines::Mode;

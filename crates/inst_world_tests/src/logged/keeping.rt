@@ -1,4 +1,4 @@
-//! Hubs with logs on disks in memory, and what they write.
+//! Hubs with logs on disks in memory, and their replies.
 ghost use Rattle.std.specs.Prelude.{◌≤◌, length, IfSome, IsTrue};
 ghost use Rattle.sqlite_disk.specs.Disk.{Only};
 
@@ -14,8 +14,8 @@ use std::alloc::Global;
 use std::io::Read;
 use std::test::Fail;
 
-/// Lines of each kind: what is taken, what is refused, what doesn't begin with a brace, and what is
-/// nothing at all.
+/// Lines of each kind: accepted and refused commands, lines that don't begin with a brace, and an
+/// empty line.
 pub(crate) const LINES: &[&[u8]] = &[
     br#"{"at":0,"cents":50000,"cmd":"fund","ref":"F1","who":"AAAADEFF"}"#,
     br#"{"at":1000,"cents":20000,"cmd":"submit","id":"T1","stamp":1000,"to":"BBBBFRPP","who":"AAAADEFF"}"#,
@@ -29,7 +29,7 @@ pub(crate) const LINES: &[&[u8]] = &[
     br#"{"at":2100,"cmd":"position","who":"BBBBFRPP"}"#,
 ];
 
-/// These lines, each with its newline.
+/// Joins these lines, each with its newline.
 pub(crate) fn text_of(alloc: Global, lines: &[&[u8]]) -> Result<Vec<u8>, Fail> {
     let mut text = Vec::new(alloc);
     for line in lines {
@@ -39,7 +39,7 @@ pub(crate) fn text_of(alloc: Global, lines: &[&[u8]]) -> Result<Vec<u8>, Fail> {
     Ok(text)
 }
 
-/// How long the first line of a text is, with its newline, if it has one.
+/// Returns the length of the first line of a text with its newline, if it has one.
 fn line_len(text: &[u8]) -> Option<usize>
     ensures { IfSome result (λ len. len ≤ length text.now) }
 {
@@ -49,7 +49,7 @@ fn line_len(text: &[u8]) -> Option<usize>
     }
 }
 
-/// How many bytes the first lines of a text have, so many or all, with their newlines.
+/// Returns the length in bytes of the first `count` lines of a text with their newlines, or of all.
 pub(crate) fn front_len(text: &[u8], count: usize) -> usize
     ensures { result ≤ length text.now }
 {
@@ -63,12 +63,12 @@ pub(crate) fn front_len(text: &[u8], count: usize) -> usize
     text.len().saturating_sub(rest.len())
 }
 
-/// How many newlines a text has.
+/// Returns the number of newlines of a text.
 pub(crate) fn newlines(text: &[u8]) -> usize {
     text.iter().filter(|byte| **byte == b'\n').count()
 }
 
-/// A hub, what a reader gives it, and what is written to that by a hub that keeps nothing.
+/// A hub, its input, and the replies of a hub without a log.
 #[derive(Drop)]
 pub(crate) struct Case {
     pub(crate) mode: Mode,
@@ -77,7 +77,7 @@ pub(crate) struct Case {
     pub(crate) replies: Vec<u8>,
 }
 
-/// The case of a hub that gets this input.
+/// Returns the case of this input.
 pub(crate) fn case_with(alloc: Global, mode: Mode, input: Vec<u8>) -> Result<Case, Fail> {
     let settings = settings(alloc)?;
     let replies = written(alloc, mode, &settings, &input)?;
@@ -89,12 +89,12 @@ pub(crate) fn case_with(alloc: Global, mode: Mode, input: Vec<u8>) -> Result<Cas
     })
 }
 
-/// The case of a hub that gets all lines.
+/// Returns the case of all lines.
 pub(crate) fn case_of(alloc: Global, mode: Mode) -> Result<Case, Fail> {
     case_with(alloc, mode, text_of(alloc, LINES)?)
 }
 
-/// How a run ended, and its disk.
+/// The result of a run, and its disk.
 #[derive(Drop)]
 pub(crate) struct Ended<D: Disk> {
     pub(crate) outcome: Result<(), LoggedError>,
@@ -136,7 +136,7 @@ pub(crate) fn serve<R: Read>(
     serve_on(alloc, mode, settings, disk, told, reader, written)
 }
 
-/// Runs a new hub to the end of this input, and gives the bytes of its log.
+/// Runs a new hub to the end of this input, and returns the bytes of its log.
 pub(crate) fn go_on(
     alloc: Global,
     mode: Mode,

@@ -8,8 +8,7 @@ use std::alloc::Global;
 use std::process::Abort;
 use std::test::Fail;
 
-/// Lines, each with the length to which it is filled up with spaces. The read buffer has room for
-/// 65,536 bytes.
+/// Lines, each with the length to which it is filled with spaces. The read buffer has 65,536 bytes.
 const ROWS: &[(&[u8], usize)] = &[
     (
         br#"{"at":0,"cents":1,"cmd":"fund","ref":"F1","who":"AAAADEFF"}"#,
@@ -34,10 +33,10 @@ const ROWS: &[(&[u8], usize)] = &[
     (br#"{"at":0,"cmd":"position","who":"AAAADEFF"}"#, 100),
 ];
 
-/// How many bytes a read gives at most.
+/// The most bytes of a read.
 const SIZES: [usize; 3] = [100, 4_097, 1_000_000];
 
-/// The lines, each with a newline but for the last one.
+/// Returns the lines, each with a newline except the last one.
 fn text(alloc: Global) -> Result<Vec<u8>, Fail> {
     let mut text = Vec::new(alloc);
     for (line, len) in ROWS {
@@ -51,7 +50,7 @@ fn text(alloc: Global) -> Result<Vec<u8>, Fail> {
     Ok(text)
 }
 
-/// Compares what is written to the lines with the plain replies, and gives their log.
+/// Compares the replies with those of a run without a log, and returns the log.
 fn answer(rt: &(impl Abort + AllocGlobal), case: &Case, most: usize) -> Result<Memory, Fail> {
     let (mode, settings) = (case.mode, &case.settings);
     let mut reader = Pieces {
@@ -74,7 +73,7 @@ fn answer(rt: &(impl Abort + AllocGlobal), case: &Case, most: usize) -> Result<M
     Ok(ended.disk)
 }
 
-/// Compares what is written to a log alone with the plain replies.
+/// Compares the replies to a log's lines with those of a run without a log.
 fn answer_again(
     rt: &(impl Abort + AllocGlobal),
     case: &Case,
@@ -88,7 +87,7 @@ fn answer_again(
     Ok(())
 }
 
-/// Reads the lines by so many bytes, and then their log.
+/// Reads the lines with reads of at most `most` bytes, and then their log.
 fn answer_in_pieces(rt: &(impl Abort + AllocGlobal), case: &Case, most: usize) -> Result<(), Fail> {
     let disk = answer(rt, case, most)?;
     answer_again(rt, case, disk.bytes(), most)

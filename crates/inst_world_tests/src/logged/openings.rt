@@ -1,4 +1,4 @@
-//! Logs that begin with the books of others.
+//! Logs that begin with the books of another log.
 ghost use Rattle.inst_world.specs.NextOpening.{CanOpenFrom};
 ghost use Rattle.inst_logged.specs.Running.{IsReadyHub};
 
@@ -28,7 +28,7 @@ const FIRST: &[&[u8]] = &[
     br#"{"at":2001,"cmd":"reject","from":"CCCCITMM","id":"T1","reason":"AC04","who":"AAAADEFF"}"#,
 ];
 
-/// The log that begins with its books.
+/// The log that begins with the first opening's books.
 pub(crate) const NEXT: &[&[u8]] = &[
     br#"{"ahead":1000,"base":0,"books":14,"ceiling":99999999999,"fundings":4,"limit":10000,"log":"run","margin":0,"participants":["AAAADEFF","BBBBFRPP","CCCCITMM"],"places":2,"version":2}"#,
     br#"{"book":"AAAADEFF","cents":50000,"event":"funded","ref":"F1"}"#,
@@ -49,7 +49,7 @@ pub(crate) const NEXT: &[&[u8]] = &[
     b"{\x01{f5c7fdcdf327791172b42b316b071187adc6d3dbe9c92a90e3d84f5b860adbf6",
 ];
 
-/// Lines of a next opening: of what was decided, of what is pending, and new ones.
+/// Lines of the next opening, about decided, pending and new transfers.
 pub(crate) const SECOND: &[&[u8]] = &[
     br#"{"at":2100,"cmd":"position","who":"AAAADEFF"}"#,
     br#"{"at":2100,"cents":20000,"cmd":"submit","id":"T1","stamp":1000,"to":"BBBBFRPP","who":"AAAADEFF"}"#,
@@ -61,7 +61,7 @@ pub(crate) const SECOND: &[&[u8]] = &[
     br#"{"at":2300,"cmd":"position","who":"BBBBFRPP"}"#,
 ];
 
-/// Its replies.
+/// The replies of the next opening.
 const REPLIES: &[&[u8]] = &[
     br#"{"available":29700,"position":30000,"reply":"position","reserved":300}"#,
     br#"{"deadline":11000,"id":"T1","reply":"taken"}"#,
@@ -73,14 +73,14 @@ const REPLIES: &[&[u8]] = &[
     br#"{"available":20300,"position":20300,"reply":"position","reserved":0}"#,
 ];
 
-/// A log of these lines.
+/// Returns a log of these lines.
 pub(crate) fn log_of(alloc: Global, lines: &[&[u8]]) -> Result<Vec<u8>, Fail> {
     let mut log = text_of(alloc, lines)?;
     log.push(0)?;
     Ok(log)
 }
 
-/// Runs this hub, and gives its disk.
+/// Runs this hub, and returns its disk.
 fn run_through<D: Disk + Drop>(
     mut hub: LoggedHub<D>,
     input: &[u8],
@@ -95,7 +95,7 @@ fn run_through<D: Disk + Drop>(
     Ok(disk)
 }
 
-/// Runs the hub of a log that has these bytes, and gives what the log has then.
+/// Runs the hub of a log with these bytes, and returns the log's bytes afterwards.
 pub(crate) fn run_on(
     alloc: Global,
     settings: &Settings,
@@ -109,7 +109,7 @@ pub(crate) fn run_on(
     Ok(disk.bytes().to_vec(alloc)?)
 }
 
-/// The log that begins with these books.
+/// Returns the log that begins with these books.
 pub(crate) fn begun_from(
     alloc: Global,
     settings: &Settings,
@@ -123,7 +123,7 @@ pub(crate) fn begun_from(
     Ok(disk.bytes().to_vec(alloc)?)
 }
 
-/// The log that begins with the books that this hub leaves.
+/// Returns the log that begins with the books of this hub.
 fn next_of<D: Disk + Drop>(alloc: Global, hub: &mut LoggedHub<D>) -> Result<Option<Vec<u8>>, Fail>
     requires ready { IsReadyHub D.Disk hub.old }
 {
@@ -133,7 +133,7 @@ fn next_of<D: Disk + Drop>(alloc: Global, hub: &mut LoggedHub<D>) -> Result<Opti
     }
 }
 
-/// The log that begins with the books of this one.
+/// Returns the log that begins with this log's books.
 pub(crate) fn next(
     alloc: Global,
     settings: &Settings,
@@ -144,13 +144,13 @@ pub(crate) fn next(
     next_of(alloc, &mut hub.with_disk(alloc, disk))
 }
 
-/// The log that the lines of the first opening leave.
+/// Returns the log of the first opening.
 fn first(alloc: Global, settings: &Settings) -> Result<Vec<u8>, Fail> {
     let input = text_of(alloc, FIRST)?;
     run_on(alloc, settings, b"", &input, &mut Vec::new(alloc))
 }
 
-/// The log that begins with the books of that one.
+/// Returns the log that begins with the books of the first opening.
 fn next_of_first(alloc: Global, settings: &Settings) -> Result<Option<Vec<u8>>, Fail> {
     let log = first(alloc, settings)?;
     next(alloc, settings, &log)
@@ -165,7 +165,7 @@ fn a_log_begins_with_the_books_of_another(rt: HostRuntime) -> Result<(), Fail> {
     Ok(())
 }
 
-/// What is written to the lines of the next opening.
+/// Returns the replies to the lines of the next opening.
 fn gone_on(alloc: Global, settings: &Settings) -> Result<Vec<u8>, Fail> {
     let log = log_of(alloc, NEXT)?;
     let input = text_of(alloc, SECOND)?;
@@ -183,7 +183,7 @@ fn the_next_opening_goes_on(rt: HostRuntime) -> Result<(), Fail> {
     Ok(())
 }
 
-/// Two lines of an opening: a transfer under a key of its own, and its confirmation.
+/// Returns two lines of an opening: a transfer with a new identifier, and its confirmation.
 fn transfer(alloc: Global, number: u32) -> Result<String, Fail> {
     let text = format!(in alloc;
         "{{\"at\":{number},\"cents\":10,\"cmd\":\"submit\",\"id\":\"T{number}\",\"stamp\":{number},\"to\":\"BBBBFRPP\",\"who\":\"AAAADEFF\"}}\n{{\"at\":{number},\"cmd\":\"confirm\",\"from\":\"AAAADEFF\",\"id\":\"T{number}\",\"who\":\"BBBBFRPP\"}}\n"
@@ -191,7 +191,7 @@ fn transfer(alloc: Global, number: u32) -> Result<String, Fail> {
     Ok(text)
 }
 
-/// What is written to them.
+/// Returns the replies to these lines.
 fn replies(alloc: Global, number: u32) -> Result<String, Fail> {
     let text = format!(in alloc;
         "{{\"deadline\":{},\"id\":\"T{number}\",\"reply\":\"taken\"}}\n{{\"from\":\"AAAADEFF\",\"id\":\"T{number}\",\"reply\":\"state\",\"state\":\"accepted\"}}\n",
@@ -200,7 +200,7 @@ fn replies(alloc: Global, number: u32) -> Result<String, Fail> {
     Ok(text)
 }
 
-/// Runs one opening of the chain, and gives its log.
+/// Runs one opening of the chain, and returns its log.
 fn run_once_more(
     rt: &(impl Abort + AllocGlobal),
     settings: &Settings,
@@ -216,7 +216,7 @@ fn run_once_more(
     Ok(log)
 }
 
-/// Runs it, and gives the log that begins with its books.
+/// Runs it, and returns the log that begins with its books.
 fn open_once_more(
     rt: &(impl Abort + AllocGlobal),
     settings: &Settings,
@@ -230,7 +230,7 @@ fn open_once_more(
     }
 }
 
-/// Asks for the position of a participant behind a chain of openings.
+/// Asks for a participant's position after a chain of openings.
 fn ends_with(
     rt: &(impl Abort + AllocGlobal),
     settings: &Settings,
@@ -244,7 +244,7 @@ fn ends_with(
     Ok(())
 }
 
-/// The log behind fifty openings, before the first of which `AAAADEFF` is funded.
+/// Returns the log after fifty openings; `AAAADEFF` is funded before the first.
 fn fifty(rt: &(impl Abort + AllocGlobal), settings: &Settings) -> Result<Vec<u8>, Fail> {
     let alloc = rt.alloc();
     let input =

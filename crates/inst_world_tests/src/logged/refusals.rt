@@ -1,4 +1,4 @@
-//! Logs that aren't taken: they are left as they are, and nothing is written.
+//! Files that are refused: they are unchanged, and nothing is written.
 use crate::comparing::{same, same_at};
 use crate::logged::damage::{USES, use_log};
 use crate::logged::keeping::{LINES, go_on, serve, text_of};
@@ -12,10 +12,10 @@ use std::alloc::Global;
 use std::process::Abort;
 use std::test::Fail;
 
-/// Files that are no logs.
+/// Files that are not logs.
 const NO_LOGS: &[&[u8]] = &[b"hello\n", b"{\"ahead\":1000}", b"no log, and no line"];
 
-/// The settings of the worked rows, but for the order of the participants.
+/// Returns the settings of the worked rows with the participants in another order.
 fn reordered(alloc: Global) -> Result<Settings, Fail> {
     let codes = [
         Code::new("AAAADEFF")?,
@@ -30,7 +30,8 @@ fn reordered(alloc: Global) -> Result<Settings, Fail> {
     Ok(Settings::check(codes.to_vec(alloc)?, numbers)?)
 }
 
-/// How a run with a file that has these bytes ends. It leaves the file and writes nothing.
+/// Returns the result of a run with such a file, and checks that it is unchanged and nothing is
+/// written.
 fn outcome(
     rt: &(impl Abort + AllocGlobal),
     mode: Mode,
@@ -65,14 +66,14 @@ fn is_of_others(
     Ok(())
 }
 
-/// The log of a run with all lines.
+/// Returns the log of a run with all lines.
 fn log_of(alloc: Global, mode: Mode, settings: &Settings) -> Result<Vec<u8>, Fail> {
     let input = text_of(alloc, LINES)?;
     let mut written = Vec::new(alloc);
     go_on(alloc, mode, settings, b"", None, &input, &mut written)
 }
 
-/// The log is refused with so many places and this margin.
+/// Checks that the log is refused with these places and this margin.
 fn others_with(
     rt: &(impl Abort + AllocGlobal),
     mode: Mode,
@@ -84,7 +85,7 @@ fn others_with(
     is_of_others(rt, mode, &settings, log)
 }
 
-/// The log is refused with other settings.
+/// Checks that the log is refused with other settings.
 fn other_settings_are_refused(
     rt: &(impl Abort + AllocGlobal),
     mode: Mode,
@@ -134,9 +135,9 @@ fn files_that_are_no_logs_are_left(rt: HostRuntime) -> Result<(), Fail> {
     Ok(())
 }
 
-/// Files by their first lines, and whether they are no logs: those of which the first line is JSON
-/// without the members `log` and `version`, or begins with another byte than a brace. The others
-/// are damaged.
+/// Files by their first line, and whether they are not logs. A file is not a log if its first line
+/// is JSON without the members `log` and `version`, or begins with another byte than a brace. The
+/// others are damaged.
 const FIRST_LINES: &[(&[u8], bool)] = &[
     (b"{}\n\0", true),
     (

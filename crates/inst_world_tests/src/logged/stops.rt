@@ -1,5 +1,5 @@
-//! A machine that stops at each call of its disk in turn, and another run that goes on from what is
-//! left. What the last call wrote is torn at each byte, and is never called damaged.
+//! A machine that stops at each call to its disk in turn, and another run that resumes. What the
+//! last call wrote is torn at each byte, and the log is never found damaged.
 use crate::comparing::{same, same_at};
 use crate::disks::filled;
 use crate::log::stops::torn;
@@ -13,13 +13,13 @@ use std::alloc::Global;
 use std::process::Abort;
 use std::test::Fail;
 
-/// The calls that put the first bytes on the disk.
+/// The calls that write the first bytes to the disk.
 const FIRST_CALLS: u64 = 2;
 
 /// More calls than a run makes.
 const CALLS: u64 = 60;
 
-/// How many bytes a read gives at most: few, so that the lines come in several batches.
+/// The most bytes of a read: few, so that the lines come in several batches.
 const MOST: usize = 100;
 
 /// What a run leaves that stops.
@@ -30,7 +30,7 @@ struct Stopped {
     written: Vec<u8>,
 }
 
-/// Runs a hub on a disk that stops after so many calls.
+/// Runs a hub on a disk that stops after `calls` calls.
 fn stop(alloc: Global, case: &Case, calls: u64) -> Result<Stopped, Fail> {
     let (mode, settings) = (case.mode, &case.settings);
     let disk = filled(Fuse::new(Memory::new(alloc), calls), b"")?;
@@ -48,7 +48,7 @@ fn stop(alloc: Global, case: &Case, calls: u64) -> Result<Stopped, Fail> {
     })
 }
 
-/// How many of these lines are no marks.
+/// Returns how many of these lines aren't marks.
 fn count_unmarked(lines: &[u8]) -> usize {
     lines
         .split(|&byte| byte == b'\n')
@@ -56,20 +56,20 @@ fn count_unmarked(lines: &[u8]) -> usize {
         .count()
 }
 
-/// How many lines a log has behind its header. A file that was cut off in its header has none.
+/// Returns how many lines the log has after its header, 0 if it is cut off in its header.
 fn kept_lines(rt: &(impl Abort + AllocGlobal), log: &[u8]) -> Result<usize, Fail> {
     let mut disk = filled(Memory::new(rt.alloc()), log)?;
     let lines = read_lines(rt.alloc(), &mut disk, u64::MAX)?;
     Ok(count_unmarked(&lines).saturating_sub(1))
 }
 
-/// Whether the marks of a log with these bytes are right.
+/// Returns `true` if the marks of a log with these bytes are right.
 fn is_intact(alloc: Global, log: &[u8]) -> Result<bool, Fail> {
     let mut disk = filled(Memory::new(alloc), log)?;
     Ok(verify(alloc, &mut disk, None).is_ok())
 }
 
-/// How many bytes two files begin with alike.
+/// Returns how many first bytes two files have in common.
 fn common_len(one: &[u8], other: &[u8]) -> usize {
     one.iter()
         .zip(other)
@@ -77,7 +77,7 @@ fn common_len(one: &[u8], other: &[u8]) -> usize {
         .count()
 }
 
-/// No log is damaged that is left where the last call was cut off behind any of its bytes.
+/// Checks that no log is damaged if the last call was torn at any byte.
 fn tears_are_intact(
     rt: &(impl Abort + AllocGlobal),
     before: &[u8],
@@ -90,8 +90,8 @@ fn tears_are_intact(
     Ok(())
 }
 
-/// What a reader has that has these first bytes of the replies, and keeps those of them that are
-/// whole.
+/// Resumes for a client that has these first bytes of the replies and keeps the whole lines.
+/// Returns the replies that it has then.
 fn gone_on(
     alloc: Global,
     case: &Case,
@@ -115,7 +115,8 @@ fn gone_on(
     Ok(replies)
 }
 
-/// Goes on for a reader that has these first bytes of the replies.
+/// Resumes for a client with these first bytes of the replies, and checks that it then has each
+/// reply once.
 fn go_on_behind(
     rt: &(impl Abort + AllocGlobal),
     case: &Case,
@@ -128,7 +129,8 @@ fn go_on_behind(
     Ok(())
 }
 
-/// Goes on where all that was written came to the reader, and where half of it did.
+/// Resumes for a client that received everything that was written, and for one that received half
+/// of it.
 fn go_on_from(
     rt: &(impl Abort + AllocGlobal),
     case: &Case,
@@ -139,7 +141,7 @@ fn go_on_from(
     go_on_behind(rt, case, log, &written[..written.len() / 2])
 }
 
-/// Stops after so many calls, and goes on. The call before left a log with these bytes.
+/// Stops after `calls` calls, and resumes. `before` is the log after one call fewer.
 fn stop_and_go_on(
     rt: &(impl Abort + AllocGlobal),
     case: &Case,

@@ -1,4 +1,4 @@
-//! Replies that are handed out again, to a reader that has some of them.
+//! Replies that are written again, to a client that has some of them.
 use crate::comparing::same_at;
 use crate::logged::keeping::{Case, LINES, case_of, front_len, go_on, serve};
 use inst_lines::Mode;
@@ -8,7 +8,7 @@ use std::alloc::Global;
 use std::process::Abort;
 use std::test::Fail;
 
-/// Compares what is written to a reader that has the replies to so many lines.
+/// Compares what is written to a client that has the replies to `told` lines.
 fn tell(rt: &(impl Abort + AllocGlobal), case: &Case, log: &[u8], told: usize) -> Result<(), Fail> {
     let (mode, settings) = (case.mode, &case.settings);
     let mut written = Vec::new(rt.alloc());
@@ -26,7 +26,7 @@ fn tell(rt: &(impl Abort + AllocGlobal), case: &Case, log: &[u8], told: usize) -
     Ok(())
 }
 
-/// Tells of more replies than the log has lines.
+/// Resumes with more replies than the log has lines, which is refused.
 fn tell_too_many(
     rt: &(impl Abort + AllocGlobal),
     case: &Case,
@@ -51,7 +51,7 @@ fn tell_too_many(
     Ok(())
 }
 
-/// Tells of each number of replies, and of more than there are.
+/// Resumes with each number of replies, and with more than there are.
 fn tell_each_number(rt: &(impl Abort + AllocGlobal), case: &Case, log: &[u8]) -> Result<(), Fail> {
     for told in 0..=LINES.len() {
         tell(rt, case, log, told)?;
@@ -60,7 +60,7 @@ fn tell_each_number(rt: &(impl Abort + AllocGlobal), case: &Case, log: &[u8]) ->
     tell_too_many(rt, case, log, u64::MAX)
 }
 
-/// The log of a run of all lines.
+/// Returns the log of a run of all lines.
 fn whole_log(alloc: Global, case: &Case) -> Result<Vec<u8>, Fail> {
     let mut written = Vec::new(alloc);
     go_on(

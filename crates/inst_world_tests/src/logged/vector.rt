@@ -7,8 +7,8 @@ use inst_settings::{HubParameters, Settings};
 use std::alloc::Global;
 use std::test::Fail;
 
-/// The log. Each digest is what `sha256sum` prints for the lines before it, from the mark before
-/// them on: `sed -n 1p`, `sed -n 2,4p` and `sed -n 5,6p`.
+/// The log. Each digest is what `sha256sum` prints for the lines after the mark before it, with
+/// that mark: `sed -n 1p`, `sed -n 2,4p` and `sed -n 5,6p`.
 pub(crate) const LOG: &[u8] =
     b"{\"ahead\":1000,\"base\":0,\"ceiling\":99999999999,\"fundings\":256,\"limit\":10000,\
     \"log\":\"run\",\"margin\":0,\"participants\":[\"AAAADEFF\",\"BBBBFRPP\",\"CCCCITMM\"],\
@@ -21,7 +21,7 @@ pub(crate) const LOG: &[u8] =
     {\x01no JSON\n\
     {\x01{0d5f61eaf5985576c2048c2d2a77b598caf566be348f75845506476b8970d7f0\n\0";
 
-/// The lines of its second batch, and of its third one.
+/// The lines of the second and the third batch.
 const BATCHES: [&[u8]; 2] = [
     b"{\"at\":0,\"cents\":50000,\"cmd\":\"fund\",\"ref\":\"F1\",\"who\":\"AAAADEFF\"}\n\
     {\"at\":1000,\"cents\":20000,\"cmd\":\"submit\",\"id\":\"T1\",\"stamp\":1000,\"to\":\"BBBBFRPP\",\
@@ -34,7 +34,7 @@ pub(crate) const REPLIES: &[u8] = b"{\"ref\":\"F1\",\"reply\":\"done\"}\n\
     {\"deadline\":11000,\"id\":\"T1\",\"reply\":\"taken\"}\n\
     {\"fault\":\"NotJson\",\"number\":1,\"reply\":\"refused\"}\n";
 
-/// Its settings.
+/// Returns the log's settings.
 pub(crate) fn settings(alloc: Global) -> Result<Settings, Fail> {
     let codes = [
         Code::new("AAAADEFF")?,
@@ -44,7 +44,7 @@ pub(crate) fn settings(alloc: Global) -> Result<Settings, Fail> {
     Ok(Settings::check(codes.to_vec(alloc)?, HubParameters::DEFAULT)?)
 }
 
-/// The log that two runs with these settings leave, of which each reads one batch.
+/// Returns the log of two runs with these settings, each of one batch.
 pub(crate) fn made(
     alloc: Global,
     settings: &Settings,

@@ -12,7 +12,7 @@ const HEADER: &[u8] =
 
 const FUND: &[u8] = br#"{"at":0,"cents":50000,"cmd":"fund","ref":"F1","who":"AAAADEFF"}"#;
 
-/// The log once two more lines are read.
+/// The log after two more lines.
 const RESUMED: &[&[u8]] = &[
     HEADER,
     FUND,
@@ -20,7 +20,7 @@ const RESUMED: &[&[u8]] = &[
     br#"{"at":1,"cmd":"position","who":"AAAADEFF"}"#,
 ];
 
-/// Its next opening.
+/// The log of the next opening.
 const NEXT: &[&[u8]] = &[
     br#"{"ahead":1000,"base":0,"books":1,"ceiling":99999999999,"fundings":4,"limit":10000,"log":"run","margin":0,"participants":["AAAADEFF","BBBBFRPP","CCCCITMM"],"places":2,"version":2}"#,
     br#"{"book":"AAAADEFF","cents":50000,"event":"funded","ref":"F1"}"#,

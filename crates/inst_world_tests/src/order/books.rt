@@ -1,9 +1,9 @@
-//! Lines of books, and the books that they make.
+//! Lines of books, and the cases made of them.
 
 /// Lines of books.
 pub(crate) type BookLines = &'static [&'static [u8]];
 
-/// The books that a hub opened from, if it opened again, and those that it left.
+/// The books that a hub opened from, if it wasn't its first opening, and those that it left.
 pub(crate) type HubBooks = (Option<BookLines>, BookLines);
 
 const A_FUNDED: &[u8] = br#"{"book":"AAAADEFF","cents":500,"event":"funded","ref":"F1"}"#;
@@ -98,9 +98,9 @@ const ACCEPTED: &[&[u8]] = &[
 /// T1 timed out, and T2 is pending.
 const ONE_PENDING: &[&[u8]] = &[A_FUNDED, TAKEN, A_TIMED_OUT, TAKEN_2, DELIVERED_2];
 
-/// Books that steps explain, with how many.
+/// Books that steps explain, with the number of steps.
 pub(crate) const EXPLAINED: &[(HubBooks, usize)] = &[
-    // nothing
+    // no events
     ((None, &[]), 0),
     // pending
     ((None, &[A_FUNDED, TAKEN, DELIVERED, B_FETCHED]), 4),
@@ -113,7 +113,7 @@ pub(crate) const EXPLAINED: &[(HubBooks, usize)] = &[
     ),
     // timed out before it was delivered
     ((None, &[A_FUNDED, TAKEN, A_TIMED_OUT]), 3),
-    // timed out once it was delivered
+    // timed out after it was delivered
     (
         (
             None,
@@ -121,7 +121,7 @@ pub(crate) const EXPLAINED: &[(HubBooks, usize)] = &[
         ),
         5,
     ),
-    // paid with what the other one had paid
+    // paid with money that the other one had paid
     (
         (
             None,
@@ -139,7 +139,7 @@ pub(crate) const EXPLAINED: &[(HubBooks, usize)] = &[
         ),
         9,
     ),
-    // a pending transfer that is carried over times out, and a new one has the place after it
+    // a carried transfer times out, and a new one gets the next place
     (
         (
             Some(ONE_PENDING),
@@ -162,7 +162,7 @@ pub(crate) const EXPLAINED: &[(HubBooks, usize)] = &[
         ),
         6,
     ),
-    // a transfer that is carried over twice is accepted
+    // a transfer that is carried twice is accepted
     (
         (
             Some(&[A_FUNDED, TAKEN, DELIVERED, A_OPENED, B_OPENED, C_OPENED]),
@@ -177,7 +177,7 @@ pub(crate) const EXPLAINED: &[(HubBooks, usize)] = &[
 
 /// Books that no steps explain.
 pub(crate) const UNEXPLAINED: &[HubBooks] = &[
-    // each pays with what only the other one pays it
+    // each pays with money that it has only from the other
     (
         None,
         &[
@@ -191,8 +191,7 @@ pub(crate) const UNEXPLAINED: &[HubBooks] = &[
             B_ACCEPTED_BACK,
         ],
     ),
-    // A books T1 before it is delivered the other T1, which B books before it is delivered the
-    // first
+    // A books its T1 before it receives B's T1, and B books its T1 before it receives A's
     (
         None,
         &[
@@ -223,7 +222,7 @@ pub(crate) const UNEXPLAINED: &[HubBooks] = &[
     ),
     // rejected by nobody
     (None, &[A_FUNDED, TAKEN, A_REJECTED]),
-    // delivered after the opening that it was settled before
+    // delivered after the opening, settled before it
     (
         Some(&[A_FUNDED, TAKEN, A_TIMED_OUT]),
         &[
@@ -237,8 +236,8 @@ pub(crate) const UNEXPLAINED: &[HubBooks] = &[
             C_OPENED,
         ],
     ),
-    // opened again, at a first opening
+    // `Opened` at a first opening
     (None, &[A_FUNDED, A_OPENED, B_OPENED, C_OPENED]),
-    // of another opening
+    // not from the books that it opened from
     (Some(&[A_FUNDED]), &[B_FUNDED, A_OPENED, B_OPENED, C_OPENED]),
 ];

@@ -1,3 +1,4 @@
+//! Steps are looked for that leave some books.
 use crate::comparing::{same, same_at};
 use crate::logged::keeping::text_of;
 use crate::order::books::{EXPLAINED, HubBooks, UNEXPLAINED};

@@ -1,10 +1,10 @@
-//! What is answered, by short texts and plain numbers.
+//! Expected answers, as short texts and plain numbers.
 use inst_base::Fault;
 use inst_command::{Answer, Entry, Line, LineKind, Reply, State};
 use inst_fixtures::{End, is_end};
 
-/// What is told: of entries the identifiers, and of statement lines their numbers, what they show
-/// and the positions after them.
+/// An expected answer. Of inbox entries it has the identifiers; of statement lines the numbers, the
+/// kinds and the positions after them.
 #[derive(Clone, Copy)]
 pub(crate) enum ExpectedResult {
     Done,
@@ -44,7 +44,7 @@ fn have_positions(lines: &[Line], wanted: &[(u32, LineKind, u64)]) -> bool {
     lines.len() == wanted.len()
 }
 
-/// Whether the reply is what is told.
+/// Returns `true` if the reply is the expected one.
 fn is_reply(reply: &Reply, told: &ExpectedResult) -> bool {
     match (reply, told) {
         (Reply::Done { .. }, ExpectedResult::Done) => true,
@@ -67,7 +67,7 @@ fn is_reply(reply: &Reply, told: &ExpectedResult) -> bool {
     }
 }
 
-/// Whether the answer is what is told.
+/// Returns `true` if the answer is the expected one.
 pub(crate) fn tells(answer: &Result<Answer, Fault>, told: &ExpectedResult) -> bool {
     match (answer, told) {
         (Ok(Answer::Reply(reply)), told) => is_reply(reply, told),

@@ -1,4 +1,4 @@
-//! What is done, one act after another, what is answered, and what is kept.
+//! Cases: acts, one after another, their answers, and the histories.
 use crate::ledger::asked::{ShortAsk, command};
 use crate::slot::answers::{ExpectedResult, tells};
 use crate::slot::histories::{ShortEvent, are_copied, copied, keeps};
@@ -9,8 +9,8 @@ use std::alloc::Global;
 use std::process::Abort;
 use std::test::Fail;
 
-/// What is done, by short texts and plain numbers: a command, a step at a place of an originator,
-/// or a question to the slot.
+/// An act, as short texts and plain numbers: a command, a step at a place, or a question to the
+/// slot.
 #[derive(Clone, Copy)]
 pub(crate) enum Does {
     Fund(&'static str, u64),
@@ -25,23 +25,23 @@ pub(crate) enum Does {
     Learn(u8, u16),
     Adopt(u8, u16),
     Expire(u16),
-    /// Whether the slot tells a place of its own transfer.
+    /// The slot has a place of its own transfer.
     TellPlace(&'static str),
-    /// Whether the slot tells this beneficiary of its own transfer.
+    /// The slot has this beneficiary of its own transfer.
     Pays(&'static str, Option<u8>),
-    /// Whether the first pair is followed by the second among what waits.
+    /// Among the pending transfers the second pair follows the first.
     DueAfter(Option<(u64, u16)>, Option<(u64, u16)>),
-    /// Whether the first arrival from this position on with nothing booked is the second, by its
-    /// position and the index of its place, which is one of the first participant's.
+    /// The first arrival from this position on without a booked outcome is this one: its position,
+    /// and the index of its place of the first participant.
     UnbookedFrom(usize, Option<(usize, u16)>),
-    /// Whether so many places of carried transfers aren't found yet.
+    /// The places of this many carried transfers aren't found yet.
     Misses(usize),
 }
 
-/// Who does what, when, and what is answered.
+/// The participant, its act, the clock reading, and the expected answer.
 pub(crate) type Row = (u8, Does, u64, ExpectedResult);
 
-/// The first participant has 50,000 cents, and T1 over 20,000 to the second.
+/// The first participant has 50,000 cents, and submits T1 of 20,000 cents to the second.
 const SUBMITTED: &[Row] = &[
     (0, Does::Fund("F1", 50_000), 0, ExpectedResult::Done),
     (
@@ -52,14 +52,14 @@ const SUBMITTED: &[Row] = &[
     ),
 ];
 
-/// What is done at a hub with this margin, and the histories of the participants then.
+/// Acts at a hub with this margin, and the histories afterwards.
 pub(crate) struct Case {
     pub(crate) margin: u32,
     pub(crate) rows: &'static [Row],
     pub(crate) histories: [&'static [ShortEvent]; 3],
 }
 
-/// What is asked, or none for a step or a question.
+/// Returns the command, or `None` for a step or a question.
 fn asks(does: &Does) -> Option<ShortAsk> {
     Some(match *does {
         Does::Fund(reference, cents) => ShortAsk::Fund(reference, cents),
@@ -74,7 +74,7 @@ fn asks(does: &Does) -> Option<ShortAsk> {
     })
 }
 
-/// The step, or none for a question.
+/// Returns the step, or `None` for a command or a question.
 fn step(does: &Does) -> Option<Act> {
     match *does {
         Does::Deliver(owner, index) => Some(Act::Deliver(Place { owner, index })),
@@ -85,7 +85,7 @@ fn step(does: &Does) -> Option<Act> {
     }
 }
 
-/// The act, or none for a question.
+/// Returns the command or step, or `None` for a question.
 fn act(does: &Does) -> Result<Option<Act>, Fault> {
     match asks(does) {
         Some(asks) => Ok(Some(Act::Ask(command(&asks)?))),
@@ -93,7 +93,7 @@ fn act(does: &Does) -> Result<Option<Act>, Fault> {
     }
 }
 
-/// The pair of a deadline and an index.
+/// Returns the pair of a deadline and an index.
 fn pair(pair: Option<(u64, u16)>) -> Result<Option<(Moment, u16)>, Fault> {
     match pair {
         None => Ok(None),
@@ -101,13 +101,13 @@ fn pair(pair: Option<(u64, u16)>) -> Result<Option<(Moment, u16)>, Fault> {
     }
 }
 
-/// The position of an arrival, and its place, which is one of the first participant's.
+/// Returns the position of an arrival and its place, which is one of the first participant's.
 fn arrival(arrival: Option<(usize, u16)>) -> Option<(usize, Place)> {
     let (position, index) = arrival?;
     Some((position, Place { owner: 0, index }))
 }
 
-/// What the slot answers to a question.
+/// Returns `true` if the slot confirms the question.
 fn question(slots: &Slots, who: u8, does: &Does) -> Result<bool, Fault> {
     let Some(slot) = slots.slot(who) else {
         return Err(Fault::BadField);
@@ -125,8 +125,8 @@ fn question(slots: &Slots, who: u8, does: &Does) -> Result<bool, Fault> {
     }
 }
 
-/// What is answered to the act. An allocation may be made to fail: what was answered `Memory` has
-/// left the history as it was, and is done again.
+/// Returns the answer to the act. An allocation may be made to fail: after `Memory` the history
+/// must be as before, and the act is repeated.
 fn answer(
     rt: &impl Abort,
     slots: &mut Slots,
@@ -143,7 +143,7 @@ fn answer(
     slots.act(who, act, at)
 }
 
-/// Whether the row is answered so.
+/// Returns `true` if the row's answer is the expected one.
 fn is_answered(rt: &impl Abort, slots: &mut Slots, row: &Row) -> Result<bool, Fault> {
     let (who, does, at, told) = row;
     let answer = match act(does)? {
@@ -160,7 +160,7 @@ fn answers(rt: &impl Abort, slots: &mut Slots, rows: &[Row]) -> Result<(), Fail>
     Ok(())
 }
 
-/// The hub answers as the case tells, and keeps what it tells.
+/// Checks the answers of the case, and the histories afterwards.
 fn follows(rt: &impl Abort, slots: &mut Slots, case: &Case) -> Result<(), Fail> {
     answers(rt, slots, case.rows)?;
     for (who, history) in case.histories.iter().enumerate() {
@@ -169,7 +169,7 @@ fn follows(rt: &impl Abort, slots: &mut Slots, case: &Case) -> Result<(), Fail> 
     Ok(())
 }
 
-/// A hub that opens for the first time. What answers `Memory` is opened again.
+/// Opens a hub for the first time. After `Memory` it is opened again.
 fn opened(alloc: Global, margin: u32) -> Result<Slots, Fault> {
     match Slots::open(alloc, margin) {
         Err(Fault::Memory) => Slots::open(alloc, margin),
@@ -177,7 +177,7 @@ fn opened(alloc: Global, margin: u32) -> Result<Slots, Fault> {
     }
 }
 
-/// A hub that opens from the books of this one, likewise.
+/// Opens a hub from the books of this one, likewise.
 fn opened_again(alloc: Global, books: &Slots, is_first_new: bool) -> Result<Slots, Fault> {
     match books.open_again(alloc, is_first_new) {
         Err(Fault::Memory) => books.open_again(alloc, is_first_new),
@@ -185,13 +185,13 @@ fn opened_again(alloc: Global, books: &Slots, is_first_new: bool) -> Result<Slot
     }
 }
 
-/// T1 is submitted, and then the hub follows the case.
+/// Submits T1, and then checks the case.
 fn submits_and_follows(rt: &impl Abort, slots: &mut Slots, case: &Case) -> Result<(), Fail> {
     answers(rt, slots, SUBMITTED)?;
     follows(rt, slots, case)
 }
 
-/// The hub that followed the case after T1 was submitted.
+/// Returns a new hub on which T1 was submitted and the case was checked.
 fn followed(rt: &(impl Abort + AllocGlobal), case: &Case) -> Result<Slots, Fail> {
     mention::<ShortEvent>();
     let mut slots = opened(rt.alloc(), case.margin)?;
@@ -199,13 +199,13 @@ fn followed(rt: &(impl Abort + AllocGlobal), case: &Case) -> Result<Slots, Fail>
     Ok(slots)
 }
 
-/// What the case tells comes so after T1 was submitted.
+/// Checks the case at a new hub after T1 was submitted.
 pub(crate) fn comes(rt: &(impl Abort + AllocGlobal), case: &Case) -> Result<(), Fail> {
     followed(rt, case)?;
     Ok(())
 }
 
-/// What the case tells comes so at a hub that opens again from the books of this one.
+/// Checks the case at a hub that opens from the books of this one.
 fn follows_again(
     rt: &(impl Abort + AllocGlobal),
     books: &Slots,
@@ -216,8 +216,8 @@ fn follows_again(
     follows(rt, &mut slots, case)
 }
 
-/// What the case tells comes so at a hub that opens again from the books of one that followed the
-/// case `before`.
+/// Checks the case at a hub that opens from the books of one on which the case `before` was
+/// checked.
 pub(crate) fn comes_again(
     rt: &(impl Abort + AllocGlobal),
     before: &Case,

@@ -1,4 +1,4 @@
-//! How a transfer is confirmed or rejected, and both sides book it.
+//! A transfer is confirmed or rejected, and both sides book it.
 use crate::slot::answers::ExpectedResult;
 use crate::slot::cases::{Case, Does, comes};
 use crate::slot::histories::ShortEvent;

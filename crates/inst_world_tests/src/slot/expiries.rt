@@ -1,4 +1,4 @@
-//! How a transfer times out.
+//! A transfer times out.
 use crate::slot::answers::ExpectedResult;
 use crate::slot::cases::{Case, Does, comes};
 use crate::slot::histories::ShortEvent;

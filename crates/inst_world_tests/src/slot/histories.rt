@@ -1,4 +1,4 @@
-//! The events of a history, by short texts and plain numbers.
+//! Expected events of a history, as short texts and plain numbers.
 use inst_fixtures::{End, is_end};
 use inst_journal::Event;
 use std::process::Abort;
@@ -55,7 +55,7 @@ fn is_kept(event: &Event, kept: &ShortEvent) -> bool {
     }
 }
 
-/// The number of the first event that is another one than is wanted, if there is one.
+/// Returns the index of the first event that differs, if there is one.
 fn first_other(events: &[Event], wanted: &[ShortEvent]) -> Option<usize> {
     for (nth, (event, kept)) in events.iter().zip(wanted).enumerate() {
         if !is_kept(event, kept) {
@@ -71,7 +71,7 @@ pub(crate) fn keeps(rt: &impl Abort, events: &[Event], wanted: &[ShortEvent]) {
     assert_eq!(rt; found, (wanted.len(), None));
 }
 
-/// The number of the events and the first of them.
+/// Returns the number of events, and copies of the first 16.
 pub(crate) fn copied(events: &[Event]) -> (usize, [Option<Event>; 16]) {
     let mut copies = [None; 16];
     for (copy, event) in copies.iter_mut().zip(events) {
@@ -80,7 +80,7 @@ pub(crate) fn copied(events: &[Event]) -> (usize, [Option<Event>; 16]) {
     (events.len(), copies)
 }
 
-/// Whether these are as many events, and the first of them are the same.
+/// Returns `true` if there are as many events and the first 16 are the same.
 pub(crate) fn are_copied(events: &[Event], copies: &(usize, [Option<Event>; 16])) -> bool {
     copied(events) == *copies
 }

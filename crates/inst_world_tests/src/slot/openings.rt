@@ -149,7 +149,7 @@ fn carried_and_adopted(rt: HostRuntime) -> Result<(), Fail> {
     comes_again(&rt, &ONE_SETTLED, false, &CARRIED_AND_ADOPTED)
 }
 
-/// The settled transfer has given its place back, and a repeat of it takes none.
+/// The place of the settled transfer is free again, and a repeat of it takes none.
 const PLACES_GIVEN_BACK: Case = Case {
     margin: 0,
     rows: &[
@@ -245,7 +245,7 @@ const BOTH_PENDING: Case = Case {
     ],
 };
 
-/// Places of transfers with these identifiers, but with other cents and another deadline.
+/// Places of transfers with these identifiers, but with another amount and another deadline.
 const OTHER_TERMS: Case = Case {
     margin: 0,
     rows: &[

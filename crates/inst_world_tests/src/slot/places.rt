@@ -1,4 +1,4 @@
-//! Where transfers lie, and which are delivered from there.
+//! The places of transfers, and what is delivered from them.
 use crate::slot::answers::ExpectedResult;
 use crate::slot::cases::{Case, Does, comes};
 use crate::slot::histories::ShortEvent;

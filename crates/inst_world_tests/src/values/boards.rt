@@ -1,4 +1,4 @@
-//! The plain board: each wish about a deadline, and what a look shows then.
+//! The plain board: each wish near a deadline, and what a look shows afterwards.
 ghost use Rattle.std.specs.Prelude.{◌≡◌, IfOk};
 ghost use Rattle.inst_settings.specs.Settings.{participants};
 ghost use Rattle.inst_board.specs.declared.about.About.TheVariants.{Opened};
@@ -29,7 +29,7 @@ fn terms() -> Result<Terms, Fault> {
     })
 }
 
-/// Two participants with three places each, and a margin of 200 ms.
+/// Returns settings of two participants with three places each and a margin of 200 ms.
 fn settings(alloc: Global) -> Result<Settings, Fault>
     ensures { IfOk result (λ s. (participants s ≡ 2) × (s.places ≡ 3)) }
 {
@@ -45,7 +45,7 @@ fn settings(alloc: Global) -> Result<Settings, Fault>
     Settings::check(codes, numbers)
 }
 
-/// A board on which the last place of the first participant is pending.
+/// Returns a board on which the last place of the first participant is pending.
 fn opened(alloc: Global, place: Place) -> Result<PlainBoard, Fault>
     requires { (place.owner ≡ 0) × (place.index ≡ 2) }
     ensures { IfOk result (λ b. plain_knows b (about place Opened)) }
@@ -59,7 +59,7 @@ fn opened(alloc: Global, place: Place) -> Result<PlainBoard, Fault>
     Ok(board)
 }
 
-/// What a wish answers, and what a look shows afterwards.
+/// Decides by this wish, and returns the outcome and what a look shows afterwards.
 fn decided(alloc: Global, wish: Wish, at: u64) -> Result<(Option<Outcome>, Look), Fault> {
     let place = Place { owner: 0, index: 2 };
     let at = moment(at)?;
@@ -80,7 +80,7 @@ fn decided_twice(
     Ok(decide_plain_twice(&mut board, place, first.0, at, second.0, later))
 }
 
-/// What a look shows where this was found.
+/// Returns what a look must show after this outcome.
 fn shown(found: Option<Outcome>) -> Result<Look, Fault> {
     Ok(match found {
         Some(outcome) => Look::Decided(terms()?, outcome),
@@ -88,7 +88,7 @@ fn shown(found: Option<Outcome>) -> Result<Look, Fault> {
     })
 }
 
-/// The wish finds this outcome then, and a look shows it afterwards.
+/// Checks the outcome of the wish, and what a look shows afterwards.
 fn decides(
     rt: &(impl Abort + AllocGlobal),
     wish: Wish,
@@ -143,10 +143,10 @@ fn a_second_wish_changes_nothing(rt: HostRuntime) -> Result<(), Fault> {
     Ok(())
 }
 
-/// Places on the board and beside it.
+/// Places that the board has, and others.
 const PLACES: &[(u8, u16)] = &[(0, 0), (1, 2), (0, 3), (2, 0), (255, 65_535)];
 
-/// Each of the places is unused.
+/// Checks that each of these places is unused.
 fn is_unused(rt: &impl Abort, board: &mut PlainBoard) {
     for &(owner, index) in PLACES {
         let place = Place { owner, index };

@@ -6,7 +6,7 @@ const BASE: u64 = 4_611_686_018_427_387_904;
 
 const PAST_BASE: u64 = 2_199_023_255_551;
 
-/// Cents, and the amount that they are.
+/// Cents, and the amount or the fault.
 const AMOUNTS: &[(u64, Result<u64, Fault>)] = &[
     (0, Err(Fault::BadAmount)),
     (1, Ok(1)),
@@ -23,7 +23,7 @@ fn amounts_to_their_bounds(rt: HostRuntime) {
     }
 }
 
-/// A base and a reading, and how far the moment is past the base.
+/// A base and a time, and the milliseconds since the base or the fault.
 const MOMENTS: &[(u64, u64, Result<u64, Fault>)] = &[
     (0, 0, Ok(0)),
     (0, PAST_BASE, Ok(PAST_BASE)),
@@ -48,7 +48,7 @@ fn moments_to_their_bounds(rt: HostRuntime) -> Result<(), Fault> {
     Ok(())
 }
 
-/// A stamp and a limit, and the deadline if there is one.
+/// A time stamp and a limit, and the deadline if there is one.
 const DEADLINES: &[(u64, u32, Option<u64>)] = &[
     (0, 0, Some(0)),
     (1000, 10_000, Some(11_000)),
@@ -73,7 +73,7 @@ fn deadlines_to_the_last_moment(rt: HostRuntime) -> Result<(), Fault> {
     Ok(())
 }
 
-/// Whether a reading is in time, in time for a confirmation with a margin of 2 seconds, and due.
+/// Whether a clock reading is before the deadline, before it by a margin of 2 seconds, and due.
 const READINGS: &[(u64, bool, bool, bool)] = &[
     (0, true, true, false),
     (8_999, true, true, false),
@@ -99,7 +99,7 @@ fn readings_on_either_side_of_a_deadline(rt: HostRuntime) -> Result<(), Fault> {
     Ok(())
 }
 
-/// Whether a stamp is ahead.
+/// Whether a time stamp is too far ahead.
 const STAMPS: &[(u64, bool)] = &[(0, false), (1000, false), (2000, false), (2001, true)];
 
 #[test]
@@ -237,10 +237,13 @@ fn identifiers_by_length_and_set(rt: HostRuntime) {
 }
 
 const SENTENCES: &[(Fault, &str)] = &[
-    (Fault::NotJson, "the line is no JSON text"),
-    (Fault::Expired, "the reading is too late"),
+    (Fault::NotJson, "the line is not JSON"),
+    (Fault::Expired, "the clock reading is too late"),
     (Fault::Shortage, "the amount is above what is available"),
-    (Fault::WriteFault, "the output failed, or took no byte"),
+    (
+        Fault::WriteFault,
+        "writing the output failed, or it took no byte",
+    ),
 ];
 
 #[test]

@@ -1,10 +1,10 @@
-//! Where a line ends, and how it comes to a writer.
+//! The end of a line, and writing it.
 use crate::comparing::same;
 use inst_base::{Unwritten, find_newline, write_bytes};
 use std::process::Abort;
 use std::test::Fail;
 
-/// The first newline of several, and none.
+/// Checks that the first of several newlines is found, and none if there is none.
 fn newlines_are_found(rt: &impl Abort) {
     same(rt, find_newline(b"ab\nc\n"), Some(2));
     same(rt, find_newline(b"\n"), Some(0));

@@ -1,4 +1,4 @@
-//! What waits for its deadline, in order.
+//! Pairs of a deadline and a place, in order.
 use crate::comparing::same_at;
 use inst_base::{Fault, Moment};
 use inst_due::Due;
@@ -18,7 +18,7 @@ fn pair_of(pair: Option<Pair>) -> Result<Option<(Moment, u16)>, Fault> {
     }
 }
 
-/// Puts the pairs in.
+/// Adds the pairs.
 fn add_all(due: &mut Due, pairs: &[Pair]) -> Result<(), Fault> {
     for &(ms, index) in pairs {
         due.add(moment(ms)?, index)?;
@@ -26,13 +26,13 @@ fn add_all(due: &mut Due, pairs: &[Pair]) -> Result<(), Fault> {
     Ok(())
 }
 
-/// This pair is the first one that is due then.
+/// Checks that this pair is the first that is due at `at`.
 fn is_first_due(rt: &impl Abort, due: &Due, at: u64, pair: Option<Pair>) -> Result<(), Fault> {
     same_at(rt, at, due.first_due(moment(at)?), pair_of(pair)?);
     Ok(())
 }
 
-/// This pair comes after that one.
+/// Checks that this pair comes after `last`.
 fn is_next(
     rt: &impl Abort,
     due: &Due,
@@ -43,7 +43,7 @@ fn is_next(
     Ok(())
 }
 
-/// The pairs come one after the other, and then none.
+/// Checks that the pairs come in this order, and no other follows.
 fn come_in_order(rt: &impl Abort, due: &Due, pairs: &[Pair]) -> Result<(), Fault> {
     let mut last = None;
     for pair in pairs {
@@ -53,7 +53,7 @@ fn come_in_order(rt: &impl Abort, due: &Due, pairs: &[Pair]) -> Result<(), Fault
     is_next(rt, due, last, None)
 }
 
-/// Two pairs of the earlier deadline, by place, and then one of the later.
+/// Checks that the pairs of the earlier deadline come first, by place.
 fn come_by_deadline(rt: &impl Abort, due: &mut Due) -> Result<(), Fault> {
     add_all(due, &[(12_000, 0), (11_000, 2), (11_000, 1), (11_000, 1)])?;
     is_first_due(rt, due, 10_999, None)?;
@@ -68,7 +68,7 @@ fn pairs_come_by_deadline_and_then_by_place(rt: HostRuntime) -> Result<(), Fault
     come_by_deadline(&rt, &mut due)
 }
 
-/// The pair is there to be taken out, or it isn't.
+/// Removes the pair, and checks whether it was there.
 fn takes_out(
     rt: &impl Abort,
     due: &mut Due,
@@ -79,7 +79,7 @@ fn takes_out(
     Ok(())
 }
 
-/// A pair is taken out once, and then the next one is due.
+/// Checks that a pair is removed once, and the next one is due then.
 fn takes_out_once(rt: &impl Abort, due: &mut Due) -> Result<(), Fault> {
     add_all(due, &[(11_000, 0), (12_000, 1)])?;
     takes_out(rt, due, (11_000, 1), false)?;

@@ -20,8 +20,7 @@ const WORDS: &[(&str, Option<AnyFault>)] = &[
     ("", None),
 ];
 
-/// A fault is found by its number and by its name, from the first to the last, and no other word
-/// finds one.
+/// Each fault is found by its number and by its name, and no other word finds one.
 #[test]
 fn faults_are_found_by_number_and_by_name(rt: HostRuntime) {
     for (word, wanted) in WORDS {
@@ -36,7 +35,8 @@ const EXCERPTS: &[(&[u8], &str)] = &[
     (b"\xc2\x9b\\", "\\xc2\\x9b\\x5c"),
 ];
 
-/// An excerpt has no control character, and ends by two points if 200 bytes aren't all.
+/// An excerpt has no control character, and ends with two points if the text has more than 200
+/// bytes.
 #[test]
 fn excerpts_are_printable(rt: HostRuntime) -> Result<(), Fail> {
     for (bytes, wanted) in EXCERPTS {
@@ -55,7 +55,7 @@ fn excerpts_are_printable(rt: HostRuntime) -> Result<(), Fail> {
     Ok(())
 }
 
-/// What a refusal for this fault is told by: the fault of a reply, or none where there is no reply.
+/// Returns the fault of the reply to a refusal for this fault, or `None` if it has no reply.
 fn told(fault: Fault) -> Option<Option<Fault>> {
     match &refusals_told(Err(fault)) {
         Ok(Reply::Refused(fault)) => Some(Some(*fault)),
@@ -64,7 +64,7 @@ fn told(fault: Fault) -> Option<Option<Fault>> {
     }
 }
 
-/// A refusal is told by a reply, and want of memory by none.
+/// A refusal becomes a reply, and an allocation failure doesn't.
 #[test]
 fn refusals_are_told(rt: HostRuntime) {
     same(&rt, told(Fault::Full), Some(Some(Fault::Full)));

@@ -1,4 +1,4 @@
-//! Settings to their bounds, and how participants are found by their codes.
+//! Settings at their bounds, and finding participants by their codes.
 use crate::comparing::{same, same_at};
 use inst_base::{Code, Fault};
 use inst_settings::{HubParameters, Settings, parse_codes};
@@ -26,7 +26,7 @@ const MOST: HubParameters = HubParameters {
     base: 4_611_686_018_427_387_904,
 };
 
-/// What the readers tell.
+/// Returns the numbers that the getters return.
 fn told(settings: &Settings) -> HubParameters {
     HubParameters {
         places: settings.places(),
@@ -39,14 +39,14 @@ fn told(settings: &Settings) -> HubParameters {
     }
 }
 
-/// The code of this number: `AAAAD100`, `AAAAD101` and so on.
+/// Returns the code with this number: `AAAAD100`, `AAAAD101` and so on.
 fn code(alloc: Global, index: u32) -> Result<Code, Fail> {
     let number = u64::from(index) + 100;
     let text = format!(in alloc; "AAAAD{number}")?;
     Ok(Code::new(text.as_str())?)
 }
 
-/// So many of them.
+/// Returns the first `count` of these codes.
 fn codes(alloc: Global, count: u32) -> Result<Vec<Code>, Fail> {
     let mut codes = Vec::new(alloc);
     for index in 0..count {
@@ -55,7 +55,7 @@ fn codes(alloc: Global, count: u32) -> Result<Vec<Code>, Fail> {
     Ok(codes)
 }
 
-/// Each is one number past a bound.
+/// Each has one number out of its range by 1.
 const PAST_BOUNDS: &[HubParameters] = &[
     HubParameters { places: 0, ..LEAST },
     HubParameters {
@@ -98,7 +98,7 @@ const PAST_BOUNDS: &[HubParameters] = &[
     },
 ];
 
-/// Settings of these numbers tell them again.
+/// Checks that settings with these numbers return them.
 fn takes(rt: &(impl Abort + AllocGlobal), numbers: HubParameters) -> Result<(), Fail> {
     let settings = Settings::check(codes(rt.alloc(), 1)?, numbers)?;
     same(
@@ -109,7 +109,7 @@ fn takes(rt: &(impl Abort + AllocGlobal), numbers: HubParameters) -> Result<(), 
     Ok(())
 }
 
-/// What so many participants with these numbers are refused for.
+/// Returns the fault of settings with this number of participants and these numbers.
 fn refusal(alloc: Global, count: u32, numbers: HubParameters) -> Result<Option<Fault>, Fail> {
     Ok(Settings::check(codes(alloc, count)?, numbers).err())
 }
@@ -125,7 +125,8 @@ fn numbers_to_their_bounds(rt: HostRuntime) -> Result<(), Fail> {
     Ok(())
 }
 
-/// There are 256 participants, the last has the last number, and no other code has one.
+/// Checks that there are 256 participants, that the last code has the last number, and that no
+/// other code has one.
 fn ends_at_the_last(rt: &impl Abort, settings: &Settings) -> Result<(), Fail> {
     same(rt, settings.participants(), 256);
     has_code(rt, settings, 255, &Code::new("AAAAD355")?);
@@ -133,7 +134,7 @@ fn ends_at_the_last(rt: &impl Abort, settings: &Settings) -> Result<(), Fail> {
     Ok(())
 }
 
-/// How many participants there are, and what that is refused for.
+/// The number of participants, and the fault if that is refused.
 const COUNTS: &[(u32, Option<Fault>)] = &[
     (0, Some(Fault::BadSettings)),
     (1, None),
@@ -141,7 +142,7 @@ const COUNTS: &[(u32, Option<Fault>)] = &[
     (257, Some(Fault::BadSettings)),
 ];
 
-/// Each number of participants is refused so.
+/// Checks the fault of each number of participants.
 fn refuses_counts(rt: &(impl Abort + AllocGlobal)) -> Result<(), Fail> {
     for &(count, fault) in COUNTS {
         same_at(rt, count, refusal(rt.alloc(), count, MOST)?, fault);
@@ -156,13 +157,13 @@ fn participants_to_their_bounds(rt: HostRuntime) -> Result<(), Fail> {
     ends_at_the_last(&rt, &settings)
 }
 
-/// The code has this number, and the number this code.
+/// Checks that the code has this number, and the number this code.
 fn has_code(rt: &impl Abort, settings: &Settings, index: u8, code: &Code) {
     let found = (settings.code(index), settings.index_of(code));
     same(rt, found, (Some(code), Some(index)));
 }
 
-/// There are three codes, numbered as they were given, and no other.
+/// Checks that there are three codes, numbered in the order in which they were given, and no other.
 fn numbers_codes(rt: &impl Abort, settings: &Settings, codes: &[Code; 3]) -> Result<(), Fail> {
     let other = Code::new("DDDDESMM")?;
     let found = (
@@ -178,14 +179,14 @@ fn numbers_codes(rt: &impl Abort, settings: &Settings, codes: &[Code; 3]) -> Res
     Ok(())
 }
 
-/// The settings number the codes so, and a copy of them does.
+/// Checks that the settings and a copy of them number the codes in this way.
 fn copies_codes(rt: &impl Abort, settings: &Settings, codes: &[Code; 3]) -> Result<(), Fail> {
     numbers_codes(rt, settings, codes)?;
     let copy = settings.copy()?;
     numbers_codes(rt, &copy, codes)
 }
 
-/// Three codes of which two are the same are refused.
+/// Checks that three codes are refused if two are equal.
 fn refuses_a_code_twice(rt: &(impl Abort + AllocGlobal), codes: &[Code; 3]) -> Result<(), Fail> {
     let [first, second, _] = *codes;
     for twice in [
@@ -199,7 +200,7 @@ fn refuses_a_code_twice(rt: &(impl Abort + AllocGlobal), codes: &[Code; 3]) -> R
     Ok(())
 }
 
-/// Settings of the codes of this text number them.
+/// Checks that settings with the codes in this text number them.
 fn takes_codes(
     rt: &(impl Abort + AllocGlobal),
     text: &[u8],
@@ -226,8 +227,8 @@ const BANKS: [&str; 8] = [
     "LERC", "MEIS", "NEUN", "PIRO", "RABE", "SPEC", "TAUB", "UHUX",
 ];
 
-/// The text of the code with this number as banks have them, every third with a branch: other
-/// banks, the same bank in other countries and places, and other branches of one bank.
+/// Returns the code with this number as banks have them, every third with a branch: other banks,
+/// the same bank in other countries and places, and other branches of one bank.
 fn bank_text(alloc: Global, index: u32) -> Result<String, AllocError> {
     let bank = BANKS[(index % 8) as usize];
     let country = COUNTRIES[(index / 8 % 8) as usize];
@@ -245,7 +246,7 @@ fn bank_code(alloc: Global, index: u32) -> Result<Code, Fail> {
     Ok(Code::new(text.as_str())?)
 }
 
-/// So many of them.
+/// Returns the first `count` of these codes.
 fn bank_codes(alloc: Global, count: u32) -> Result<Vec<Code>, Fail> {
     let mut codes = Vec::new(alloc);
     for index in 0..count {
@@ -254,7 +255,7 @@ fn bank_codes(alloc: Global, count: u32) -> Result<Vec<Code>, Fail> {
     Ok(codes)
 }
 
-/// The first 64 codes have their numbers, and the others none.
+/// Checks that the first 64 codes have their numbers and the others none.
 fn numbers_the_first(rt: &impl Abort, settings: &Settings, codes: &[Code]) {
     for (number, code) in codes.iter().enumerate() {
         let wanted = if number < 64 { Some(number) } else { None };

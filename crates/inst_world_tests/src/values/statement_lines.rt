@@ -17,7 +17,7 @@ fn hub(alloc: Global) -> Result<Settings, Fault>
     Settings::check(codes.to_vec(alloc)?, HubParameters::DEFAULT)
 }
 
-/// The line is laid out in 91 columns, so.
+/// Checks the text of a line, which has 91 columns.
 fn assert_text(rt: &(impl Abort + AllocGlobal), settings: &Settings, line: &Line, wanted: &str)
     requires { line_fits settings.now line.now ≡ true }
 {
@@ -25,7 +25,7 @@ fn assert_text(rt: &(impl Abort + AllocGlobal), settings: &Settings, line: &Line
     same(rt, (text.len(), text.as_str()), (91, wanted));
 }
 
-/// Fundings have no other side.
+/// Checks lines of fundings, which have no other side.
 fn lays_out_fundings(rt: &(impl Abort + AllocGlobal), hub: &Settings) -> Result<(), Fault>
     requires { participants hub.now ≡ 2 }
 {
@@ -54,7 +54,7 @@ fn lays_out_fundings(rt: &(impl Abort + AllocGlobal), hub: &Settings) -> Result<
     Ok(())
 }
 
-/// Transfers have one, and all columns may be full.
+/// Checks lines of transfers, which have one, with all columns full.
 fn lays_out_transfers(rt: &(impl Abort + AllocGlobal), hub: &Settings) -> Result<(), Fault>
     requires { participants hub.now ≡ 2 }
 {

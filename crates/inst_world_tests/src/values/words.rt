@@ -1,4 +1,4 @@
-//! The words of a place, both ways, against numbers from outside.
+//! The words of a place, packed and unpacked, against numbers computed elsewhere.
 use crate::comparing::{same, same_at};
 use inst_base::{Cents, Fault, Ident, Moment, Reason, mention};
 use inst_command::Outcome;
@@ -89,7 +89,7 @@ fn words_that_no_terms_have(rt: HostRuntime) {
         // 2^63 and more.
         [12_800_001, t1, 1 << 63, 0, 0],
         [12_800_001, t1 + (1 << 63), 0, 0, 0],
-        // No cents, and one more than the most.
+        // No cents, and one cent more than the most.
         [1, t1, 0, 0, 0],
         [100_000_000_000 * 256, t1, 0, 0, 0],
         [u64::MAX, t1, 0, 0, 0],
@@ -112,7 +112,7 @@ fn words_that_no_outcome_has(rt: HostRuntime) {
         // Accepted and timed out with a reason.
         at + (1 << 2) + 1,
         at + (482_116 << 2) + 3,
-        // A reason of 36^4, and the largest number of its room.
+        // A reason of 36^4, and the largest number that its bits hold.
         at + (1_679_616 << 2) + 2,
         at + (2_097_151 << 2) + 2,
     ] {

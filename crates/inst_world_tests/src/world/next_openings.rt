@@ -59,8 +59,8 @@ fn carried_over_an_opening_steps() -> Result<[Step; 7], Fault>
     ])
 }
 
-/// What is told of a transfer that is carried over: it is reserved and known again, then confirmed,
-/// and stands in the statement once it is learnt.
+/// The answers about a carried transfer: it is reserved and known again, then confirmed, and is in
+/// the statement once it is learnt.
 const CARRIED: [ExpectedAnswer; 7] = [
     ExpectedAnswer::Position(50_000, 20_000, 30_000),
     ExpectedAnswer::Taken("T1", 11_000),
@@ -71,7 +71,7 @@ const CARRIED: [ExpectedAnswer; 7] = [
     ExpectedAnswer::Lines(&[(1, LineKind::Paid, Some(B), "T1", 20_000, 30_000)]),
 ];
 
-/// Whether this is the nth answer.
+/// Returns `true` if answer `nth` is the expected one.
 fn is_nth(answers: &[Answer], told: &[ExpectedAnswer], nth: usize) -> bool {
     match (answers.get(nth), told.get(nth)) {
         (Some(answer), Some(told)) => is_told(answer, told),
@@ -79,7 +79,7 @@ fn is_nth(answers: &[Answer], told: &[ExpectedAnswer], nth: usize) -> bool {
     }
 }
 
-/// These are the answers.
+/// Checks that these are the answers.
 fn are_told(rt: &impl Abort, answers: &[Answer], told: &[ExpectedAnswer]) {
     same(rt, answers.len(), told.len());
     for nth in 0..told.len() {
@@ -87,7 +87,7 @@ fn are_told(rt: &impl Abort, answers: &[Answer], told: &[ExpectedAnswer]) {
     }
 }
 
-/// A hub that opens from books in which a transfer was delivered.
+/// Opens a hub from books in which a transfer was delivered.
 fn opened_again(alloc: Global) -> Result<World, Fault> {
     let steps = delivered()?;
     let settings = settings(alloc)?;
@@ -102,7 +102,7 @@ fn carried_over_an_opening(rt: HostRuntime) -> Result<(), Fail> {
     answers(&rt, &mut world, &steps, &CARRIED)
 }
 
-/// Whether these are the events of the book and one more.
+/// Returns `true` if these are the events of the book and one more.
 fn are_one_more(events: &[Event], book: &[Event]) -> bool {
     mention::<Outcome>();
     match events {
@@ -111,7 +111,7 @@ fn are_one_more(events: &[Event], book: &[Event]) -> bool {
     }
 }
 
-/// Whether the slot has the events of its book and one more.
+/// Returns `true` if the slot has the events of its book and one more, and has found all places.
 fn goes_on(slot: &Slot, book: Option<&Journal>) -> bool {
     match book {
         Some(book) => slot.unfound() == 0 && are_one_more(slot.journal().events(), book.events()),
@@ -119,7 +119,7 @@ fn goes_on(slot: &Slot, book: Option<&Journal>) -> bool {
     }
 }
 
-/// Each slot goes on from its book, and each book has its slot.
+/// Checks that each slot extends its book, and each book has its slot.
 fn go_on(rt: &impl Abort, slots: &[Slot], books: &[Journal]) {
     same(rt, slots.len(), books.len());
     for (who, slot) in slots.iter().enumerate() {
@@ -127,7 +127,7 @@ fn go_on(rt: &impl Abort, slots: &[Slot], books: &[Journal]) {
     }
 }
 
-/// The slots of a hub that opens again from these journals go on.
+/// Checks that the slots of a hub opened from these journals extend them.
 fn slots_go_on(
     rt: &(impl Abort + AllocGlobal),
     settings: &Settings,
@@ -140,7 +140,7 @@ fn slots_go_on(
     Ok(())
 }
 
-/// The slots of a hub that opens from the books that these steps leave go on.
+/// Does so with the books that these steps leave.
 fn slots_go_on_after(
     rt: &(impl Abort + AllocGlobal),
     settings: &Settings,
@@ -159,7 +159,7 @@ fn slots_by_number(rt: HostRuntime) -> Result<(), Fail> {
     slots_go_on_after(&rt, &settings, &steps)
 }
 
-/// The steps are answered so at a hub that opens again from these journals.
+/// Checks the answers to the steps at a hub opened from these journals.
 fn runs_from(
     rt: &(impl Abort + AllocGlobal),
     settings: &Settings,
@@ -175,7 +175,7 @@ fn runs_from(
     Ok(())
 }
 
-/// The same from the books that those before them leave.
+/// Does so with the books that the steps `before` leave.
 fn runs_after(
     rt: &(impl Abort + AllocGlobal),
     settings: &Settings,
@@ -252,7 +252,7 @@ fn places_given_back_steps() -> Result<[Step; 6], Fault>
     ])
 }
 
-/// What is told of a settled transfer, which gave its place back, and of a pending one, which has
+/// The answers about a settled transfer, whose place is free again, and a pending one, which has
 /// the first place.
 const GIVEN_BACK: [ExpectedAnswer; 6] = [
     ExpectedAnswer::Taken("T3", 13_000),

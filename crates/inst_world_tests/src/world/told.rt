@@ -1,4 +1,4 @@
-//! What a world tells, by short texts and plain numbers.
+//! Expected answers of a world, as short texts and plain numbers.
 use crate::comparing::same_at;
 use inst_base::{Fault, Ident, Moment};
 use inst_command::{Answer, Outcome, Reply, State, Step};
@@ -9,12 +9,12 @@ use std::test::Fail;
 
 #[derive(Clone, Copy)]
 pub(crate) enum ExpectedAnswer {
-    /// Whether a step was new.
+    /// Whether a step changed a history.
     New(bool),
     Done(&'static str),
     Taken(&'static str, u64),
     Decided(u8, Outcome),
-    /// The position, what of it is reserved, and what is available.
+    /// Position, reserved and available, in cents.
     Position(u64, u64, u64),
     Inbox(&'static [Came]),
     Lines(&'static [Shown]),
@@ -71,7 +71,7 @@ fn is_reply(reply: &Reply, told: &ExpectedAnswer) -> bool {
     }
 }
 
-/// Whether the answer is what is told.
+/// Returns `true` if the answer is the expected one.
 pub(crate) fn is_told(answer: &Answer, told: &ExpectedAnswer) -> bool {
     match (answer, told) {
         (Answer::New(is_new), ExpectedAnswer::New(wanted)) => is_new == wanted,
@@ -80,7 +80,7 @@ pub(crate) fn is_told(answer: &Answer, told: &ExpectedAnswer) -> bool {
     }
 }
 
-/// Whether the step is answered so.
+/// Returns `true` if the step's answer is the expected one.
 fn is_answered(
     rt: &impl Abort,
     world: &mut World,
@@ -95,7 +95,7 @@ fn is_answered(
     }
 }
 
-/// Each step is answered so.
+/// Checks the answer to each step.
 pub(crate) fn answers(
     rt: &impl Abort,
     world: &mut World,

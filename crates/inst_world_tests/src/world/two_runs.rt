@@ -1,4 +1,4 @@
-//! Two scripts in which B sees the same: alone, and among others' traffic.
+//! Two scripts with the same commands and transfers of B: alone, and among others' traffic.
 ghost use Rattle.std.specs.Prelude.{◌≡◌, IfOk};
 ghost use Rattle.inst_model.specs.Rows as rows;
 
@@ -75,8 +75,8 @@ fn among_others() -> Result<[Step; 13], Fault>
     ])
 }
 
-/// What B is told: it is handed out the transfer, told that it is accepted, and shown its line and
-/// its amount.
+/// The replies to B: it fetches the transfer, reads that it is accepted, and sees its statement
+/// line and its position.
 const TOLD: [ExpectedAnswer; 4] = [
     ExpectedAnswer::Inbox(&[(A, "T1", 20_000, 11_000)]),
     ExpectedAnswer::Decided(A, Outcome::Accepted),
@@ -84,7 +84,7 @@ const TOLD: [ExpectedAnswer; 4] = [
     ExpectedAnswer::Position(20_000, 0, 20_000),
 ];
 
-/// Whether B is told so by its nth reply.
+/// Returns `true` if B's reply `nth` is the expected one.
 fn is_nth(nth: usize, answer: &Answer) -> bool {
     match TOLD.get(nth) {
         Some(told) => is_told(answer, told),
@@ -92,7 +92,7 @@ fn is_nth(nth: usize, answer: &Answer) -> bool {
     }
 }
 
-/// How many asks of B are answered as they must be, from the first on.
+/// Counts the asks of B with the expected replies, from the first on.
 fn told_to_b(steps: &[Step], answers: &[Answer]) -> usize {
     let mut count = 0;
     for (step, answer) in steps.iter().zip(answers) {
@@ -104,7 +104,7 @@ fn told_to_b(steps: &[Step], answers: &[Answer]) -> usize {
     count
 }
 
-/// How many asks of B are answered as they must be, alone and among others' traffic.
+/// Counts the asks of B with the expected replies, alone and among others' traffic.
 fn told_in_both(
     alloc: Global,
     settings: &Settings,
@@ -122,8 +122,7 @@ fn told_in_both(
     Ok((first, told_to_b(among_others, busy.answers.as_slice())))
 }
 
-/// Among others' traffic B is told what it is told alone: all four asks are answered as they must
-/// be.
+/// Checks that B's four asks have the expected replies, alone and among others' traffic.
 fn hides_others(rt: &(impl Abort + AllocGlobal), settings: &Settings) -> Result<(), Fail>
     requires { settings.now ≡ rows.settings }
 {

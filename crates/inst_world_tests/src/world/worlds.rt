@@ -1,4 +1,4 @@
-//! Worlds, step by step and line by line, over three participants with 2 places and 4 fundings
+//! Worlds, step by step and line by line, with three participants that have 2 places and 4 fundings
 //! each.
 use crate::comparing::{same, same_at};
 use crate::ledger::asked::outcome;
@@ -23,7 +23,7 @@ fn journal_is(rt: &impl Abort, world: &World, who: u8, events: &[Event]) -> Resu
     Ok(())
 }
 
-/// The position of a participant, and what of it is reserved, if there is such a participant.
+/// Returns position and reserved of a participant, if it exists.
 fn money_of(world: &World, who: u8) -> Option<(u128, u128)> {
     if !world.settings().has_participant(who) {
         return None;
@@ -31,14 +31,14 @@ fn money_of(world: &World, who: u8) -> Option<(u128, u128)> {
     Some((world.position(who), world.journal(who).reserved()))
 }
 
-/// Compares the money of the three participants: position, and what of it is reserved.
+/// Compares position and reserved of the three participants.
 fn money_is(rt: &impl Abort, world: &World, money: [(u128, u128); 3]) {
     for (who, wanted) in money.iter().enumerate() {
         same_at(rt, who, money_of(world, who as u8), Some(*wanted));
     }
 }
 
-/// Whether this is a reply, and no refusal.
+/// Returns `true` if this is a reply other than a refusal.
 fn is_taken(answer: &Answer) -> bool {
     match answer {
         Answer::Reply(reply) => !matches!(reply, Reply::Refused(_)),
@@ -46,8 +46,8 @@ fn is_taken(answer: &Answer) -> bool {
     }
 }
 
-/// The transfer of the first participant to the second lies at its first place, and is pending
-/// until 11,000.
+/// Checks that the first participant's transfer to the second is at its first place, pending until
+/// 11,000.
 fn lies_at_the_first_place(rt: &impl Abort, world: &mut World, id: &Ident) -> Result<(), Fail> {
     let place = Place { owner: 0, index: 0 };
     let deadline = Moment::new(0, 11_000)?;
@@ -58,7 +58,7 @@ fn lies_at_the_first_place(rt: &impl Abort, world: &mut World, id: &Ident) -> Re
     Ok(())
 }
 
-/// The first is funded, and submits a transfer to the second.
+/// Funds the first participant, which submits a transfer to the second.
 fn is_submitted(rt: &impl Abort, world: &mut World) -> Result<(), Fail> {
     mention::<(Ask, Command, Submission)>();
     let steps = [fund(0, "F1", 500, 0)?, submit(0, "T1", 1, 200, 1000, 1000)?];
@@ -74,14 +74,14 @@ fn is_submitted(rt: &impl Abort, world: &mut World) -> Result<(), Fail> {
     lies_at_the_first_place(rt, world, &Ident::new("T1")?)
 }
 
-/// What is told where a transfer comes, twice, and is confirmed.
+/// The answers when a transfer is delivered twice and then confirmed.
 const CONFIRMED: [ExpectedAnswer; 3] = [
     ExpectedAnswer::New(true),
     ExpectedAnswer::New(false),
     ExpectedAnswer::Decided(0, Outcome::Accepted),
 ];
 
-/// The second is told of a transfer of the first, once, and confirms it.
+/// The second participant receives the transfer once, and confirms it.
 fn is_confirmed(rt: &impl Abort, world: &mut World) -> Result<(), Fail> {
     let deliver = Step::Deliver {
         from: 0,
@@ -94,14 +94,14 @@ fn is_confirmed(rt: &impl Abort, world: &mut World) -> Result<(), Fail> {
     Ok(())
 }
 
-/// What is told where an outcome is learnt, twice, and then the deadline passes.
+/// The answers when an outcome is learnt twice and then the deadline passes.
 const LEARNT: [ExpectedAnswer; 3] = [
     ExpectedAnswer::New(true),
     ExpectedAnswer::New(false),
     ExpectedAnswer::New(false),
 ];
 
-/// The first learns it, once, and nothing is left that may expire.
+/// The first participant learns it once, and nothing is left to expire.
 fn is_learnt(rt: &impl Abort, world: &mut World) -> Result<(), Fail> {
     let learn = Step::Learn {
         who: 0,
@@ -136,7 +136,7 @@ const STATEMENTS: [&[Shown]; 3] = [
     &[],
 ];
 
-/// Compares the statements of all participants: none is refused.
+/// Compares the statements of all participants; none is refused.
 fn statements_are(rt: &impl Abort, alloc: Global, world: &World) -> Result<(), Fail> {
     for (who, wanted) in STATEMENTS.iter().enumerate() {
         let who = who as u8;
@@ -159,7 +159,7 @@ fn a_world_goes_step_by_step(rt: HostRuntime) -> Result<(), Fail> {
     statements_are(&rt, rt.alloc(), &world)
 }
 
-/// Whether the reply to the line is no refusal, and the reading of the line.
+/// Returns whether the reply to the line is no refusal, and the line's clock reading.
 fn is_line_taken(
     reader: &mut LineReader,
     runner: &mut Runner,
@@ -172,8 +172,7 @@ fn is_line_taken(
     Ok((is_taken(&answer), at))
 }
 
-/// Runs the line as a run does, and goes over what it names and what is due; it must not be
-/// refused.
+/// Answers the line with its follow-ups, as a run does. It must not be refused.
 fn run_line(
     rt: &impl Abort,
     reader: &mut LineReader,
@@ -185,7 +184,7 @@ fn run_line(
     Ok(follow_up(runner, at)?)
 }
 
-/// Runs the lines one after another.
+/// Answers the lines one after another.
 fn run_lines(
     rt: &(impl Abort + AllocGlobal),
     runner: &mut Runner,
@@ -198,11 +197,11 @@ fn run_lines(
     Ok(())
 }
 
-/// How a transfer of the first participant ended: its beneficiary, its identifier, its cents, and
-/// the end.
+/// A decided transfer of the first participant: its beneficiary, its identifier, its amount in
+/// cents, and its outcome.
 type Ended = (u8, &'static str, u64, End);
 
-/// The beneficiary was told of the transfer, and has booked how it ended.
+/// Checks that the beneficiary received the transfer and booked this outcome.
 fn is_booked(rt: &impl Abort, world: &World, ended: &Ended) -> Result<(), Fail> {
     let (to, id, cents, end) = *ended;
     let id = Ident::new(id)?;
@@ -220,7 +219,7 @@ fn is_booked(rt: &impl Abort, world: &World, ended: &Ended) -> Result<(), Fail> 
     journal_is(rt, world, to, &[forwarded, booked])
 }
 
-/// Runs the lines; then the transfers have ended so, and the money is there.
+/// Answers the lines, and checks the outcomes and the money.
 fn runs_to(
     rt: &(impl Abort + AllocGlobal),
     runner: &mut Runner,
@@ -236,7 +235,7 @@ fn runs_to(
     Ok(())
 }
 
-/// The same at a hub of its own.
+/// Does so at a new hub.
 fn opens_and_runs_to(
     rt: &(impl Abort + AllocGlobal),
     settings: &Settings,
@@ -248,8 +247,8 @@ fn opens_and_runs_to(
     runs_to(rt, &mut runner, lines, ends, money)
 }
 
-/// The histories show what the replies of a run don't: that each side books each outcome, the
-/// originator before its transfer may expire. One is rejected, the other times out, and the first
+/// Each side books each outcome, the originator before its transfer may expire: the histories show
+/// it, the replies of a run don't. One transfer is rejected, the other times out, and the first
 /// participant has its money back.
 #[test]
 fn a_run_tells_both_sides(rt: HostRuntime) -> Result<(), Fail> {

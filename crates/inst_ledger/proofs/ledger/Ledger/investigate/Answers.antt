@@ -11,7 +11,7 @@ returns-then-is_none c =
     let book = c.args.self.now.book in
     let found = c.transfer-known.ensures.found ∙ ap (λ who. found_at c.args.self.now.table.entries (who, c.args.id)) c.who-who.ensures in
     let unknown : is_taken c.args.id book.events ≡ false =
-          taken_found c.args.id book.events ∙ ap is_some (sym (c.sending_in.ensures ∙ ap sending_in found ∙ c.transfer-known.ensures.right.taken c.args.id)) ∙ c.if-is_none.ensures in
+    taken_found c.args.id book.events ∙ ap is_some (sym (c.sending_in.ensures ∙ ap sending_in found ∙ c.transfer-known.ensures.right.taken c.args.id)) ∙ c.if-is_none.ensures in
     search (rules, unknown)
 
 pub returns : goal.returns
@@ -19,7 +19,7 @@ returns c =
     let book = c.args.self.now.book in
     let found = c.transfer-known.ensures.found ∙ ap (λ who. found_at c.args.self.now.table.entries (who, c.args.id)) c.who-who.ensures in
     let known : is_taken c.args.id book.events ≡ true =
-          taken_found c.args.id book.events ∙ ap is_some (sym (c.sending_in.ensures ∙ ap sending_in found ∙ c.transfer-known.ensures.right.taken c.args.id)) ∙ c.if-is_none.ensures in
+    taken_found c.args.id book.events ∙ ap is_some (sym (c.sending_in.ensures ∙ ap sending_in found ∙ c.transfer-known.ensures.right.taken c.args.id)) ∙ c.if-is_none.ensures in
     let outcome : c.outcome_in-booked.result ≡ booked book.who c.args.id book.events =
-          c.outcome_in-booked.ensures ∙ ap outcome_in found ∙ c.transfer-known.ensures.right.booked (book.who, c.args.id) in
+    c.outcome_in-booked.ensures ∙ ap outcome_in found ∙ c.transfer-known.ensures.right.booked (book.who, c.args.id) in
     search (rules, known, outcome)
