@@ -1,5 +1,5 @@
-"""For bin/build: which crates a build proves, which of them are built already, which are proved next with how many
-jobs, and how long all of them take."""
+"""For bin/build: which crates must be proved, which are built already, which are next and with how many jobs, and how
+long all take."""
 
 import contextlib
 import hashlib
@@ -8,10 +8,10 @@ import re
 
 TOP = os.path.dirname(os.path.dirname(os.path.realpath(__file__)))
 CRATES = f"{TOP}/crates"
-# The most memory that one proof was seen to take, in bytes.
+# The most memory that a proof took when it was measured, in bytes.
 LANE_MEMORY = 5_000_000_000
 MOST_JOBS = 4
-# About how much faster a proof of this many jobs is than one of one job.
+# The approximate speed of a proof with this many jobs, relative to one job.
 SPEED = {1: 1.0, 2: 1.5, 3: 1.8, 4: 2.0}
 
 
@@ -22,7 +22,7 @@ def rows_of(file):
 
 
 class Plan:
-    """The crates to be proved, with what they use and how long each takes."""
+    """The crates to prove, with the crates that they use and their times."""
 
     def __init__(self, target, kit):
         self.kit = kit
@@ -39,7 +39,7 @@ class Plan:
             self.chain[name] = self.seconds[name] + max(above, default=0)
 
     def note_below(self, name):
-        """Notes which crates of the repository are below the crate, lowest first."""
+        """Notes which crates of the repository the crate uses, directly or through others, lowest first."""
         found = []
         for dep in (it for it in self.uses[name] if it in self.uses):
             if dep not in self.below:
@@ -61,7 +61,7 @@ class Plan:
         return self.is_program(name) or self.is_static(name)
 
     def target(self, name):
-        """Returns the file that a build of the crate makes, below the crate's folder."""
+        """Returns the file that a build of the crate makes, relative to the crate's folder."""
         if self.is_program(name):
             return f"out/{name}.o"
         return f"out/lib{name}.a" if self.is_static(name) else f"out/built/{name}.rlib"
@@ -70,7 +70,7 @@ class Plan:
         return f"{CRATES}/{name}/out/built/{name}.rlib"
 
     def digest(self, name):
-        """Returns one digest of all that the crate is built from. Those of the crates below it are known."""
+        """Returns a digest of everything that the crate is built from. Needs the digests of the crates that it uses."""
         digest = hashlib.sha256(f"{self.kit}\n{self.lines[name]}\n".encode())
         for part in ("src", "specs", "proofs"):
             for folder, folders, files in os.walk(f"{CRATES}/{name}/{part}"):
@@ -85,7 +85,8 @@ class Plan:
         return digest.hexdigest()
 
     def is_built(self, name):
-        """Returns whether the crate's library is there, built from what is here. A program is always built again."""
+        """Returns whether the crate's library exists and was built from the present sources. A program is always built
+        again."""
         if self.is_linked(name) or not os.path.isdir(self.library(name)):
             return False
         with contextlib.suppress(OSError), open(f"{CRATES}/{name}/out/built/digest", encoding="utf-8") as it:
@@ -103,7 +104,8 @@ class Plan:
                 it.write(self.digests[name])
 
     def choose(self, done, running, lanes):
-        """Returns the crates to start now, each with its jobs. `running` has the jobs of those that are being proved."""
+        """Returns the crates to start now, each with its jobs. `running` has the jobs of the crates that are being
+        proved."""
         ready = [it for it in self.below if it not in done and it not in running]
         ready = [it for it in ready if all(dep in done for dep in self.below[it])]
         ready.sort(key=lambda it: -self.chain[it])
@@ -113,8 +115,8 @@ class Plan:
         for name in ready:
             if idle < 1:
                 break
-            # Only a crate of the longest chain gets more than one job: the processors that no other crate waits for,
-            # and at least half of them.
+            # Only a crate of the longest chain gets more than one job: the processors that no other crate needs, and at
+            # least half of all.
             spare = 1
             if self.chain[name] >= 0.9 * longest:
                 spare = max(lanes // 2, idle - (len(ready) - len(chosen) - 1))
@@ -123,7 +125,8 @@ class Plan:
         return chosen
 
     def time_left(self, done, running, lanes, parts):
-        """Returns the seconds until all is proved, by the table. `parts` has how much of each running crate is done."""
+        """Returns the estimated seconds until everything is proved. `parts` has the finished share of each running
+        crate."""
         done, running, now = set(done), dict(running), 0.0
         ends = {it: self.seconds[it] * (1 - parts.get(it, 0)) / SPEED[jobs] for it, jobs in running.items()}
         while True:
@@ -146,13 +149,13 @@ def number_in(file, default):
 
 
 def lanes():
-    """Returns how many proofs run side by side: one a processor, where there is enough free memory for each."""
+    """Returns how many proofs run side by side: one for each processor, if there is enough free memory for each."""
     with open("/proc/meminfo", encoding="utf-8") as it:
         free = 1024 * int(re.search(r"MemAvailable:\s+(\d+)", it.read())[1])
     group = "/sys/fs/cgroup"
     used = number_in(f"{group}/memory.current", 0)
     free = min(free, number_in(f"{group}/memory.max", free + used) - used)
     processors = len(os.sched_getaffinity(0))
-    # A quota of microseconds in each tenth of a second, by default.
+    # The quota is in microseconds for each tenth of a second, the default period.
     processors = min(processors, number_in(f"{group}/cpu.max", processors * 100_000) // 100_000)
     return max(1, min(processors, free // LANE_MEMORY))

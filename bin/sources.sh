@@ -1,8 +1,8 @@
 # shellcheck shell=bash
-# For the scripts beside this file: which program and library belong to the sources that are checked out. Each script
+# For the other scripts in bin/: finds which program and library belong to the sources that are checked out. Each script
 # sets `top`, the repository's folder, before it reads this file.
 
-# NAME..: prints these crates and the crates of the repository below them, in the order of crates.txt.
+# NAME..: prints these crates and those of the repository that they use, in the order of crates.txt.
 crates_below() {
     awk -v wanted=" $* " '
         { sub(/#.*/, ""); name = $1; sub(/:$/, "", name) }
@@ -21,7 +21,7 @@ crates_below() {
         }' "$top/crates.txt"
 }
 
-# FILE..: prints one digest of all sources that these files and folders have, by name and contents.
+# FILE..: prints one digest of all sources in these files and folders, by name and contents.
 digest_files() {
     (
         set -o pipefail
@@ -32,7 +32,7 @@ digest_files() {
 }
 
 # KIT CRATES..: prints one digest of everything that a build of these crates reads: the kit's line, the crates' lines in
-# crates.txt, and their files. Two halves of the files are read side by side. Fails if a file can't be read.
+# crates.txt, and their files. Two halves of the files are read in parallel. Fails if a file can't be read.
 digest_sources() {
     local kit=$1 name rest part lines='' files=() digests half
     shift
@@ -55,8 +55,8 @@ digest_sources() {
     )
 }
 
-# SCRIPT: prints the digest of what the program and the library are built from, without the kit's line; ends the script
-# if a file can't be read.
+# SCRIPT: prints the digest of the sources of the program and the library, without the kit's line. Ends the script if a
+# file can't be read.
 digest_here() {
     # shellcheck disable=SC2046
     digest_sources '' $(crates_below inst_main inst_c) || cannot_compare "$1"
@@ -68,7 +68,7 @@ cannot_compare() {
     exit 1
 }
 
-# SCRIPT: returns whether release/ was made from the sources that are checked out, and nobody asked for a build.
+# SCRIPT: returns whether release/ was made from the sources that are checked out, and no build was asked for.
 is_released() {
     local kit crates digest found
     [ -z "${INST_FROM_SOURCE-}" ] && [ -r "$top/release/SOURCES" ] || return 1
@@ -78,12 +78,12 @@ is_released() {
     [ "$found" = "$digest" ]
 }
 
-# NAME: returns whether the file of release/ has the digest that SHA256SUMS gives.
+# NAME: returns whether the file of release/ has the digest in SHA256SUMS.
 is_intact() {
     (cd -- "$top/release" && grep " $1\$" SHA256SUMS | sha256sum --check --strict --status)
 }
 
-# SCRIPT NAME..: ends the script if one of these files of release/ isn't what SHA256SUMS says.
+# SCRIPT NAME..: ends the script if one of these files of release/ has another digest than in SHA256SUMS.
 require_intact() {
     local script=$1 name
     shift
@@ -96,20 +96,20 @@ require_intact() {
     done
 }
 
-# Prints the line of the kit whose `rt` is on the PATH, and nothing if it can't tell. `rt version` prints the same as
-# the file beside it, but takes a quarter of a second.
+# Prints the line of the kit whose `rt` is on the PATH, or nothing if it can't find it. `rt version` prints the same as
+# the file next to it, but takes a quarter of a second.
 kit_line() {
     local file
     file=$(readlink -f -- "$(command -v rt)")
     cat -- "${file%/*}/../KIT-ID" 2> /dev/null || rt version 2> /dev/null || :
 }
 
-# SCRIPT FOLDER: returns whether a build here has put its result into the folder, from the sources and by the kit that
-# are here now. The folder's files `sources` and `kit` say what it was built from and by.
+# SCRIPT FOLDER: returns whether the folder has the result of a build here, from the present sources and by the present
+# kit. The folder's files `sources` and `kit` say what it was built from.
 is_built() {
     local kit='' built_by found
     [ -s "$2/sources" ] && [ -e "$2/kit" ] || return 1
-    # Without a kit at hand, or with one that can't tell what it is, the result is taken as it is.
+    # Without a kit, or with one that can't be identified, the result is used as it is.
     if command -v rt > /dev/null; then
         kit=$(kit_line)
     fi
@@ -121,7 +121,7 @@ is_built() {
     [ "$found" = "$(< "$2/sources")" ]
 }
 
-# BEGAN FOLDER: notes in the folder of a build's result what it was built from and by. BEGAN has the digest of the
+# BEGAN FOLDER: notes in the folder of a build's result what it was built from. BEGAN is a file with the digest of the
 # sources as the build began; if they have changed since, the next start builds again.
 note_built() {
     : > "$2/sources"
@@ -145,7 +145,7 @@ find_program() {
     fi
 }
 
-# Prints what links a shared library here: the C compiler, its linker and the C library.
+# Prints which tools link a shared library here: the C compiler, its linker and the C library.
 linker() {
     local compiler=${CC:-cc}
     {
@@ -155,7 +155,7 @@ linker() {
     } 2> /dev/null | paste -s -d ';'
 }
 
-# SCRIPT [COMMAND..]: ends the script if a command that a build takes isn't there.
+# SCRIPT [COMMAND..]: ends the script if a command that a build needs is missing.
 require_build() {
     local script=$1 command
     shift

@@ -1,6 +1,6 @@
 # shellcheck shell=bash
-# For bin/test and bin/check: stages that run side by side, each in a process group of its own. The script reads this
-# file once; `room` is then a folder for it, which is removed at its end.
+# For bin/test and bin/check: stages that run side by side, each in its own process group. A script reads this file
+# once; `room` is then a temporary folder, which is removed when the script ends.
 
 minutes=''
 runs=()
@@ -26,7 +26,7 @@ start() {
     set +m
 }
 
-# Ends the stages that still run, with all that they have started.
+# Ends the stages that still run, with all processes that they have started.
 leave() {
     local run
     for run in "${runs[@]}"; do
@@ -36,7 +36,7 @@ leave() {
 }
 trap leave EXIT
 
-# Waits for the stages that were started, and shows what each printed, in their order; fails if one has failed.
+# Waits for the stages that were started, and prints the output of each, in their order. Fails if one has failed.
 finish() {
     local number process name status=0
     for number in "${!runs[@]}"; do
@@ -50,9 +50,9 @@ finish() {
 
 check_documents() {
     if command -v python3 > /dev/null; then
-        bin/check_schema && bin/check_believed && bin/check_pages && bin/pictures --check
+        bin/check_schema && bin/check_believed && bin/check_pages && bin/check_documents && bin/pictures --check
     else
-        echo "no python3 here, so docs/lines.schema.json, the table of docs/HEADLINE.md, the crates' pages and" \
-            "docs/life.svg aren't checked"
+        echo "no python3 here, so docs/lines.schema.json, the table of docs/promises.md, the documents and" \
+            "pictures aren't checked"
     fi
 }

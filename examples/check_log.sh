@@ -1,7 +1,7 @@
 #!/usr/bin/env bash
-# Verifies a log without the hub: each mark has the digest of the lines before it, from the mark before them on, and a byte
-# 0 follows the last mark. What follows that byte is ignored. The first word names the log. Without it, a log is made and verified, once as it is and once
-# with another amount in it.
+# Verifies a log without the hub: each mark has the digest of the lines before it, from the previous mark on, and a byte
+# 0 follows the last mark. Everything after that byte is ignored. The first word names the log. Without it, a log is
+# made and verified, first as it is and then with a changed amount.
 set -eu
 export LC_ALL=C
 

@@ -1,5 +1,5 @@
 #!/usr/bin/env bash
-# A hub with a log is killed in the middle of a load, and goes on where it was: no reply is lost, and none comes twice.
+# A hub with a log is killed in the middle of a load, and resumes: no reply is lost, and none is written twice.
 set -eu
 
 top=$(cd -- "$(dirname -- "$(readlink -f -- "${BASH_SOURCE[0]}")")/.." && pwd -P)
@@ -7,12 +7,12 @@ top=$(cd -- "$(dirname -- "$(readlink -f -- "${BASH_SOURCE[0]}")")/.." && pwd -P
 made=$(mktemp -d)
 trap 'rm -rf -- "$made"' EXIT
 
-# WORDS..: becomes a hub with these options too.
+# WORDS..: becomes a hub with these options in addition.
 hub() {
     exec "$top/bin/inst_main" run --participants AAAADEFF,BBBBFRPP --places 1024 "$@"
 }
 
-# Each bank is funded, and submits a thousand transfers; the other one confirms each.
+# Each bank is funded and submits a thousand transfers; the other bank confirms each.
 {
     printf '{"at":0,"cents":5000,"cmd":"fund","ref":"F1","who":"%s"}\n' AAAADEFF BBBBFRPP
     for n in {1..1000}; do
@@ -25,7 +25,7 @@ hub() {
 } > "$made/load"
 echo "$(wc -l < "$made/load") lines are to be answered"
 
-# It is killed somewhere in the load: a thousand of its replies were read, and more are on their way.
+# Kills the hub in the middle of the load: a thousand of its replies were read, and more are on their way.
 mkfifo "$made/pipe"
 hub --log "$made/hub.log" < "$made/load" > "$made/pipe" &
 exec 3< "$made/pipe"
@@ -38,12 +38,12 @@ status=0
 echo "the hub is killed after $count replies, its exit status is $status"
 cat <&3 >> "$made/replies"
 
-# Whoever feeds the hub counts the whole replies that came, and looks how many lines the log has.
+# The client counts the whole replies that it received, and asks how many lines the log has.
 told=$(wc -l < "$made/replies")
 lines=$("$top/bin/inst_main" log "$made/hub.log" | sed -n 's/^lines //p')
 [ "$lines" -ge "$told" ] && echo "its log has each line whose reply came"
 
-# First come the replies to lines of the log that didn't come, and then those to the lines that it doesn't have.
+# First come the replies to lines of the log that were not received, then those to the lines that the log doesn't have.
 head -n "$told" "$made/replies" > "$made/whole"
 tail -n +$((lines + 1)) "$made/load" | hub --log "$made/hub.log" --told "$told" >> "$made/whole"
 echo "the hub goes on from its log: $(wc -l < "$made/whole") replies in all"

@@ -1,6 +1,6 @@
 #!/usr/bin/env bash
-# A hub uses up its places and is closed, and the next opening goes on from its books: what is pending is pending,
-# identifiers stay taken, and the places of what is settled are free again.
+# A hub uses up its places and is closed. The next opening begins with its books: pending transfers stay pending,
+# identifiers stay taken, and the places of settled transfers are free again.
 set -eu
 
 top=$(cd -- "$(dirname -- "$(readlink -f -- "${BASH_SOURCE[0]}")")/.." && pwd -P)
@@ -8,7 +8,7 @@ top=$(cd -- "$(dirname -- "$(readlink -f -- "${BASH_SOURCE[0]}")")/.." && pwd -P
 made=$(mktemp -d)
 trap 'rm -rf -- "$made"' EXIT
 
-# LOG: answers lines as a hub with two places for each originator, and keeps them in this log.
+# LOG: answers lines as a hub with this log and two places for each originator.
 hub() {
     "$top/bin/inst_main" run --participants AAAADEFF,BBBBFRPP --places 2 --log "$made/$1"
 }

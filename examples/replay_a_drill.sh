@@ -1,6 +1,6 @@
 #!/usr/bin/env bash
-# A drill whose threads race, and the same hub once more in one thread: the drill writes its script, and `play` over it
-# ends with the positions that the drill reported, and with a statement line for each transfer that was accepted.
+# A drill whose threads race, and the same hub once more in one thread. The drill writes its script; a `play` of it ends
+# with the positions that the drill reported, and with a statement line for each accepted transfer.
 set -eu
 
 top=$(cd -- "$(dirname -- "$(readlink -f -- "${BASH_SOURCE[0]}")")/.." && pwd -P)
@@ -32,7 +32,7 @@ questions() {
 
 echo "the script in one thread:"
 grep -c '"reply":"refused"' "$made/replies" | sed 's/^/refused: /'
-# What each participant is to have by the drill's own report.
+# The money of each participant by the drill's report.
 wanted=$'{"available":'$((20000 - 100 * accepted))',"position":'$((20000 - 100 * accepted))$',"reply":"position","reserved":0}\n'
 wanted+='{"available":'$((100 * accepted))',"position":'$((100 * accepted))',"reply":"position","reserved":0}'
 [ "$(grep '"reply":"position"' "$made/replies")" = "$wanted" ] && echo "positions: as the drill reported"

@@ -1,5 +1,5 @@
 #!/usr/bin/env python3
-"""A bank's side of a hub over pipes: each line is sent once the reply to the one before it has come."""
+"""A bank's side of a hub over pipes: sends each line after the reply to the one before was received."""
 import json
 import pathlib
 import subprocess
@@ -16,7 +16,7 @@ hub = subprocess.Popen(
 
 
 def ask(**command):
-    """Sends a command, and returns its reply."""
+    """Sends a command and returns its reply."""
     line = json.dumps(command, separators=(",", ":"), sort_keys=True)
     hub.stdin.write(line + "\n")
     hub.stdin.flush()

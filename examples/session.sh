@@ -1,5 +1,5 @@
 #!/usr/bin/env bash
-# A bank's side of a hub over a coprocess: each line is sent once the reply to the one before it has come.
+# A bank's side of a hub over a coprocess: sends each line after the reply to the one before was received.
 set -eu
 
 top=$(cd -- "$(dirname -- "$(readlink -f -- "${BASH_SOURCE[0]}")")/.." && pwd -P)
@@ -7,7 +7,7 @@ top=$(cd -- "$(dirname -- "$(readlink -f -- "${BASH_SOURCE[0]}")")/.." && pwd -P
 coproc HUB { exec "$top/bin/inst_main" run --participants AAAADEFF,BBBBFRPP; }
 to=${HUB[1]} from=${HUB[0]} pid=$HUB_PID
 
-# LINE: sends it, and leaves its reply in `reply`.
+# LINE: sends it, and sets `reply` to its reply.
 ask() {
     printf '%s\n' "$1" >&"$to"
     read -r reply <&"$from"

@@ -1,5 +1,5 @@
 #!/usr/bin/env python3
-"""Shows reply lines as a person reads them, amounts in euro: bin/inst_main run .. < lines | examples/show.py"""
+"""Prints reply lines for a person, with amounts in euro: bin/inst_main run .. < lines | examples/show.py"""
 
 import json
 import sys
@@ -12,7 +12,7 @@ def euros(cents):
 
 
 def statement(lines):
-    """A table of statement lines, by their columns (docs/FORMATS.md)."""
+    """Prints a table of statement lines, by their columns (docs/formats.md)."""
     yield f"{'no.':>6}  {'':8}  {'other':11}  {'identifier or reference':35}  {'euro':>14}  {'position':>16}"
     for line in lines:
         number, kind, other, name = line[:6], line[7:10].strip(), line[11:22], line[23:58]

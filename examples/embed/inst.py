@@ -62,7 +62,7 @@ _LIBRARY = _library()
 
 
 class Refused(Exception):
-    """A call answered another status than DONE, which is `status`."""
+    """A call returned another status than DONE; it is in `status`."""
 
     def __init__(self, status):
         super().__init__(f"{status} {NAMES.get(status, '')}")
@@ -75,14 +75,15 @@ def _check(status):
 
 
 def _within(name, number, bits):
-    """The number, where the C type has room for it: ctypes would cut it without a word."""
+    """Returns the number if the C type can hold it; ctypes would cut it silently."""
     if not 0 <= number < 1 << bits:
         raise Refused(BAD_SETTINGS)
     return number
 
 
 class Hub:
-    """A hub in this thread. Amounts are cents, moments absolute milliseconds. Close it, or use it by `with`."""
+    """A hub in this thread. Amounts are in cents, moments are absolute milliseconds. Close it, or use it in a `with`
+    statement."""
 
     def __init__(
         self,
@@ -105,7 +106,7 @@ class Hub:
         _check(_LIBRARY.inst_open(self._hub, codes, len(codes), settings, is_play))
 
     def answer(self, line):
-        """The reply to a line, as bytes without a newline, and whether it is a refusal."""
+        """Returns the reply to a line, as bytes without a newline, and whether it is a refusal."""
         _check(_LIBRARY.inst_answer(self._hub, line, len(line), self._told))
         if self._told.length > len(self._buffer):
             self._buffer = ctypes.create_string_buffer(self._told.length)
@@ -113,7 +114,7 @@ class Hub:
         return ctypes.string_at(self._buffer, self._told.length - 1), self._told.is_refused
 
     def close(self):
-        """Frees the hub. Another call finds none."""
+        """Frees the hub. A later call raises `Refused` with the status CLOSED."""
         _check(_LIBRARY.inst_close(self._hub))
 
     def __enter__(self):

@@ -1,5 +1,5 @@
-/* What want of memory does: of a short session the first request for memory is refused, then of another one the second,
- * and so on, until one session ends before. The linker is to put `__wrap_malloc` for `malloc`, and so for `realloc`. */
+/* Shows what an allocation failure does: the first request for memory of a short session fails, then the second one of
+ * another session, and so on, until a session has fewer requests. Link with --wrap=malloc,--wrap=realloc. */
 #include <stdio.h>
 #include <stdlib.h>
 #include <string.h>
@@ -20,7 +20,7 @@ void *__real_realloc(void *block, size_t size);
 void *__wrap_malloc(size_t size);
 void *__wrap_realloc(void *block, size_t size);
 
-/* Requests until one is refused, or 0. */
+/* The number of requests up to the one that fails, or 0 if none does. */
 static size_t until;
 
 static bool is_refused(void) { return until > 0 && --until == 0; }
@@ -29,7 +29,7 @@ void *__wrap_malloc(size_t size) { return is_refused() ? NULL : __real_malloc(si
 
 void *__wrap_realloc(void *block, size_t size) { return is_refused() ? NULL : __real_realloc(block, size); }
 
-/* Opens a hub and has it answer all lines, unless a status is none of INST_DONE. */
+/* Opens a hub and answers all lines, up to the first status other than INST_DONE. */
 static uint32_t session(struct inst_hub *hub) {
     struct inst_settings settings = INST_SETTINGS;
     struct inst_told told;
@@ -46,7 +46,7 @@ int main(void) {
         uint32_t status = session(&hub);
         bool was_refused = until == 0;
         until = 0;
-        /* A request may also be made again, for less. */
+        /* A failed request may be repeated for less memory, and then the session succeeds. */
         bool is_right = status == INST_DONE ? inst_close(&hub) == INST_DONE : status == INST_MEMORY && !hub.is_open;
         if (!is_right || (nth < 20 && !was_refused)) {
             printf("request %zu: status %u\n", nth, (unsigned)status);

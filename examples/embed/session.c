@@ -1,5 +1,5 @@
-/* Answers each line of standard input by one line, as `inst_main` does with the same words, `--participants` first: no
- * program and no pipe, the hub is in this process. */
+/* Answers each line of standard input by one line, as `inst_main` does with the same words, `--participants` first. The
+ * hub is in this process: there is no other program and no pipe. */
 #define _POSIX_C_SOURCE 200809L
 
 #include <stdio.h>
@@ -9,13 +9,13 @@
 
 #include "inst.h"
 
-/* A reply, in room that grows. */
+/* A reply, in a buffer that grows. */
 struct reply {
     uint8_t *bytes;
     size_t capacity;
 };
 
-/* Writes the reply to a line, where all goes well. */
+/* Answers a line and writes its reply, unless a call fails. */
 static uint32_t answer(struct inst_hub *hub, const char *line, size_t length, struct reply *reply) {
     struct inst_told told;
     uint32_t status = inst_answer(hub, (const uint8_t *)line, length, &told);
@@ -51,7 +51,7 @@ static uint32_t answer_all(struct inst_hub *hub) {
     return status;
 }
 
-/* Puts a number where the option of this name has it, if there is room. */
+/* Sets the option of this name, if there is one and its type can hold the number. */
 static bool choose(struct inst_settings *settings, const char *option, uint64_t number) {
     if (strcmp(option, "--base") == 0)
         settings->base = number;

@@ -1,6 +1,6 @@
 #!/usr/bin/env python3
-"""Answers each line of standard input by one line, as `inst_main` does with the same words: no program and no pipe, the
-hub is in this process."""
+"""Answers each line of standard input by one line, as `inst_main` does with the same words. The hub is in this process:
+there is no other program and no pipe."""
 import argparse
 import sys
 

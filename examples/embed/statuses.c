@@ -1,4 +1,4 @@
-/* Each status of the calls of inst.h, with what the hub has afterwards. */
+/* Shows each status of the calls of inst.h, and the hub afterwards. */
 #include <stdio.h>
 #include <string.h>
 
@@ -19,7 +19,7 @@ static uint32_t answer(struct inst_hub *hub, const char *text, struct inst_told 
     return inst_answer(hub, (const uint8_t *)text, strlen(text), told);
 }
 
-/* Settings that no hub can have. */
+/* Settings that are refused. */
 static void refuse(struct inst_hub *hub) {
     struct inst_settings settings = INST_SETTINGS, bad = INST_SETTINGS;
     show("no participant", open_hub(hub, "", &settings), hub);

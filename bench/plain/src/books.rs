@@ -1,4 +1,4 @@
-//! What a hub keeps of a participant.
+//! A participant's books.
 use crate::text::{Ident, Reason};
 use indexmap::IndexMap;
 
@@ -10,7 +10,7 @@ pub enum State {
     TimedOut,
 }
 
-/// A transfer, at its originator.
+/// A transfer at its originator.
 pub struct Transfer {
     pub to: u8,
     pub cents: u64,
@@ -37,7 +37,7 @@ impl Kind {
     }
 }
 
-/// An entry of a statement: a funding of the participant by its position, or a transfer by its originator and position.
+/// An entry of a statement: a funding by its index, or a transfer by its originator and index.
 pub struct Entry {
     pub kind: Kind,
     pub owner: u8,
@@ -49,9 +49,9 @@ pub struct Entry {
 pub struct Participant {
     pub fundings: IndexMap<Ident, (Kind, u64)>,
     pub transfers: IndexMap<Ident, Transfer>,
-    /// The transfers that came to it, by originator and position.
+    /// The transfers forwarded to it, by originator and index.
     pub inbox: Vec<(u8, u32)>,
-    /// How many of them were handed out.
+    /// How many of them were fetched.
     pub fetched: usize,
     pub position: u64,
     pub reserved: u64,
@@ -63,7 +63,7 @@ impl Participant {
         self.position - self.reserved
     }
 
-    /// The position goes up by so much, or down.
+    /// Books an amount: changes the position, and appends a statement entry.
     pub fn enter(&mut self, kind: Kind, owner: u8, index: usize, cents: u64) {
         match kind {
             Kind::Funded | Kind::Received => self.position += cents,

@@ -1,4 +1,4 @@
-/// Why a line is refused, by its number.
+/// The fault of a refused line, by its number.
 #[derive(Clone, Copy, Debug, PartialEq, Eq)]
 pub enum Fault {
     NotJson = 1,

@@ -1,8 +1,9 @@
-//! The fields of a line. What a command doesn't have is passed over, and of a field that is given twice the last counts.
+//! The fields of a line. Fields that a command doesn't have are ignored, and the last one of a field given twice
+//! counts.
 use serde::Deserialize;
 use serde_json::Value;
 
-/// The texts and whole numbers of a line: what is missing, or of another form, is none.
+/// The texts and whole numbers of a line; `None` if one is missing or has another form.
 #[derive(Default, Deserialize)]
 #[serde(default)]
 pub struct Fields<'a> {
@@ -23,8 +24,8 @@ pub struct Fields<'a> {
 }
 
 impl<'a> Fields<'a> {
-    /// The fields of a line of the usual form: an object in which no field is given twice, texts have no escapes, and
-    /// all that is known has its form.
+    /// Reads a line of the usual form: an object in which no field is given twice, texts have no escapes, and all known
+    /// fields have their form.
     pub fn usual(line: &'a str) -> Option<Self> {
         if line.trim_start().starts_with('{') {
             serde_json::from_str(line).ok()

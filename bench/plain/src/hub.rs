@@ -1,4 +1,4 @@
-//! A hub: what its participants ask, and what follows.
+//! A hub: its commands, and their follow-ups.
 use crate::books::{Kind, Participant, State, Transfer};
 use crate::fault::Fault;
 use crate::reading::{Ask, Command};
@@ -16,7 +16,7 @@ pub struct Hub {
     due: BinaryHeap<Reverse<(u64, u8, u32)>>,
 }
 
-/// How a beneficiary decides.
+/// A beneficiary's decision.
 #[derive(Clone, Copy)]
 enum Decision {
     Confirm,
@@ -80,7 +80,7 @@ impl Hub {
         )
     }
 
-    /// The reply to the ask, at the end of the output, and then what is due.
+    /// Appends the reply to the ask to the output, and then times out the due transfers.
     pub fn answer(&mut self, ask: &Ask, out: &mut impl Write) -> io::Result<()> {
         let written = match self.reply(ask) {
             Ok(reply) => write_reply(out, &reply),
@@ -200,7 +200,7 @@ impl Hub {
         Ok(taken)
     }
 
-    /// The transfer ends so: its money is released, or goes to its beneficiary.
+    /// Decides the transfer: its amount is released, or paid to its beneficiary.
     fn end(&mut self, from: u8, index: usize, state: State) {
         let originator = self.participant_mut(from);
         let transfer = &mut originator.transfers[index];
@@ -301,7 +301,7 @@ impl Hub {
         }
     }
 
-    /// What is pending and due at this reading times out.
+    /// Times out the pending transfers that are due at this clock reading.
     fn time_out(&mut self, at: u64) {
         while let Some(&Reverse((deadline, from, index))) = self.due.peek() {
             if deadline > at {

@@ -1,5 +1,5 @@
-//! The load of `inst_loads` at a shared hub: `uniform`, `split` or `hot`, threads, rounds, and how many transfers each
-//! thread makes in a round.
+//! The load of `inst_loads` on a shared hub. The words are `uniform`, `split` or `hot`, the numbers of threads and of
+//! rounds, and the number of transfers of each thread in a round.
 use crate::shared::{SharedHub, Size, Submission};
 use crate::text::Ident;
 use std::thread;
@@ -27,12 +27,12 @@ enum Pattern {
 struct Load {
     pattern: Pattern,
     threads: u32,
-    /// How many transfers each thread makes in a round.
+    /// The number of transfers of each thread in a round.
     share: u32,
 }
 
 impl Pattern {
-    /// The most transfers for which each of so many threads finds places.
+    /// Returns the most transfers of each thread that find places.
     fn most(self, threads: u32) -> u32 {
         match self {
             Pattern::Uniform => PARTICIPANTS * PLACES / threads,
@@ -61,7 +61,7 @@ fn pair_of(first: u32, size: u32, number: u32) -> (u8, u8) {
     ((first + from) as u8, (first + to) as u8)
 }
 
-/// How many of the thread's transfers were accepted.
+/// Returns how many of the thread's transfers were accepted.
 fn settle(hub: &SharedHub, load: Load, thread: u32) -> u32 {
     let mut settled = 0;
     for number in 0..load.share {
@@ -103,8 +103,8 @@ fn round(load: Load) -> Option<u32> {
     (is_whole && settled == load.share * load.threads).then_some(settled)
 }
 
-/// Runs the load that the words choose: how many transfers were settled, or nothing where one wasn't. Without a word for
-/// it each thread makes as many as find places.
+/// Runs the load that the words ask for. Returns how many transfers were settled, or `None` if one wasn't. By default
+/// each thread makes as many as find places.
 pub fn run(words: &[String]) -> Option<u64> {
     let pattern = match words.first()?.as_str() {
         "uniform" => Pattern::Uniform,

@@ -1,5 +1,5 @@
-//! A hub as one would write it without proofs, to measure against: in one thread with the replies of `inst_main run`, and
-//! with a first word `load` the load of `inst_loads` at one that threads share.
+//! A hub without proofs, to measure against: in one thread with the replies of `inst_main run`, and with a first word
+//! `load` the load of `inst_loads` on a hub that threads share.
 mod books;
 mod fault;
 mod fields;
@@ -20,7 +20,7 @@ use std::process::ExitCode;
 
 const MOST_BYTES: usize = 4_096;
 
-/// The reply to a line, at the end of the output.
+/// Appends the reply to a line to the output.
 fn answer(hub: &mut Hub, line: &[u8], out: &mut impl Write) -> io::Result<()> {
     if line.len() > MOST_BYTES {
         return hub.write_fault(out, Fault::LineTooLong);
@@ -37,7 +37,7 @@ fn run(settings: Settings) -> io::Result<()> {
     let mut out = BufWriter::with_capacity(1 << 16, io::stdout().lock());
     let mut line = Vec::new();
     loop {
-        // Whoever waits for a reply before the next line has it.
+        // A client that waits for a reply before its next line gets it here.
         if input.buffer().is_empty() {
             out.flush()?;
         }

@@ -1,4 +1,4 @@
-//! From a line to an ask.
+//! Reading of an ask from a line.
 use crate::fault::Fault;
 use crate::fields::Fields;
 use crate::settings::Settings;
@@ -43,7 +43,7 @@ fn count(field: Option<u64>) -> Result<usize, Fault> {
     }
 }
 
-/// The checks of values that come after those of all forms.
+/// The checks of values, which come after those of all forms.
 struct Checks<'a> {
     settings: &'a Settings,
 }
@@ -107,7 +107,7 @@ fn submission(checks: &Checks, fields: &Fields, who: &Code, at: u64) -> Result<A
     Ok(Ask { who, at, command })
 }
 
-/// A confirmation, or with a reason a rejection.
+/// Returns a confirmation, or a rejection if there is a reason.
 fn decision(
     checks: &Checks,
     fields: &Fields,
@@ -127,7 +127,7 @@ fn decision(
     Ok(Ask { who, at, command })
 }
 
-/// The ask of a line, or the first refusal.
+/// Returns the ask of a line, or its first fault.
 pub fn read(settings: &Settings, line: &[u8]) -> Result<Ask, Fault> {
     let line = std::str::from_utf8(line).map_err(|_| Fault::NotJson)?;
     if let Some(fields) = Fields::usual(line) {
@@ -137,7 +137,7 @@ pub fn read(settings: &Settings, line: &[u8]) -> Result<Ask, Fault> {
     ask(settings, &Fields::from(&value))
 }
 
-/// The ask of a line's fields, or the first refusal.
+/// Returns the ask of a line's fields, or its first fault.
 fn ask(settings: &Settings, fields: &Fields) -> Result<Ask, Fault> {
     let checks = Checks { settings };
     let cmd = text(fields.cmd)?;

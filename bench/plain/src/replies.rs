@@ -1,4 +1,4 @@
-//! Replies as lines of JSON, their keys in byte order.
+//! Replies as lines of JSON, with keys in byte order.
 use crate::books::{Entry, Kind, State};
 use crate::hub::Hub;
 use crate::text::{Ident, Reason};
@@ -52,7 +52,7 @@ pub enum Reply<'a> {
     },
 }
 
-/// What became of a transfer.
+/// The state of a transfer.
 pub fn state_reply<'a>(from: &'a str, id: &'a Ident, state: &'a State) -> Reply<'a> {
     let id = id.as_str();
     let reply = "state";
@@ -80,7 +80,7 @@ fn rejected<'a>(from: &'a str, id: &'a str, reason: &'a Reason) -> Reply<'a> {
     }
 }
 
-/// The entries that are handed out.
+/// The fetched entries.
 pub struct Inbox<'a> {
     pub hub: &'a Hub,
     pub entries: &'a [(u8, u32)],
@@ -110,11 +110,11 @@ impl Serialize for Inbox<'_> {
     }
 }
 
-/// Lines of the statement of a participant.
+/// Lines of a participant's statement.
 pub struct Lines<'a> {
     pub hub: &'a Hub,
     pub who: u8,
-    /// How many entries stand before these.
+    /// The number of entries before these.
     pub skip: usize,
     pub entries: &'a [Entry],
 }

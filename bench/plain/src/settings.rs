@@ -1,4 +1,4 @@
-//! What a hub is opened with. Ranges are checked only where a wrong value would do harm here.
+//! The settings of a hub. Ranges are checked only where a wrong value would do harm here.
 use crate::text::Code;
 use std::collections::HashMap;
 
@@ -18,7 +18,7 @@ pub struct Settings {
 }
 
 impl Settings {
-    /// The settings of these words, as the options of `inst_main run`.
+    /// Returns the settings of these words, which are the options of `inst_main run`.
     pub fn of(mut words: impl Iterator<Item = String>) -> Option<Settings> {
         let mut settings = Settings {
             codes: Vec::new(),

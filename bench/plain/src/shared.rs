@@ -1,5 +1,5 @@
-//! A hub that threads share, as one would write it without proofs: a lock for each participant, and an atomic word for
-//! the outcome of each transfer, so that both sides agree on it without a lock of both.
+//! A hub without proofs that threads share: a lock for each participant, and an atomic word for the outcome of each
+//! transfer, so that both sides agree on it without holding both locks.
 use crate::fault::Fault;
 use crate::text::Ident;
 use indexmap::IndexMap;
@@ -11,7 +11,7 @@ const PENDING: u8 = 1;
 const ACCEPTED: u8 = 2;
 const TIMED_OUT: u8 = 3;
 
-/// What a hub is opened with.
+/// The settings of a hub.
 #[derive(Clone, Copy)]
 pub struct Size {
     pub participants: u8,
@@ -20,7 +20,7 @@ pub struct Size {
     pub ahead: u64,
 }
 
-/// What a participant submits.
+/// A submission.
 #[derive(Clone, Copy)]
 pub struct Submission {
     pub id: Ident,
@@ -29,7 +29,7 @@ pub struct Submission {
     pub stamp: u64,
 }
 
-/// An own transfer, whose place is its position in the table.
+/// A transfer at its originator; its place is its index in the table.
 struct Own {
     to: u8,
     cents: u64,
@@ -37,7 +37,7 @@ struct Own {
     is_booked: bool,
 }
 
-/// A transfer that came.
+/// A forwarded transfer.
 struct Arrival {
     place: usize,
     cents: u64,
@@ -45,7 +45,7 @@ struct Arrival {
     is_booked: bool,
 }
 
-/// A line of a statement: a funding or a transfer, and the position behind it.
+/// A line of a statement: a funding or a transfer, and the position after it.
 struct Line {
     number: u32,
     cents: u64,
@@ -107,12 +107,12 @@ impl SharedHub {
         }
     }
 
-    /// What the participant has, in cents.
+    /// Returns the participant's position, in cents.
     pub fn position(&self, who: u8) -> u64 {
         self.lock(who).position
     }
 
-    /// The deadline of the transfer, which then comes to its beneficiary.
+    /// Submits the transfer and forwards it to its beneficiary. Returns the deadline.
     pub fn submit(&self, who: u8, submission: &Submission, at: u64) -> Result<u64, Fault> {
         let Submission {
             id,
@@ -135,7 +135,7 @@ impl SharedHub {
         Ok(deadline)
     }
 
-    /// Keeps the submission at its originator: its place.
+    /// Stores the submission at its originator, and returns its place.
     fn take(&self, who: u8, submission: &Submission, at: u64) -> Result<usize, Fault> {
         let Submission {
             id,
@@ -172,7 +172,7 @@ impl SharedHub {
         Ok(place)
     }
 
-    /// Whether the transfer is accepted. Then its originator learns how it ended.
+    /// Returns whether the transfer is accepted, and lets its originator learn the outcome.
     pub fn confirm(&self, who: u8, from: u8, id: Ident, at: u64) -> Result<bool, Fault> {
         let mut books = self.lock(who);
         let arrival = books
@@ -218,7 +218,7 @@ impl SharedHub {
         }
     }
 
-    /// Whether each line of each statement goes on from the one before: what is kept is looked at once.
+    /// Returns whether each line of each statement follows from the one before. This reads everything stored once.
     pub fn is_whole(&self) -> bool {
         (0..self.size.participants).all(|who| {
             let books = self.lock(who);

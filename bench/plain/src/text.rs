@@ -1,4 +1,4 @@
-//! Short texts that lie in the value itself.
+//! Short texts, stored in the value itself.
 use crate::fault::Fault;
 use std::hash::{Hash, Hasher};
 
