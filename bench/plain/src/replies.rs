@@ -3,7 +3,6 @@ use crate::books::{Entry, Kind, State};
 use crate::hub::Hub;
 use crate::text::{Ident, Reason};
 use serde::ser::{Serialize, SerializeSeq, Serializer};
-use std::fmt;
 
 #[derive(serde::Serialize)]
 #[serde(untagged)]
@@ -126,12 +125,32 @@ struct Line<'a> {
     entry: &'a Entry,
 }
 
-impl fmt::Display for Line<'_> {
-    fn fmt(&self, f: &mut fmt::Formatter) -> fmt::Result {
-        let Line {
-            hub, who, number, entry, ..
-        } = self;
-        let (other, id, cents) = match entry.kind {
+/// The columns of a statement line, with a space between: 91 characters.
+const ROW: [u8; 91] = [b' '; 91];
+
+/// Puts a text at the left of its column, which begins here.
+fn put_left(row: &mut [u8; 91], from: usize, text: &str) {
+    row[from..from + text.len()].copy_from_slice(text.as_bytes());
+}
+
+/// Puts a number at the right of its column, which ends here.
+fn put_right(row: &mut [u8; 91], end: usize, mut number: u64) {
+    let mut at = end;
+    loop {
+        at -= 1;
+        row[at] = b'0' + (number % 10) as u8;
+        number /= 10;
+        if number == 0 {
+            return;
+        }
+    }
+}
+
+impl Line<'_> {
+    /// The other participant's code, the identifier or the reference, and the cents.
+    fn subject(&self) -> (&str, &Ident, u64) {
+        let Line { hub, who, entry, .. } = self;
+        match entry.kind {
             Kind::Funded | Kind::Defunded => {
                 let (reference, cents) = hub.funding(*who, entry.index);
                 ("", reference, cents)
@@ -144,20 +163,25 @@ impl fmt::Display for Line<'_> {
                 let (id, transfer) = hub.transfer(entry.owner, entry.index);
                 (hub.code(transfer.to), id, transfer.cents)
             }
-        };
-        write!(
-            f,
-            "{number:>6} {:<3} {other:<11} {:<35} {cents:>11} {:>20}",
-            entry.kind.name(),
-            id.as_str(),
-            entry.position
-        )
+        }
+    }
+
+    fn row(&self) -> [u8; 91] {
+        let (other, id, cents) = self.subject();
+        let mut row = ROW;
+        put_right(&mut row, 6, self.number as u64);
+        put_left(&mut row, 7, self.entry.kind.name());
+        put_left(&mut row, 11, other);
+        put_left(&mut row, 23, id.as_str());
+        put_right(&mut row, 70, cents);
+        put_right(&mut row, 91, self.entry.position);
+        row
     }
 }
 
 impl Serialize for Line<'_> {
     fn serialize<S: Serializer>(&self, serializer: S) -> Result<S::Ok, S::Error> {
-        serializer.collect_str(self)
+        serializer.serialize_str(std::str::from_utf8(&self.row()).unwrap_or_default())
     }
 }
 

@@ -24,7 +24,8 @@ impl<const N: usize> Text<N> {
     }
 
     pub fn as_str(&self) -> &str {
-        std::str::from_utf8(&self.bytes[..usize::from(self.length)]).unwrap_or_default()
+        // The bytes come from a `str`, whole.
+        unsafe { std::str::from_utf8_unchecked(&self.bytes[..usize::from(self.length)]) }
     }
 }
 
