@@ -1,6 +1,6 @@
 #!/usr/bin/env bash
 # A hub uses up its places and is closed. The next opening begins with its books: pending transfers stay pending,
-# identifiers stay taken, and the places of settled transfers are free again.
+# identifiers stay taken, and the places of transfers whose outcome both sides have booked are free again.
 set -eu
 
 top=$(cd -- "$(dirname -- "$(readlink -f -- "${BASH_SOURCE[0]}")")/.." && pwd -P)
