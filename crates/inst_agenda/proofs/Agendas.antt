@@ -1,6 +1,10 @@
 -- The sets of an agenda do what its definitions say.
-use Rattle.std.proofs.Common.{◌≡◌, ℕ, suc, Bool, true, false, ◌||◌, cond, List, [], ◌∷◌, refl, sym, ap, ◌∙◌, arith, nat_cmp, is_gt, Ordering, inl, inr}
+use Rattle.std.proofs.Common.{◌≡◌, ◌⊎◌, ℕ, zero, suc, ◌-◌, ◌<◌, ◌≤◌, Bool, true, false, ◌||◌, cond, List, [], ◌∷◌, ◌++◌, length, get_or, refl, sym, ap, ◌∙◌, arith, nat_cmp, is_gt, Ordering, inl, inr}
 use Rattle.std.specs.List.{list_any, All}
+use Rattle.std.proofs.lemmas.Grind.{common_steps}
+use Rattle.std.proofs.lemmas.List.{get_or_default}
+use Rattle.std.proofs.lemmas.List.Folds.{list_any-append, Any-from_list_any}
+use Rattle.std.proofs.lemmas.Bool.{cases_lt}
 use Rattle.std.specs.Ordering.{ordering_then}
 use Rattle.std.specs.BTreeMap.{is_at}
 use Rattle.std.specs.BTreeMap.Range.{IsLtBy}
@@ -10,7 +14,7 @@ use Rattle.std.proofs.lemmas.Bool.Decides.{nat_tests}
 use Rattle.inst_base.specs.TimeLimit.{is_due}
 use Rattle.inst_command.specs.declared.place.Place.{Place}
 use Rattle.inst_agenda.specs.Agenda.{is_same_place, is_entry}
-use Rattle.inst_agenda.specs.inner.Agenda.{place_comes_before, Notes, Waits, NothingIsDue, TakesNext}
+use Rattle.inst_agenda.specs.inner.Agenda.{place_comes_before, AreInOrder, WaitNoLater, Notes, Waits, TakesDue, NothingIsDue, TakesNext}
 
 -- how the sets compare two places, and two entries
 abbrev pub place_cmp : ℕ × ℕ → ℕ × ℕ → Ordering
@@ -40,6 +44,36 @@ either true false = refl
 either false true = refl
 either false false = refl
 
+or_joined : (a b c : Bool) → (a || (b || c)) ≡ ((a || b) || c)
+or_joined true b c = refl
+or_joined false b c = refl
+
+turned_first : (a b c : Bool) → (a || (b || c)) ≡ (b || (a || c))
+turned_first true true c = refl
+turned_first true false c = refl
+turned_first false b c = refl
+
+turned_last : (a b other c : Bool) → b ≡ other → ((a || (b || false)) || c) ≡ ((a || c) || other)
+turned_last true b other c same = refl
+turned_last false true other true same = refl
+turned_last false true other false same = same
+turned_last false false other true same = refl
+turned_last false false other false same = same
+
+or_cases : (a b : Bool) → (a || b) ≡ true → (a ≡ true) ⊎ (b ≡ true)
+or_cases true b is = inl refl
+or_cases false b is = inr is
+
+same_turned : (m p k n q l : ℕ) → is_entry m p k (n, (q, l)) ≡ is_entry n q l (m, (p, k))
+same_turned m p k n q l = grind (arith, nat_tests)
+
+-- an entry of the row isn't due if none is
+none_of_row : (row : List (ℕ × (ℕ × ℕ))) (at : ℕ) → All (λ entry. is_due entry.0 at ≡ false) row → (m p k : ℕ) → list_any (is_entry m p k) row ≡ true → is_due m at ≡ false
+none_of_row row at none m p k there =
+    let found = Any-from_list_any (is_entry m p k) row there in
+    let moment : found.1.0 ≡ m = (let is = found.4 in grind (arith, nat_tests, is)) in
+    ap (λ (n : ℕ). is_due n at) (sym moment) ∙ ap (λ (e : ℕ × (ℕ × ℕ)). is_due e.0 at) (sym found.3) ∙ none found.0 found.1 found.2
+
 -- a place that was put in
 pub notes : (waiting : List (ℕ × (ℕ × ℕ))) (s n : BTreeSet (ℕ × ℕ)) (place : Place) → Updates place_cmp s n (place.owner, place.index) true
     → Notes (record { waiting = waiting; next = s.keys }) (record { waiting = waiting; next = n.keys }) place
@@ -50,23 +84,94 @@ notes waiting s n place updates = record {
       ∙ either (is_same_place place.owner place.index (p, k)) (contains place_cmp s (p, k)) ∙ ap (λ b. b || is_same_place place.owner place.index (p, k)) (sym (any_place s.keys p k));
 }
 
--- an entry that was put in
-pub makes_wait : (next : List (ℕ × ℕ)) (s n : BTreeSet (ℕ × (ℕ × ℕ))) (moment : ℕ) (place : Place) → Updates entry_cmp s n (moment, (place.owner, place.index)) true
-    → Waits (record { waiting = s.keys; next = next }) (record { waiting = n.keys; next = next }) moment place
-makes_wait next s n moment place updates = record {
+-- an entry that was put among those out of order
+pub makes_wait : (next : List (ℕ × ℕ)) (row : List (ℕ × (ℕ × ℕ))) (s n : BTreeSet (ℕ × (ℕ × ℕ))) (moment : ℕ) (place : Place) → Updates entry_cmp s n (moment, (place.owner, place.index)) true
+    → Waits (record { waiting = row ++ s.keys; next = next }) (record { waiting = row ++ n.keys; next = next }) moment place
+makes_wait next row s n moment place updates = record {
   next_is = refl;
   waiting_are = λ m p k.
+      let here = is_entry moment place.owner place.index (m, (p, k)) in
+      let added : list_any (is_entry m p k) n.keys ≡ (list_any (is_entry m p k) s.keys || here) =
       any_entry n.keys m p k ∙ updates.0 (m, (p, k)) ∙ ap (λ b. cond b true (contains entry_cmp s (m, (p, k)))) (same_entry moment place.owner place.index (m, (p, k)))
-      ∙ either (is_entry moment place.owner place.index (m, (p, k))) (contains entry_cmp s (m, (p, k))) ∙ ap (λ b. b || is_entry moment place.owner place.index (m, (p, k))) (sym (any_entry s.keys m p k));
+      ∙ either here (contains entry_cmp s (m, (p, k))) ∙ ap (λ b. b || here) (sym (any_entry s.keys m p k)) in
+      list_any-append (is_entry m p k) row n.keys ∙ ap (λ b. list_any (is_entry m p k) row || b) added ∙ or_joined (list_any (is_entry m p k) row) (list_any (is_entry m p k) s.keys) here
+      ∙ ap (λ b. b || here) (sym (list_any-append (is_entry m p k) row s.keys));
 }
 
--- the least entry isn't due, so none is
-pub none_is_due : (next : List (ℕ × ℕ)) (s : BTreeSet (ℕ × (ℕ × ℕ))) (first : ℕ × (ℕ × ℕ)) (at : ℕ) → IsLowerBound entry_cmp s first → is_due first.0 at ≡ false
-    → NothingIsDue (record { waiting = s.keys; next = next }) at
-none_is_due next s first at least early m p k waiting = later (least (m, (p, k)) (sym (any_entry s.keys m p k) ∙ waiting)) early
+-- an entry that was put at the end of the row
+pub waits_last : (next : List (ℕ × ℕ)) (row others : List (ℕ × (ℕ × ℕ))) (moment : ℕ) (place : Place)
+    → Waits (record { waiting = row ++ others; next = next }) (record { waiting = (row ++ (moment, (place.owner, place.index)) ∷ []) ++ others; next = next }) moment place
+waits_last next row others moment place = record {
+  next_is = refl;
+  waiting_are = λ m p k.
+      let test = is_entry m p k in
+      let entry : ℕ × (ℕ × ℕ) = (moment, (place.owner, place.index)) in
+      list_any-append test (row ++ entry ∷ []) others ∙ ap (λ b. b || list_any test others) (list_any-append test row (entry ∷ []))
+      ∙ turned_last (list_any test row) (test entry) (is_entry moment place.owner place.index (m, (p, k))) (list_any test others) (same_turned m p k moment place.owner place.index)
+      ∙ ap (λ b. b || is_entry moment place.owner place.index (m, (p, k))) (sym (list_any-append test row others));
+}
+
+-- the row stays in order
+pub in_order_after : (row : List (ℕ × (ℕ × ℕ))) (entry : ℕ × (ℕ × ℕ)) → AreInOrder row → WaitNoLater row entry.0 → AreInOrder (row ++ entry ∷ [])
+in_order_after row entry order last i j d less below = grind (arith, common_steps, order i j d less, last i d)
+
+pub in_order_rest : (entry : ℕ × (ℕ × ℕ)) (row : List (ℕ × (ℕ × ℕ))) → AreInOrder (entry ∷ row) → AreInOrder row
+in_order_rest entry row order i j d less below = order (suc i) (suc j) d (omega (arith, less)) (omega (arith, below))
+
+-- what the last of the row says of all
+pub none_later : (row : List (ℕ × (ℕ × ℕ))) (len moment : ℕ) (last : ℕ × (ℕ × ℕ)) → AreInOrder row → len ≡ length row → last ≡ get_or row (len - 1) last → last.0 ≤ moment → WaitNoLater row moment
+none_later row len moment last order is at early k d below = elim (cases_lt k (len - 1)) [
+  | inl less ↦
+      let next = order k (len - 1) last less (omega (arith, is, below)) in
+      omega (arith, next, early, ap (λ (e : ℕ × (ℕ × ℕ)). e.0) at, ap (λ (e : ℕ × (ℕ × ℕ)). e.0) (get_or_default row k d last below))
+  | inr over ↦
+      let same : k ≡ len - 1 = omega (arith, is, below, over) in
+      omega (arith, early, ap (λ (e : ℕ × (ℕ × ℕ)). e.0) at, ap (λ (e : ℕ × (ℕ × ℕ)). e.0) (get_or_default row k d last below), ap (λ (m : ℕ). (get_or row m last).0) same)
+]
+
+-- the first of the row isn't due, so none is
+pub none_due_in_row : (row : List (ℕ × (ℕ × ℕ))) (first : ℕ × (ℕ × ℕ)) (at : ℕ) → AreInOrder row → first ≡ get_or row 0 first → is_due first.0 at ≡ false → All (λ entry. is_due entry.0 at ≡ false) row
+none_due_in_row row first at order here early zero d below = ap (λ (e : ℕ × (ℕ × ℕ)). is_due e.0 at) (get_or_default row 0 d first below ∙ sym here) ∙ early
+none_due_in_row row first at order here early (suc k) d below =
+    let next = order 0 (suc k) first (omega arith) below in
+    later first.0 (get_or row (suc k) d).0 (omega (arith, next, ap (λ (e : ℕ × (ℕ × ℕ)). e.0) here, ap (λ (e : ℕ × (ℕ × ℕ)). e.0) (get_or_default row (suc k) d first below))) early
+  where
+    later : (one other : ℕ) → one ≤ other → is_due one at ≡ false → is_due other at ≡ false
+    later one other over early = grind (arith, nat_tests, over, early)
+
+-- an entry of those out of order was taken out
+pub takes_other : (next : List (ℕ × ℕ)) (row old new : List (ℕ × (ℕ × ℕ))) (at moment : ℕ) (place : Place) → old ≡ (moment, (place.owner, place.index)) ∷ new → is_due moment at ≡ true
+    → TakesDue (record { waiting = row ++ old; next = next }) (record { waiting = row ++ new; next = next }) at moment place
+takes_other next row old new at moment place first due = rw first (record {
+  due = due;
+  next_is = refl;
+  fewer = grind (arith, common_steps);
+  waiting_were = λ m p k.
+      let test = is_entry m p k in
+      list_any-append test row _ ∙ turned_first (list_any test row) (test (moment, (place.owner, place.index))) (list_any test new) ∙ ap (λ b. test (moment, (place.owner, place.index)) || b) (sym (list_any-append test row new));
+})
+
+-- the least entry isn't due, so none of those out of order is; nor is any of the row
+pub none_is_due : (next : List (ℕ × ℕ)) (row : List (ℕ × (ℕ × ℕ))) (s : BTreeSet (ℕ × (ℕ × ℕ))) (first : ℕ × (ℕ × ℕ)) (at : ℕ) → All (λ entry. is_due entry.0 at ≡ false) row
+    → IsLowerBound entry_cmp s first → is_due first.0 at ≡ false → NothingIsDue (record { waiting = row ++ s.keys; next = next }) at
+none_is_due next row s first at none least early m p k waiting = elim (or_cases (list_any (is_entry m p k) row) (list_any (is_entry m p k) s.keys) (sym (list_any-append (is_entry m p k) row s.keys) ∙ waiting)) [
+  | inl here ↦ none_of_row row at none m p k here
+  | inr there ↦ later (least (m, (p, k)) (sym (any_entry s.keys m p k) ∙ there)) early
+]
   where
     later : is_gt (entry_cmp first (m, (p, k))) ≡ false → is_due first.0 at ≡ false → is_due m at ≡ false
     later not_before early = grind (arith, nat_tests, not_before, early)
+
+pub zero_unless : (n : ℕ) → (0 < n → false ≡ true) → n ≡ 0
+zero_unless zero some = refl
+zero_unless (suc n) some = absurd (false≢true (some (omega arith)))
+
+-- nothing waits out of order
+pub none_is_due_alone : (next : List (ℕ × ℕ)) (row others : List (ℕ × (ℕ × ℕ))) (at : ℕ) → All (λ entry. is_due entry.0 at ≡ false) row → others ≡ [] → NothingIsDue (record { waiting = row ++ others; next = next }) at
+none_is_due_alone next row others at none empty m p k waiting = elim (or_cases (list_any (is_entry m p k) row) (list_any (is_entry m p k) others) (sym (list_any-append (is_entry m p k) row others) ∙ waiting)) [
+  | inl here ↦ none_of_row row at none m p k here
+  | inr there ↦ absurd (false≢true (ap (list_any (is_entry m p k)) (sym empty) ∙ there))
+]
 
 -- those that are above the first come after it
 pub above : (first : ℕ × ℕ) (places : List (ℕ × ℕ)) → All (IsLtBy place_cmp first) places → (p k : ℕ) → list_any (is_same_place p k) places ≡ true → place_comes_before first (p, k) ≡ true

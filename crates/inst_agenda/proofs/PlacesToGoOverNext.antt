@@ -1,13 +1,16 @@
 -- Which places are gone over next.
 use Rattle.std.proofs.Common.{◌≡◌, ℕ, ◌<◌, ◌+◌, true, false, Bool, List, [], Some, refl, sym, ap, subst, ◌∙◌, inl, inr, arith, ◌||◌}
 use Rattle.std.proofs.lemmas.Bool.Decides.{nat_tests}
-use Rattle.std.proofs.lemmas.Bool.{cases_eq, or_cases}
+use Rattle.std.specs.List.{list_any}
+use Rattle.std.proofs.lemmas.Bool.{false≢true, cases_eq, or_cases}
+use Rattle.inst_settings.specs.Settings.{participants, is_participant}
 use Rattle.inst_command.specs.declared.place.Place.{Place}
 use Rattle.inst_command.specs.declared.step.Step.{Step}
 use Rattle.inst_model.specs.Opening.{Opening}
 use Rattle.inst_model.specs.Hub.{history}
 use Rattle.inst_model.specs.Transfer.{Transfer, at_place}
-use Rattle.inst_agenda.specs.Agenda.{Agenda, is_same_place, is_next}
+use Rattle.inst_agenda.specs.Agenda.{Agenda, is_same_place, is_entry, is_next}
+use Rattle.inst_agenda.specs.Watching.{Watches}
 use Rattle.inst_agenda.specs.inner.Agenda.{Notes}
 use Rattle.inst_world.specs.HasRun.{World, world_settings, HasRun}
 use Rattle.inst_agenda.specs.inner.Watching.{NotesSome}
@@ -66,3 +69,20 @@ noted_owner_more hub a b owner before some all = record {
     | inr other ↦ λ O L was k x there. some.next_still p k (before.noted p (omega (arith, below, other)) O L was k x there)
   ];
 }
+
+-- an agenda on which the transfers of all participants were noted
+pub watches_noted : (hub : World) (agenda : Agenda) (n : ℕ) → participants (world_settings hub) ≡ n → NotedOwners hub agenda n → (O : Opening) (L : List Step) → HasRun O L hub → Watches O L hub agenda
+watches_noted hub agenda n all noted O L was = record {
+  ran = was;
+  is_agenda = record {
+    next_named = λ p k it. named p (noted.named p k it);
+    waiting_named = λ m p k it. absurd (false≢true (ap (list_any (is_entry m p k)) (sym noted.waiting_is) ∙ it));
+    rests = λ p k x of there at left. absurd (false≢true (sym left.not_next ∙ noted.noted p (below p of) O L was k x there));
+  };
+}
+  where
+    named : (p : ℕ) → p < n → is_participant (world_settings hub) p ≡ true
+    named p under = grind (arith, nat_tests, all, under)
+
+    below : (p : ℕ) → is_participant (world_settings hub) p ≡ true → p < n
+    below p of = grind (arith, nat_tests, all, of)

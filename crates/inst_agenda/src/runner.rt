@@ -114,22 +114,22 @@ impl Runner {
     ///
     /// [`AllocError`] if the hub or the agenda fails to allocate. The command may have been run
     /// without its transfer being noted.
-    pub fn ask(&mut self, ask: Ask) -> Result<Answer, AllocError>
-        requires fits { ask_fits self.old.world.board.settings ask ≡ true }
+    pub fn ask(&mut self, ask: &Ask) -> Result<Answer, AllocError>
+        requires fits { ask_fits self.old.world.board.settings ask.now ≡ true }
         ensures ok { IfOk result (λ told. (O : Opening) (L : List Step) →
             Watches O L self.old.world self.old.agenda →
-            (told ≡ answer self.old.world.board.settings O L (Step.Ask ask))
-            × Watches O (Step.Ask ask ∷ L) self.new.world self.new.agenda) }
-        ensures model { IfOk result (IsOfModel self.old.world.board.settings (Step.Ask ask)) }
+            (told ≡ answer self.old.world.board.settings O L (Step.Ask ask.now))
+            × Watches O (Step.Ask ask.now ∷ L) self.new.world self.new.agenda) }
+        ensures model { IfOk result (IsOfModel self.old.world.board.settings (Step.Ask ask.now)) }
         ensures settings { self.new.world.board.settings ≡ self.old.world.board.settings }
     {
         let events = self.world.journal(ask.who).events().len();
-        let answer = self.world.step(&Step::Ask(ask))?;
+        let reply = self.world.ask(ask)?;
         // A command that appends no event decides nothing.
         if self.world.journal(ask.who).events().len() > events {
-            self.note_named(&ask)?;
+            self.note_named(ask)?;
         }
-        Ok(answer)
+        Ok(Answer::Reply(reply))
     }
 
     /// Notes the transfer that the command names, if it is live.

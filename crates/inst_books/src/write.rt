@@ -4,7 +4,6 @@ ghost use Rattle.serde_json.specs.Written.{compact_text};
 ghost use Rattle.inst_base.specs.Cents.{is_amount};
 ghost use Rattle.inst_base.specs.Moment.{is_moment};
 ghost use Rattle.inst_base.specs.Text.{is_code, is_identifier, is_reason};
-ghost use Rattle.inst_settings.specs.Settings.{is_participant};
 ghost use Rattle.inst_books.specs.Events.{data_in, event_can_be_written};
 ghost use Rattle.inst_books.specs.inner.Events.{is_name};
 ghost use Rattle.inst_books.specs.Laws.{event_has_form, outcome_has_form};

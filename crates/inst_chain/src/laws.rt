@@ -2,7 +2,7 @@
 ghost use Rattle.std.specs.Prelude.{◌≡◌, ◌⊎◌, ◌++◌, ◌∷◌, [], List, ℕ, true, false};
 ghost use Rattle.inst_log.specs.Layout.{recovered_lines};
 ghost use Rattle.inst_log.specs.Escape.{raw_of};
-ghost use Rattle.inst_chain.specs.Chain.{is_mark, IsChain, IsSealed, Collision};
+ghost use Rattle.inst_chain.specs.Chain.{is_mark, IsSealed, Collision};
 
 /// States the law: no line that was read is written as a mark is.
 pub fn no_line_is_a_mark()

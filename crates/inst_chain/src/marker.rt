@@ -4,7 +4,6 @@ ghost use Rattle.std.specs.Prelude.{false, OnOk};
 ghost use Rattle.inst_base.specs.Newline.{newline};
 ghost use Rattle.inst_log.specs.Layout.{recovered_lines, AreWholeLines};
 ghost use Rattle.inst_chain.specs.Chain.{is_mark, mark_of, mark_with, has_mark, has_digest, said};
-ghost use Rattle.inst_chain.specs.Chain.{HasNoMark};
 ghost use Rattle.inst_chain.specs.Checking.{Digests};
 ghost use Rattle.hex.specs.Hex.{encode_lower};
 

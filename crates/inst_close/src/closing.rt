@@ -36,7 +36,7 @@ pub enum Rest {
 #[derive(Drop, Error)]
 pub enum CloseFault {
     /// Allocation failed.
-    #[error("an allocation failed while the hub was closed; what is left of it can be closed again")]
+    #[error("an allocation failed; what is left of the hub can be closed again")]
     Memory { rest: Rest },
 }
 

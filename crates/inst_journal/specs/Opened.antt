@@ -1,6 +1,6 @@
 -- The part of a history that is carried over an opening from the books: the events up to and
--- including the last Opened. A transfer that is booked there is settled and has no place any more;
--- each other transfer is live. A choice of this hub.
+-- including the last Opened. A transfer whose outcome is booked there has no place any more; each
+-- other transfer is live. A choice of this hub.
 use Rattle.std.specs.Prelude.{ℕ, ◌<◌, Bool, true, false, ◌&&◌, ◌==◌, is_none, if◌then◌else◌, List}
 use Rattle.std.specs.Prelude.{[], ◌∷◌, count_by}
 use Rattle.std.specs.List.{list_any, filter}

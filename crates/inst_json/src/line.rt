@@ -6,32 +6,23 @@ ghost use Rattle.serde_json.specs.View.{view};
 ghost use Rattle.inst_base.specs.declared.fault.Fault.TheVariants.{NotJson};
 ghost use Rattle.inst_json.specs.declared.scanning.form.Form.TheVariants.{Plain, Broken};
 ghost use Rattle.inst_json.specs.LineFields.{value_found, field_value, fields_of, fields_told};
+ghost use Rattle.inst_json.specs.LineFields.{fields_in_order, no_fields};
 ghost use Rattle.inst_json.specs.Lines.{json_of};
 
 use crate::scanning::{Field, Fields, Form, scan};
 use serde_json::Value;
 
-/// The result of one pass over a line.
-#[derive(Drop)]
-pub(crate) struct Scanned<'a> {
-    pub form: Form,
-    /// The fields of the line if it is plain; otherwise they mean nothing.
-    pub fields: Fields<'a>,
-}
-
-/// Scans a line in one pass. The fields are filled in place.
+/// Scans a line in one pass into `fields`, which mean nothing unless the line is plain.
+///
+/// Requires fields that are all missing.
 #[inline(always)]
-pub(crate) fn scan_line(line: &[u8]) -> Scanned<'_>
-    ensures plain { result.form ≡ Plain
-        → (d : Data) × (json_of line.now ≡ Ok d) × (fields_told result.fields ≡ fields_of d) }
-    ensures broken { result.form ≡ Broken → json_of line.now ≡ Err NotJson }
+pub(crate) fn scan_line<'a>(line: &'a [u8], fields: &mut Fields<'a>) -> Form
+    requires { fields_in_order fields.old ≡ no_fields }
+    ensures plain { result ≡ Plain
+        → (d : Data) × (json_of line.now ≡ Ok d) × (fields_told fields.new ≡ fields_of d) }
+    ensures broken { result ≡ Broken → json_of line.now ≡ Err NotJson }
 {
-    let mut scanned = Scanned {
-        form: Form::Other,
-        fields: Fields::new(),
-    };
-    scanned.form = scan(line, &mut scanned.fields);
-    scanned
+    scan(line, fields)
 }
 
 /// Returns member `name` of `value`; `Field::Missing` if there is none or `value` isn't an object.

@@ -12,7 +12,7 @@ ghost use Rattle.inst_json.specs.inner.Lines.{document};
 use crate::Refusal;
 use crate::command::ask_of;
 use crate::line::{fields_of, scan_line};
-use crate::scanning::Form;
+use crate::scanning::{Fields, Form};
 use crate::step::step_of;
 use inst_base::Fault;
 use inst_command::{Ask, Step};
@@ -85,9 +85,9 @@ impl LineReader {
         ensures value { IsReadUnlessMemory result (blamed_command_of_line settings.now line.now) }
         ensures fits { IfOk result (λ ask. ask_fits settings.now ask ≡ true) }
     {
-        let scanned = scan_line(line);
-        match scanned.form {
-            Form::Plain => ask_of(settings, &scanned.fields),
+        let mut fields = Fields::new();
+        match scan_line(line, &mut fields) {
+            Form::Plain => ask_of(settings, &fields),
             Form::Broken => Err(Refusal::from(Fault::NotJson)),
             Form::Other => {
                 let value = self.json_of(line)?;
@@ -126,9 +126,9 @@ impl LineReader {
         ensures value { IsReadUnlessMemory result (blamed_step_of_line settings.now line.now) }
         ensures fits { IfOk result (λ step. step_fits settings.now step ≡ true) }
     {
-        let scanned = scan_line(line);
-        match scanned.form {
-            Form::Plain => step_of(settings, &scanned.fields),
+        let mut fields = Fields::new();
+        match scan_line(line, &mut fields) {
+            Form::Plain => step_of(settings, &fields),
             Form::Broken => Err(Refusal::from(Fault::NotJson)),
             Form::Other => {
                 let value = self.json_of(line)?;

@@ -13,7 +13,9 @@ use Rattle.inst_command.specs.declared.reply.Answer.TheVariants.{Reply}
 use Rattle.inst_command.specs.declared.reply.Reply.TheVariants.{Refused}
 use Rattle.inst_command.specs.declared.step.Step.{Step}
 use Rattle.inst_command.specs.declared.step.Step.TheVariants.{Ask}
-use Rattle.inst_json.specs.Lines.{command_of_line, step_of_line}
+use Rattle.inst_json.specs.declared.refusal.Refusal.{Refusal}
+use Rattle.inst_json.specs.Refusals.{IsReadUnlessMemory, by_fault}
+use Rattle.inst_json.specs.Lines.{blamed_command_of_line, command_of_line, step_of_line}
 use Rattle.inst_json.specs.Replies.{answer_data, answer_can_be_written}
 use Rattle.inst_model.specs.Opening.{Opening}
 use Rattle.inst_model.specs.Opening.Opening.{First}
@@ -114,6 +116,15 @@ read_err {X} r value fault is other read = elim read [
       let same : fault ≡ Memory = cc in
       absurd (other same)
   | inr same ↦ sym same ∙ is
+]
+
+-- a command that is read with the field of its refusal
+pub read_blamed : (s : HubSettings) (line : List ℕ) (r : Result AskValue Refusal) → IsReadUnlessMemory r (blamed_command_of_line s line) → IsUnlessMemory (by_fault r) (command_of_line s line)
+unfolding command_of_line
+read_blamed s line (Ok ask) read = inr (ap by_fault read)
+read_blamed s line (Err refusal) read = elim read [
+  | inl memory ↦ inl (ap (λ (fault : Fault). Err fault) memory)
+  | inr same ↦ inr (ap by_fault same)
 ]
 
 -- a line that is refused in reading

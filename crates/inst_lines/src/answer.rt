@@ -116,14 +116,13 @@ fn answer_command(
         (λ past. command_answer past (command_of_line runner.old.world.board.settings line.now))
         (λ past. after_command past (command_of_line runner.old.world.board.settings line.now))) }
 {
-    match reader.read_command(runner.settings(), line) {
+    match &reader.read_blamed_command(runner.settings(), line) {
         Ok(ask) => {
-            let at = ask.at;
             let answer = runner.ask(ask)?;
-            follow_up(runner, at)?;
+            follow_up(runner, ask.at)?;
             Ok(answer)
         }
-        Err(fault) => refused(fault),
+        Err(refusal) => refused(refusal.fault),
     }
 }
 

@@ -1,5 +1,5 @@
 //! Reading the lines of a file in pieces. The file isn't changed.
-ghost use Rattle.std.specs.Prelude.{◌≡◌, ◌≤◌, ◌<◌, ◌+◌, ◌^◌, ◌++◌, [], List, ℕ, length, take, drop};
+ghost use Rattle.std.specs.Prelude.{◌≡◌, ◌≤◌, ◌<◌, ◌+◌, ◌^◌, ◌++◌, [], List, ℕ, length, take};
 ghost use Rattle.std.specs.Prelude.{true, false, IsTrue, MatchBool, MatchResult, IfOk, ⊤};
 ghost use Rattle.sqlite_disk.specs.Disk.{Holds, MoreFaults};
 ghost use Rattle.inst_log.specs.Disks.{HasKeptFaith, IsOnlyRead};

@@ -1,6 +1,6 @@
 //! Repairing the end of a file: the closed byte is written and what follows it is cut off. The
 //! lines stay the same.
-ghost use Rattle.std.specs.Prelude.{◌≡◌, List, ℕ, ◌<◌, ◌≤◌, ◌+◌, ◌^◌, length, IsTrue, IfOk, OnOk};
+ghost use Rattle.std.specs.Prelude.{◌≡◌, List, ℕ, ◌<◌, ◌≤◌, ◌+◌, ◌^◌, IsTrue, OnOk};
 ghost use Rattle.sqlite_disk.specs.Disk.{Only, CountsFault};
 ghost use Rattle.inst_log.specs.Layout.{HasClosedByte, IsShut};
 ghost use Rattle.inst_log.specs.inner.Layout.{IsUnclosed};

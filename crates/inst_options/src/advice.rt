@@ -71,8 +71,8 @@ fn meaning_of(fault: Fault) -> &'static str {
         }
         Fault::StampAhead => {
             "\
-            the originator's clock is ahead of the hub's by more than `--ahead`, or the two have \
-            different units"
+            the originator's clock is ahead of the one that `at` is read from by more than \
+            `--ahead`, or the two have different units"
         }
         Fault::Expired => {
             "\

@@ -63,7 +63,7 @@ impl Merge {
     /// the current opening.
     fn add<'a>(&mut self, who: u8, events: &'a [Event]) -> Result<&'a [Event], AllocError> {
         let (carried, current) = events.split_at(carried_count(events));
-        self.note_settled(who, carried)?;
+        self.note_booked(who, carried)?;
         self.note_carried(who, carried)?;
         self.note_deliveries(current)?;
         self.count = self.count.saturating_add(current.len());
@@ -71,13 +71,13 @@ impl Merge {
         Ok(current)
     }
 
-    /// Notes the transfers of the originator that were settled before the opening.
-    fn note_settled(&mut self, who: u8, carried: &[Event]) -> Result<(), AllocError> {
+    /// Notes the originator's transfers whose outcomes were booked before the opening.
+    fn note_booked(&mut self, who: u8, carried: &[Event]) -> Result<(), AllocError> {
         for event in carried {
             if let Event::Booked { from, id, .. } = event
                 && *from == who
             {
-                self.progress(who, *id)?.is_settled = true;
+                self.progress(who, *id)?.is_booked = true;
             }
         }
         Ok(())
@@ -161,12 +161,12 @@ impl Merge {
         Ok(true)
     }
 
-    /// Gives the transfer the originator's next place, unless it was settled before the opening.
+    /// Gives the transfer the originator's next place, unless its outcome was booked before the opening.
     fn take(&mut self, who: u8, id: Ident) -> Result<(), AllocError> {
         let place = self.places[usize::from(who)];
         let progress = self.progress(who, id)?;
         let waiting = progress.waiting.take();
-        if !progress.is_settled {
+        if !progress.is_booked {
             progress.place = Some(place);
             self.places[usize::from(who)] = place.saturating_add(1);
         }

@@ -6,7 +6,7 @@ use inst_command::Outcome;
 #[derive(Clone, Copy)]
 pub(crate) struct Progress {
     /// `true` if its originator had booked its outcome before the opening. It has no place then.
-    pub(crate) is_settled: bool,
+    pub(crate) is_booked: bool,
     /// Its place at its originator, once a step has taken it or the opening has carried it over.
     pub(crate) place: Option<u16>,
     /// `true` while a journal has its delivery and no step delivers it.
@@ -21,7 +21,7 @@ pub(crate) struct Progress {
 impl Progress {
     /// A transfer without steps.
     pub(crate) const NONE: Progress = Progress {
-        is_settled: false,
+        is_booked: false,
         place: None,
         awaits_delivery: false,
         is_answered: false,

@@ -60,7 +60,7 @@ pub fn runner(runner: &mut Runner, ask: Ask) -> Result<Answer, AllocError>
     requires { ask_fits runner.old.world.board.settings ask ≡ true }
 {
     let at = ask.at;
-    let answer = runner.ask(ask)?;
+    let answer = runner.ask(&ask)?;
     follow_up(runner, at)?; // as if each live transfer were followed up
     Ok(answer)
 }

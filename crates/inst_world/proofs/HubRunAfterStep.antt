@@ -39,9 +39,9 @@ goes_on told old new step (Ok x) was ran = (was.0, step ∷ was.1, (ran.ok was.0
 goes_on told old new step (Err fault) was ran = (was.0, was.1, still_has_run old new ran.err was.0 was.1 was.2)
 
 -- and what it answers is the model's
-pub of_model : (old new : World) (step : Step) (result : Result Answer AllocError) → HasRunSomething old → IsSettings (world_settings old) → IfOk result (λ answer. Runs old step answer new)
-    → IfOk result (IsOfModel (world_settings old) step)
-of_model old new step (Ok answer) was lawful ran = record {
+pub of_model : {A : Type 0} (told : A → Answer) (old new : World) (step : Step) (result : Result A AllocError) → HasRunSomething old → IsSettings (world_settings old)
+    → IfOk result (λ x. Runs old step (told x) new) → IfOk result (λ x. IsOfModel (world_settings old) step (told x))
+of_model told old new step (Ok x) was lawful ran = record {
   lawful = lawful;
   opening = was.0;
   steps = was.1;
@@ -49,8 +49,8 @@ of_model old new step (Ok answer) was lawful ran = record {
   is_interleaving = was.2.steps;
   answer_is = (ran was.0 was.1 was.2).0;
 }
-of_model old new step (Err fault) was lawful ran = tt
+of_model told old new step (Err fault) was lawful ran = tt
 
-pub unrun : (old new : World) (step : Step) (result : Result Answer AllocError) → OnErr result (IsAsBefore old new) → OnErr result (TakesMemory old step) → OnErr result (IsUnrun old new step)
-unrun old new step (Ok answer) refused memory = tt
+pub unrun : {A : Type 0} (old new : World) (step : Step) (result : Result A AllocError) → OnErr result (IsAsBefore old new) → OnErr result (TakesMemory old step) → OnErr result (IsUnrun old new step)
+unrun old new step (Ok x) refused memory = tt
 unrun old new step (Err fault) refused memory = record { as_before = refused; memory = memory; has_run = still_has_run old new refused }

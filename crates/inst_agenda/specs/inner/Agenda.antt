@@ -1,6 +1,7 @@
 -- Changes of an agenda.
 use Rattle.std.specs.Prelude.{◌≡◌, ◌⊎◌, ℕ, Bool, true, false, ◌&&◌, ◌||◌, nat_eq, nat_lt, [], ◌∷◌}
-use Rattle.std.specs.Prelude.{Option, Some, None}
+use Rattle.std.specs.Prelude.{Option, Some, None, List, ◌≤◌, suc, length}
+use Rattle.std.specs.List.{All, AllPairs}
 use Rattle.inst_base.specs.TimeLimit.{is_due}
 use Rattle.inst_command.specs.declared.place.Place.{Place}
 use Rattle.inst_agenda.specs.Agenda.{Agenda, is_same_place, is_entry, is_awaited, is_next}
@@ -25,18 +26,35 @@ pub record Waits (old new : Agenda) (moment : ℕ) (place : Place) : Type 0 wher
       ≡ (is_awaited old m owner index
       || is_entry moment place.owner place.index (m, (owner, index)))
 
--- The first waiting place is due and was removed.
+-- Waiting places in the order of their moments.
+abbrev pub AreInOrder : List (ℕ × (ℕ × ℕ)) → Type 0
+AreInOrder row = AllPairs (λ one other. one.0 ≤ other.0) row
+
+-- None of the places waits for a later moment.
+abbrev pub WaitNoLater : List (ℕ × (ℕ × ℕ)) → ℕ → Type 0
+WaitNoLater row moment = All (λ entry. entry.0 ≤ moment) row
+
+-- The first of the row is due and was removed; `None` if none is due.
+abbrev pub PopsDue : List (ℕ × (ℕ × ℕ)) → List (ℕ × (ℕ × ℕ)) → ℕ → Option (ℕ × (ℕ × ℕ)) → Type 0
+PopsDue old new at None = (new ≡ old) × All (λ entry. is_due entry.0 at ≡ false) old
+PopsDue old new at (Some entry) = (old ≡ entry ∷ new) × (is_due entry.0 at ≡ true)
+
+-- A waiting place that is due was removed.
 pub record TakesDue (old new : Agenda) (at moment : ℕ) (place : Place) : Type 0 where
   pub due : is_due moment at ≡ true
   pub next_is : new.next ≡ old.next
-  pub first : old.waiting ≡ (moment, (place.owner, place.index)) ∷ new.waiting
+  pub fewer : length old.waiting ≡ suc (length new.waiting)
+  pub waiting_were : (m owner index : ℕ) →
+      is_awaited old m owner index
+      ≡ (is_entry m owner index (moment, (place.owner, place.index))
+      || is_awaited new m owner index)
 
 -- No waiting place is due.
 abbrev pub NothingIsDue : Agenda → ℕ → Type 0
 NothingIsDue agenda at =
     (m owner index : ℕ) → is_awaited agenda m owner index ≡ true → is_due m at ≡ false
 
--- The first waiting place that is due was removed, if there is one.
+-- A waiting place that is due was removed, if there is one.
 abbrev pub TakesAnyDue : Agenda → Agenda → ℕ → Option (ℕ × Place) → Type 0
 TakesAnyDue old new at None = (new ≡ old) × NothingIsDue old at
 TakesAnyDue old new at (Some taken) = TakesDue old new at taken.0 taken.1

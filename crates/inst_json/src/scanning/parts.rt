@@ -22,8 +22,9 @@ fn is_space(byte: u8) -> bool
 }
 
 /// Returns the first position from `from` on that isn't white space.
-#[inline(always)]
-pub(crate) fn skip_space(text: &[u8], from: usize) -> usize
+// Kept out of line: inlined, the loop's setup would run at each position without white space too.
+#[inline(never)]
+fn skip_spaces(text: &[u8], from: usize) -> usize
     requires { from ≤ length text.now }
     ensures from { from ≤ result }
     ensures within { result ≤ length text.now }
@@ -36,6 +37,22 @@ pub(crate) fn skip_space(text: &[u8], from: usize) -> usize
         at += 1;
     }
     at
+}
+
+/// Does the same, at once where there is no white space.
+#[inline(always)]
+pub(crate) fn skip_space(text: &[u8], from: usize) -> usize
+    requires { from ≤ length text.now }
+    ensures from { from ≤ result }
+    ensures within { result ≤ length text.now }
+    ensures stops { result < length text.now → is_space (slice_index text.now result) ≡ false }
+    ensures same { lex between (drop result text.now) ≡ lex between (drop from text.now) }
+    ensures ascii { IsAscii (drop result text.now) → IsAscii (drop from text.now) }
+{
+    if from < text.len() && text[from] > b' ' {
+        return from;
+    }
+    skip_spaces(text, from)
 }
 
 /// Returns a mask of the bytes that end a plain text: a quotation mark, a backslash, a control byte

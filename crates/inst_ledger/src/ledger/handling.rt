@@ -19,10 +19,9 @@ ghost use Rattle.inst_journal.specs.Money.{reserved, position, available};
 use super::Ledger;
 use super::keeping::funding_event;
 use super::reading::{forwarding_in, is_sending, outcome_in, sending_in};
-use inst_base::{Fault, Ident, Moment, mention};
+use inst_base::{Fault, Ident, Moment};
 use inst_command::{Command, Entries, Entry, Funding, Lines, Outcome, Query, Reply, Submission};
 use inst_journal::{Event, Handled, standing, still_pending};
-use inst_transfers::{Side, Transfer};
 use std::alloc::{AllocError, Global};
 
 impl Ledger {

@@ -3,7 +3,7 @@ ghost use Rattle.std.specs.Prelude.{◌≡◌, ℕ, ◌<◌, ◌^◌, length, sl
 ghost use Rattle.std.specs.Prelude.{IfNone};
 ghost use Rattle.inst_settings.specs.Lawful.{IsSettings};
 ghost use Rattle.inst_journal.specs.Booked.{first_some, is_taken, is_forwarded, booked};
-ghost use Rattle.inst_journal.specs.Keys.{fundings, is_submission_repeat, has_reference};
+ghost use Rattle.inst_journal.specs.Keys.{fundings, has_reference};
 ghost use Rattle.inst_journal.specs.Money.{reserved, position, available};
 ghost use Rattle.inst_journal.specs.Opened.{live_submissions};
 ghost use Rattle.inst_journal.specs.Sound.{IsSound};

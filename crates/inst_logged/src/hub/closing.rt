@@ -1,6 +1,5 @@
 //! Opening a log without a run, and closing its hub for the next opening.
 ghost use Rattle.std.specs.Prelude.{◌≡◌, ◌++◌, None, IfSome, IfOk, IfErr, OnOk};
-ghost use Rattle.inst_lines.specs.Answering.{HubPast};
 ghost use Rattle.inst_world.specs.HasRun.{world_settings};
 ghost use Rattle.inst_world.specs.NextOpening.{CanOpenFrom};
 ghost use Rattle.inst_logged.specs.Closing.{ClosesWith};

@@ -1,10 +1,11 @@
 //! Running a step by the slot of its participant.
-ghost use Rattle.std.specs.Prelude.{◌≡◌, true};
+ghost use Rattle.std.specs.Prelude.{◌≡◌, true, IfOk, OnErr};
 ghost use Rattle.inst_settings.specs.Settings.{is_participant};
 ghost use Rattle.inst_command.specs.Ask.{ask_fits};
 ghost use Rattle.inst_command.specs.Step.{step_fits};
 ghost use Rattle.inst_command.specs.declared.reply.Answer.{Answer};
 ghost use Rattle.inst_command.specs.declared.step.Step.{Step};
+ghost use Rattle.inst_world.specs.HasRun.{Runs, IsOfModel, IsUnrun};
 ghost use Rattle.inst_world.specs.inner.Stepping.{RunsOrNeedsMemory};
 
 use super::World;
@@ -67,11 +68,23 @@ impl World {
         self.slots[usize::from(who)].expire(&mut self.board, index, at)
     }
 
-    /// Answers a command by the slot of its participant; a refusal is a reply.
-    fn ask(&mut self, ask: &Ask) -> Result<Reply, AllocError>
+    /// Answers one command as [`step`](World::step) does a [`Step::Ask`]. A refusal is a reply.
+    ///
+    /// Requires `ask.fits(settings)`. Cost: a constant number of hash look-ups, and a sorted
+    /// insertion or removal of a deadline; a statement or a fetch also copies what it returns.
+    ///
+    /// # Errors
+    ///
+    /// [`AllocError`]; the hub is unchanged. It is possible only for a command that needs memory
+    /// (`NeedsMemory`): its event is to be appended, or it copies entries or lines.
+    pub fn ask(&mut self, ask: &Ask) -> Result<Reply, AllocError>
         requires fits { ask_fits self.old.board.settings ask.now ≡ true }
-        ensures { RunsOrNeedsMemory (λ reply. Answer.Reply reply) self.old
-            (Step.Ask ask.now) result self.new }
+        ensures ok { IfOk result (λ reply.
+            Runs self.old (Step.Ask ask.now) (Answer.Reply reply) self.new) }
+        ensures model { IfOk result (λ reply.
+            IsOfModel self.old.board.settings (Step.Ask ask.now) (Answer.Reply reply)) }
+        ensures err { OnErr result (IsUnrun self.old self.new (Step.Ask ask.now)) }
+        ensures settings { self.new.board.settings ≡ self.old.board.settings }
     {
         refusals_told(self.slots[usize::from(ask.who)].apply(&mut self.board, ask))
     }

@@ -1,5 +1,5 @@
 //! The lines of answers.
-ghost use Rattle.std.specs.Prelude.{◌≡◌, ◌<◌, true, IfOk};
+ghost use Rattle.std.specs.Prelude.{◌≡◌, ◌<◌, true};
 ghost use Rattle.std.specs.List.{list_all};
 ghost use Rattle.inst_settings.specs.Settings.{participants, is_participant};
 ghost use Rattle.inst_command.specs.LineText.{line_fits};

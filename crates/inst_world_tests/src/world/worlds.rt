@@ -167,9 +167,8 @@ fn is_line_taken(
 ) -> Result<(bool, Moment), Fault> {
     mention::<Command>();
     let ask = reader.read_command(runner.settings(), line.as_bytes())?;
-    let at = ask.at;
-    let answer = runner.ask(ask)?;
-    Ok((is_taken(&answer), at))
+    let answer = runner.ask(&ask)?;
+    Ok((is_taken(&answer), ask.at))
 }
 
 /// Answers the line with its follow-ups, as a run does. It must not be refused.

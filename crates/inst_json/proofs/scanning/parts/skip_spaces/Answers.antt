@@ -1,7 +1,7 @@
 use Rattle.std.proofs.Common.{sym, ◌∙◌, arith}
 use Rattle.inst_json.proofs.AsciiFromPlace.{ascii_space}
 use Rattle.inst_json.proofs.TokensAtLinePlaces.{lex_space}
-use Rattle.inst_json.proofs.scanning.parts.skip_space.Goals as goal
+use Rattle.inst_json.proofs.scanning.parts.skip_spaces.Goals as goal
 
 pub loop-at-preserved : goal.loop-at-preserved
 loop-at-preserved c = record {

@@ -1,7 +1,7 @@
 use Rattle.std.proofs.Common.{◌≡◌, ◌≤◌, ◌-◌, length, drop}
 use Rattle.std.specs.Str.{IsAscii}
 use Rattle.json.specs.Lex.{lex, between}
-use Rattle.inst_json.proofs.scanning.parts.skip_space.Given as goal
+use Rattle.inst_json.proofs.scanning.parts.skip_spaces.Given as goal
 
 abbrev pub invariant-loop-at : goal.invariant-loop-at
 invariant-loop-at l = record {

@@ -1,8 +1,11 @@
-use Rattle.std.proofs.Common.{◌≡◌, sym, ◌∙◌, ap}
+use Rattle.std.proofs.Common.{◌≡◌, sym, ◌∙◌, ap, subst}
+use Rattle.inst_settings.specs.Lawful.{IsSettings}
 use Rattle.inst_command.specs.Ask.{ask_fits}
-use Rattle.inst_world.specs.HasRun.{World}
+use Rattle.inst_command.specs.declared.reply.Answer.TheVariants.{Reply}
+use Rattle.inst_world.specs.HasRun.{World, world_settings, HasRunSomething}
 use Rattle.inst_slot.proofs.ForwardedTransfersHavePlaces.{asks_adopted}
 use Rattle.inst_world.proofs.BooksAsOneSlotActs.{leads_to, acted}
+use Rattle.inst_world.proofs.HubRunAfterStep.{of_model, unrun}
 use Rattle.inst_world.proofs.StepIsRunOrRefused.{still_kept, asker, asked}
 use Rattle.inst_world.proofs.world.World.ask.Goals as goal
 
@@ -34,8 +37,29 @@ invariant_of-self c =
     (acted _ _ _ _ _ _ _ c.self.invariant.0 l e.law.holder e.law.lawful e.law.others e.law.same e.law.adopted)
     (asked _ _ _ _ _ _ _ c.self.view_is e.law.holder c.args.ask.now c.apply.result c.refusals_told.result (λ a d. d.settings ≡ a.settings) l c.requires.fits e.applies.decides e.applies.applies c.refusals_told.ensures)
 
-pub returns : goal.returns
-returns c =
+pub returns-clause-ok : goal.returns-clause-ok
+returns-clause-ok c =
     let l = leads_to _ _ _ _ _ c.self.invariant.0 c.self.view_is (asker c.args.self.now.board.settings c.args.ask.now c.requires.fits) c.from.ensures c.index_mut.ensures.value in
     let e = c.apply.ensures in
-    asked _ _ _ _ _ _ _ c.self.view_is e.law.holder c.args.ask.now c.apply.result c.refusals_told.result (λ a d. d.settings ≡ a.settings) l c.requires.fits e.applies.decides e.applies.applies c.refusals_told.ensures
+    (asked _ _ _ _ _ _ _ c.self.view_is e.law.holder c.args.ask.now c.apply.result c.refusals_told.result (λ a d. d.settings ≡ a.settings) l c.requires.fits e.applies.decides e.applies.applies c.refusals_told.ensures).ok
+
+pub returns-clause-model : goal.returns-clause-model
+returns-clause-model c =
+    let l = leads_to _ _ _ _ _ c.self.invariant.0 c.self.view_is (asker c.args.self.now.board.settings c.args.ask.now c.requires.fits) c.from.ensures c.index_mut.ensures.value in
+    let e = c.apply.ensures in
+    let ran = asked _ _ _ _ _ _ _ c.self.view_is e.law.holder c.args.ask.now c.apply.result c.refusals_told.result (λ a d. d.settings ≡ a.settings) l c.requires.fits e.applies.decides e.applies.applies c.refusals_told.ensures in
+    of_model (λ reply. Reply reply) _ _ _ _ (subst HasRunSomething c.self.view_is c.self.invariant.3)
+    (subst (λ (w : World). IsSettings (world_settings w)) c.self.view_is c.self.invariant.2) ran.ok
+
+pub returns-clause-err : goal.returns-clause-err
+returns-clause-err c =
+    let l = leads_to _ _ _ _ _ c.self.invariant.0 c.self.view_is (asker c.args.self.now.board.settings c.args.ask.now c.requires.fits) c.from.ensures c.index_mut.ensures.value in
+    let e = c.apply.ensures in
+    let ran = asked _ _ _ _ _ _ _ c.self.view_is e.law.holder c.args.ask.now c.apply.result c.refusals_told.result (λ a d. d.settings ≡ a.settings) l c.requires.fits e.applies.decides e.applies.applies c.refusals_told.ensures in
+    unrun _ _ _ _ ran.err ran.memory
+
+pub returns-clause-settings : goal.returns-clause-settings
+returns-clause-settings c =
+    let l = leads_to _ _ _ _ _ c.self.invariant.0 c.self.view_is (asker c.args.self.now.board.settings c.args.ask.now c.requires.fits) c.from.ensures c.index_mut.ensures.value in
+    let e = c.apply.ensures in
+    (asked _ _ _ _ _ _ _ c.self.view_is e.law.holder c.args.ask.now c.apply.result c.refusals_told.result (λ a d. d.settings ≡ a.settings) l c.requires.fits e.applies.decides e.applies.applies c.refusals_told.ensures).settings

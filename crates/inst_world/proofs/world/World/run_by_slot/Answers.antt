@@ -3,10 +3,10 @@ use Rattle.inst_world.proofs.StepIsRunOrRefused.{ran_matched, refused_matched}
 use Rattle.inst_world.proofs.world.World.run_by_slot.Goals as goal
 
 pub returns-in_ok-ask-in-Ask : goal.returns-in_ok-ask-in-Ask
-returns-in_ok-ask-in-Ask c = ran_matched (λ x. Reply x) _ _ _ _ _ c.in-Ask.is c.in_ok-ask-in-Ask.ensures
+returns-in_ok-ask-in-Ask c = ran_matched (λ x. Reply x) _ _ _ _ _ c.in-Ask.is record { ok = c.in_ok-ask-in-Ask.ensures.ok; err = tt; memory = tt; settings = c.ask.ensures.settings }
 
 pub returns-in_err-ask-in-Ask : goal.returns-in_err-ask-in-Ask
-returns-in_err-ask-in-Ask c = refused_matched _ (λ x. Reply x) _ _ _ _ _ _ c.in-Ask.is c.from_residual.ensures.1 c.in_err-ask-in-Ask.ensures
+returns-in_err-ask-in-Ask c = refused_matched _ (λ x. Reply x) _ _ _ _ _ _ c.in-Ask.is c.from_residual.ensures.1 (let refused = c.in_err-ask-in-Ask.ensures.err in record { ok = tt; err = refused.as_before; memory = refused.memory; settings = c.ask.ensures.settings })
 
 pub returns-in_ok-deliver-in-Deliver : goal.returns-in_ok-deliver-in-Deliver
 returns-in_ok-deliver-in-Deliver c = ran_matched (λ x. New x) _ _ _ _ _ c.in-Deliver.is c.in_ok-deliver-in-Deliver.ensures

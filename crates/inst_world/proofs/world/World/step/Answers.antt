@@ -6,7 +6,7 @@ use Rattle.inst_world.proofs.world.World.step.Goals as goal
 
 pub returns-clause-model : goal.returns-clause-model
 returns-clause-model c =
-    of_model _ _ _ _ (subst HasRunSomething c.self.view_is c.self.invariant.3)
+    of_model (λ x. x) _ _ _ _ (subst HasRunSomething c.self.view_is c.self.invariant.3)
     (subst (λ (w : World). IsSettings (world_settings w)) c.self.view_is c.self.invariant.2) c.run_by_slot.ensures.ok
 
 pub returns-clause-err : goal.returns-clause-err
