@@ -28,9 +28,9 @@ struct RaceReply {
 }
 
 /// Waits for the other threads at the steps at which all threads wait.
-fn keep_pace<R: Wait>(rt: &R, chooser: &Chooser, pace: &Pace) {
+fn keep_pace(chooser: &Chooser, pace: &Pace) {
     if let Some(arrivals) = chooser.arrivals() {
-        pace.wait(rt, arrivals);
+        pace.wait(arrivals);
     }
 }
 
@@ -77,7 +77,7 @@ fn take_steps<R: Wait>(
     let is_scarce = chooser.round.is_scarce;
     let mut sights = Sights::new(alloc)?;
     // Now all threads have their stacks, and one may take the memory.
-    keep_pace(rt, &chooser, pace);
+    keep_pace(&chooser, pace);
     let mut hoard = if is_scarce { Hoard::new(alloc) } else { None };
     for _step in 0..STEPS {
         let ended = take_step(
@@ -95,7 +95,7 @@ fn take_steps<R: Wait>(
             ended
         };
         ended?;
-        keep_pace(rt, &chooser, pace);
+        keep_pace(&chooser, pace);
     }
     Ok(RaceReply { sights, hoard })
 }
