@@ -1,7 +1,6 @@
 -- The sets of an agenda do what its definitions say.
-use Rattle.std.proofs.Common.{◌≡◌, ◌⊎◌, ℕ, zero, suc, ◌-◌, ◌<◌, ◌≤◌, Bool, true, false, ◌||◌, cond, List, [], ◌∷◌, ◌++◌, length, get_or, refl, sym, ap, ◌∙◌, arith, nat_cmp, is_gt, Ordering, inl, inr}
+use Rattle.std.proofs.Common.{◌≡◌, ℕ, zero, suc, ◌-◌, ◌<◌, ◌≤◌, Bool, true, false, ◌||◌, cond, List, [], ◌∷◌, ◌++◌, length, get_or, refl, sym, ap, ◌∙◌, arith, nat_cmp, is_gt, Ordering, inl, inr}
 use Rattle.std.specs.List.{list_any, All}
-use Rattle.std.proofs.lemmas.Grind.{common_steps}
 use Rattle.std.proofs.lemmas.List.{get_or_default}
 use Rattle.std.proofs.lemmas.List.Folds.{list_any-append, Any-from_list_any}
 use Rattle.std.proofs.lemmas.Bool.{cases_lt}
@@ -9,12 +8,12 @@ use Rattle.std.specs.Ordering.{ordering_then}
 use Rattle.std.specs.BTreeMap.{is_at}
 use Rattle.std.specs.BTreeMap.Range.{IsLtBy}
 use Rattle.std.specs.BTreeSet.{BTreeSet, contains, Updates, IsLowerBound}
-use Rattle.std.proofs.lemmas.Bool.{false≢true, cases_Bool}
+use Rattle.std.proofs.lemmas.Bool.{false≢true, cases_Bool, or_cases}
 use Rattle.std.proofs.lemmas.Bool.Decides.{nat_tests}
 use Rattle.inst_base.specs.TimeLimit.{is_due}
 use Rattle.inst_command.specs.declared.place.Place.{Place}
 use Rattle.inst_agenda.specs.Agenda.{is_same_place, is_entry}
-use Rattle.inst_agenda.specs.inner.Agenda.{place_comes_before, AreInOrder, WaitNoLater, Notes, Waits, TakesDue, NothingIsDue, TakesNext}
+use Rattle.inst_agenda.specs.inner.Agenda.{place_comes_before, AreInOrder, WaitNoLater, Notes, Waits, NothingIsDue, TakesNext}
 
 -- how the sets compare two places, and two entries
 abbrev pub place_cmp : ℕ × ℕ → ℕ × ℕ → Ordering
@@ -48,25 +47,6 @@ or_joined : (a b c : Bool) → (a || (b || c)) ≡ ((a || b) || c)
 or_joined true b c = refl
 or_joined false b c = refl
 
-turned_first : (a b c : Bool) → (a || (b || c)) ≡ (b || (a || c))
-turned_first true true c = refl
-turned_first true false c = refl
-turned_first false b c = refl
-
-turned_last : (a b other c : Bool) → b ≡ other → ((a || (b || false)) || c) ≡ ((a || c) || other)
-turned_last true b other c same = refl
-turned_last false true other true same = refl
-turned_last false true other false same = same
-turned_last false false other true same = refl
-turned_last false false other false same = same
-
-or_cases : (a b : Bool) → (a || b) ≡ true → (a ≡ true) ⊎ (b ≡ true)
-or_cases true b is = inl refl
-or_cases false b is = inr is
-
-same_turned : (m p k n q l : ℕ) → is_entry m p k (n, (q, l)) ≡ is_entry n q l (m, (p, k))
-same_turned m p k n q l = grind (arith, nat_tests)
-
 -- an entry of the row isn't due if none is
 none_of_row : (row : List (ℕ × (ℕ × ℕ))) (at : ℕ) → All (λ entry. is_due entry.0 at ≡ false) row → (m p k : ℕ) → list_any (is_entry m p k) row ≡ true → is_due m at ≡ false
 none_of_row row at none m p k there =
@@ -98,23 +78,6 @@ makes_wait next row s n moment place updates = record {
       ∙ ap (λ b. b || here) (sym (list_any-append (is_entry m p k) row s.keys));
 }
 
--- an entry that was put at the end of the row
-pub waits_last : (next : List (ℕ × ℕ)) (row others : List (ℕ × (ℕ × ℕ))) (moment : ℕ) (place : Place)
-    → Waits (record { waiting = row ++ others; next = next }) (record { waiting = (row ++ (moment, (place.owner, place.index)) ∷ []) ++ others; next = next }) moment place
-waits_last next row others moment place = record {
-  next_is = refl;
-  waiting_are = λ m p k.
-      let test = is_entry m p k in
-      let entry : ℕ × (ℕ × ℕ) = (moment, (place.owner, place.index)) in
-      list_any-append test (row ++ entry ∷ []) others ∙ ap (λ b. b || list_any test others) (list_any-append test row (entry ∷ []))
-      ∙ turned_last (list_any test row) (test entry) (is_entry moment place.owner place.index (m, (p, k))) (list_any test others) (same_turned m p k moment place.owner place.index)
-      ∙ ap (λ b. b || is_entry moment place.owner place.index (m, (p, k))) (sym (list_any-append test row others));
-}
-
--- the row stays in order
-pub in_order_after : (row : List (ℕ × (ℕ × ℕ))) (entry : ℕ × (ℕ × ℕ)) → AreInOrder row → WaitNoLater row entry.0 → AreInOrder (row ++ entry ∷ [])
-in_order_after row entry order last i j d less below = grind (arith, common_steps, order i j d less, last i d)
-
 pub in_order_rest : (entry : ℕ × (ℕ × ℕ)) (row : List (ℕ × (ℕ × ℕ))) → AreInOrder (entry ∷ row) → AreInOrder row
 in_order_rest entry row order i j d less below = order (suc i) (suc j) d (omega (arith, less)) (omega (arith, below))
 
@@ -138,18 +101,6 @@ none_due_in_row row first at order here early (suc k) d below =
   where
     later : (one other : ℕ) → one ≤ other → is_due one at ≡ false → is_due other at ≡ false
     later one other over early = grind (arith, nat_tests, over, early)
-
--- an entry of those out of order was taken out
-pub takes_other : (next : List (ℕ × ℕ)) (row old new : List (ℕ × (ℕ × ℕ))) (at moment : ℕ) (place : Place) → old ≡ (moment, (place.owner, place.index)) ∷ new → is_due moment at ≡ true
-    → TakesDue (record { waiting = row ++ old; next = next }) (record { waiting = row ++ new; next = next }) at moment place
-takes_other next row old new at moment place first due = rw first (record {
-  due = due;
-  next_is = refl;
-  fewer = grind (arith, common_steps);
-  waiting_were = λ m p k.
-      let test = is_entry m p k in
-      list_any-append test row _ ∙ turned_first (list_any test row) (test (moment, (place.owner, place.index))) (list_any test new) ∙ ap (λ b. test (moment, (place.owner, place.index)) || b) (sym (list_any-append test row new));
-})
 
 -- the least entry isn't due, so none of those out of order is; nor is any of the row
 pub none_is_due : (next : List (ℕ × ℕ)) (row : List (ℕ × (ℕ × ℕ))) (s : BTreeSet (ℕ × (ℕ × ℕ))) (first : ℕ × (ℕ × ℕ)) (at : ℕ) → All (λ entry. is_due entry.0 at ≡ false) row

@@ -3,7 +3,7 @@ use Rattle.std.proofs.Common.{◌≡◌, ◌≢◌, ℕ, zero, suc, ◌<◌, Boo
 use Rattle.std.specs.Prelude.{slice_get}
 use Rattle.std.proofs.Math.Bool.{and-false}
 use Rattle.std.proofs.lemmas.Option.{same_Some}
-use Rattle.std.proofs.lemmas.Bool.{cases_eq, cases_Bool, and_parts, and_from, or_cases, cond-true, cond-false, eqb-true, lt-ltb}
+use Rattle.std.proofs.lemmas.Bool.{cases_eq, cases_Bool, and_parts, and_from, or_cases, cond-false, eqb-true, lt-ltb}
 use Rattle.inst_settings.specs.Settings.{HubSettings, is_participant}
 use Rattle.inst_command.specs.Deciding.{expired, confirmed, rejected}
 use Rattle.inst_command.specs.Step.{step_fits}
@@ -23,7 +23,7 @@ use Rattle.inst_journal.proofs.OneMoreElement.{list_any_push, or-false, or_else-
 use Rattle.inst_model.specs.Opening.{Opening, IsOpening}
 use Rattle.inst_model.specs.Interleaving.{IsInterleaving}
 use Rattle.inst_model.specs.Transfer.{Transfer, transfer, live_transfers, at_place, deadline, is_named}
-use Rattle.inst_model.specs.View.{news, comes, tells, sees}
+use Rattle.inst_model.specs.View.{comes, tells}
 use Rattle.inst_model.specs.View.Seen.{Came}
 use Rattle.inst_model.specs.Wants.{ask_wants, taken_wants}
 use Rattle.inst_model.specs.Hub.{decided, outcome, history}
@@ -41,10 +41,10 @@ use Rattle.inst_agenda.specs.inner.Naming.{named_by}
 use Rattle.inst_world.specs.HasRun.{World, world_settings, HasRun}
 use Rattle.inst_agenda.specs.Resting.{RestsWith, Rests}
 use Rattle.inst_world.proofs.AskThatDecidesNothing.{unwanted}
-use Rattle.inst_world.proofs.BoardOutcomesAfterStep.{board_stays}
 use Rattle.inst_world.proofs.PlaceOfNamedTransfer.{to_participant}
+use Rattle.inst_world.proofs.StepsThatAddNothing.{tells_nothing, unseen_same, idle_runs}
 use Rattle.inst_agenda.proofs.StepsAfterLine.{of_transfer_no_ask, same_after}
-use Rattle.inst_world.proofs.PlacesOfLiveTransfers.{places_apart, actor, others_stay, sees_this, if_own}
+use Rattle.inst_world.proofs.PlacesOfLiveTransfers.{places_apart, others_stay, if_own}
 use Rattle.inst_world.proofs.DeliveryAndResolutionFollowModel.{takes_none, no_ask_deliver, no_ask_learn, no_ask_expire}
 
 -- a step leaves what is booked and forwarded, and forwards nothing that is decided
@@ -191,34 +191,6 @@ module _ (s : HubSettings) (O : Opening) (q n t : ℕ) (L : List Step) where
             ap (λ (b : Bool). cond b (expired (deadline s y) t) None) yes' ∙ none y z.0 is (eqb-true q p parts.0) z.1 z.2
       ]
 
--- nothing is told to a party that has booked what there is
-no_news : (p : ℕ) (id : List ℕ) (o known : Option Outcome) → ((z : Outcome) → o ≡ Some z → known ≡ Some z) → news p id o known ≡ []
-no_news p id None known told = refl
-no_news p id (Some z) known told = ap (news p id (Some z)) (told z refl)
-
-tells_nothing : (outcomes : ℕ → List ℕ → Option Outcome) (p who : ℕ) (J : List Event) (x : Transfer)
-    → ((z : Outcome) → outcomes p x.id ≡ Some z → (who ≡ p) ⊎ (is_forwarded p x.id J ≡ true) → booked p x.id J ≡ Some z) → tells outcomes p who J (Some x) ≡ []
-tells_nothing outcomes p who J x told = elim (cases_Bool ((who == p) || is_forwarded p x.id J)) [
-  | inr stranger ↦ cond-false ((who == p) || is_forwarded p x.id J) (news p x.id (outcomes p x.id) (booked p x.id J)) [] stranger
-  | inl party ↦
-      cond-true ((who == p) || is_forwarded p x.id J) (news p x.id (outcomes p x.id) (booked p x.id J)) [] party
-      ∙ no_news p x.id (outcomes p x.id) (booked p x.id J) (λ z is. told z is (party_of (or_cases (who == p) (is_forwarded p x.id J) party)))
-]
-  where
-    party_of : ((who == p) ≡ true) ⊎ (is_forwarded p x.id J ≡ true) → (who ≡ p) ⊎ (is_forwarded p x.id J ≡ true)
-    party_of (inl own) = inl (eqb-true who p own)
-    party_of (inr came) = inr came
-
--- a step of which its actor sees nothing leaves all histories
-unseen_same : (s : HubSettings) (O : Opening) (step : Step) (L : List Step) → sees s (history s O L) (outcome s O L) (decided s (history s O L) (outcome s O L) step) step (actor step) ≡ []
-    → (q : ℕ) → history s O (step ∷ L) q ≡ history s O L q
-unseen_same s O step L nothing q = elim (cases_eq q (actor step)) [
-  | inr other ↦ others_stay s O step L q other
-  | inl same ↦
-      (sees_this s O step L q []
-      (subst (λ (w : ℕ). sees s (history s O L) (outcome s O L) (decided s (history s O L) (outcome s O L) step) step w ≡ []) (sym same) nothing)).history_is
-]
-
 -- the four steps leave all histories and outcomes, where nothing is left to do
 module _ (s : HubSettings) (O : Opening) (L : List Step) (at p index : ℕ) (x : Transfer) (there : at_place p (history s O L p) index ≡ Some x) (rests : Rests s O L at p x) where
   rests_as : (o : Option Outcome) → outcome s O L p x.id ≡ o → RestsWith s at p x (history s O L p) (history s O L x.to) o
@@ -278,19 +250,6 @@ module _ (s : HubSettings) (O : Opening) (L : List Step) (at p index : ℕ) (x :
       (if_own p (tells (outcome s O (Expire p index at ∷ L)) p p (history s O L p) (at_place p (history s O L p) index))
       ∙ ap (tells (outcome s O (Expire p index at ∷ L)) p p (history s O L p)) there
       ∙ tells_nothing (outcome s O (Expire p index at ∷ L)) p p (history s O L p) x (λ z is party. told_already p (inl refl) z (sym (expiry_decides_none found p x.id) ∙ is) party))
-
--- a step that leaves all histories and outcomes leaves a hub that has run
-pub idle_runs : (O : Opening) (step : Step) (L : List Step) (hub : World) → step_fits (world_settings hub) step ≡ true
-    → ((q : ℕ) → history (world_settings hub) O (step ∷ L) q ≡ history (world_settings hub) O L q)
-    → ((q : ℕ) (id : List ℕ) → outcome (world_settings hub) O (step ∷ L) q id ≡ outcome (world_settings hub) O L q id)
-    → HasRun O L hub → HasRun O (step ∷ L) hub
-idle_runs O step L hub fits histories outcomes run = record {
-  opening = run.opening;
-  steps = (fits, run.steps);
-  histories = λ q book is. run.histories q book is ∙ sym (histories q);
-  board = board_stays (world_settings hub) O run.opening L run.steps step hub.board hub.board run.board
-      (λ q. ap (live_transfers q) (histories q)) (λ j a. (λ h. h, λ h. h)) (λ q n y is. outcomes q y.id);
-}
 
 -- a hub that has run these steps, and nothing is left to do of the transfer at a place
 record RunsAtRest (hub : World) (O : Opening) (at p index : ℕ) (x : Transfer) (L : List Step) : Type 0 where

@@ -20,5 +20,7 @@ pub mod NothingRunSinceOpening
 pub mod JournalsOpenWhereBooksCan
 pub mod ClosedWorldCanOpen
 pub mod RunsThatOnlyTell
+pub mod StepsThatAddNothing
+pub mod BeneficiariesStay
 pub mod NumbersOfStatementLines
 pub mod PlaceOfNamedTransfer

@@ -1,17 +1,20 @@
 //! Closing a hub in one thread, and copying its books for the next opening.
-ghost use Rattle.std.specs.Prelude.{◌≡◌, ◌++◌, ℕ, List, true, false, None, IfOk, IfSome, OnOk};
+ghost use Rattle.std.specs.Prelude.{◌≡◌, ◌++◌, ◌∷◌, ℕ, List, true, false, Some, None, IfOk, IfSome};
+ghost use Rattle.std.specs.Prelude.{OnOk, option_map};
 ghost use Rattle.inst_settings.specs.Settings.{is_participant, participants};
 ghost use Rattle.inst_command.specs.declared.step.Step.{Step};
 ghost use Rattle.inst_journal.specs.Opened.{HasOpeningsLeft};
 ghost use Rattle.inst_model.specs.Closing.{of_places, of_originators, closing};
 ghost use Rattle.inst_model.specs.Hub.{history};
 ghost use Rattle.inst_model.specs.Opening.{Opening};
-ghost use Rattle.inst_world.specs.HasRun.{HasRun};
+ghost use Rattle.inst_model.specs.Transfer.{at_place};
+ghost use Rattle.inst_world.specs.HasRun.{HasRun, HasRunSomething};
 ghost use Rattle.inst_world.specs.NextOpening.{books_of, AreJournalsOf, CanOpenFrom, AreCarried};
 ghost use Rattle.inst_world.specs.NextOpening.{HasClosed, HasOnlyTold};
+ghost use Rattle.inst_world.specs.inner.Closing.{HasAllBeneficiaries, HasBeneficiaries};
 
 use super::World;
-use inst_command::Step;
+use inst_command::{Place, Step};
 use inst_journal::Journal;
 use std::alloc::{AllocError, Global};
 
@@ -29,27 +32,85 @@ fn have_openings_left(journals: &[Journal]) -> bool
 }
 
 impl World {
-    /// Lets the participant learn the outcome at each place of the originator, and delivers the
-    /// pending transfers to it.
-    fn tell_places(&mut self, who: u8, from: u8, places: u16) -> Result<(), AllocError>
+    /// Returns the beneficiaries of the originator's live transfers, by the index of their places.
+    fn beneficiaries(&mut self, alloc: Global, from: u8) -> Result<Vec<u8>, AllocError>
+        ensures has { IfOk result (λ list. HasBeneficiaries self.old from list.items) }
+        ensures same { self.new ≡ self.old }
+    {
+        let mut list = Vec::new(alloc);
+        for index in 0..self.settings.places() {
+            let Some(to) = self.beneficiary_at(Place { owner: from, index }) else {
+                break;
+            };
+            list.push(to)?;
+        }
+        Ok(list)
+    }
+
+    /// Returns the beneficiaries of each originator's live transfers, by its number.
+    fn all_beneficiaries(&mut self, alloc: Global) -> Result<Vec<Vec<u8>>, AllocError>
+        ensures has { IfOk result (λ lists. HasAllBeneficiaries self.old lists.items) }
+        ensures same { self.new ≡ self.old }
+    {
+        let mut lists = Vec::new(alloc);
+        for from in 0..self.settings.participants() {
+            lists.push(self.beneficiaries(alloc, from as u8)?)?;
+        }
+        Ok(lists)
+    }
+
+    /// Lets the participant learn the outcome at the place, and delivers the pending transfer to it.
+    /// Does nothing if it is no side of the transfer there, which goes to `to`.
+    fn tell_place(&mut self, who: u8, place: Place, to: u8) -> Result<(), AllocError>
         requires who { is_participant self.old.board.settings who ≡ true }
-        requires from { is_participant self.old.board.settings from ≡ true }
+        requires from { is_participant self.old.board.settings place.owner ≡ true }
+        requires to { (O : Opening) (L : List Step) → HasRun O L self.old →
+            Some to ≡ option_map (λ x.
+            x.to) (at_place place.owner (history self.old.board.settings O L place.owner)
+            place.index) }
         ensures ran { OnOk result ((O : Opening) (L : List Step) → HasRun O L self.old →
-            HasRun O (of_places who from places ++ L) self.new) }
+            HasRun O (Step.Deliver place.owner place.index who
+            ∷ Step.Learn who place.owner place.index ∷ L) self.new) }
         ensures told { HasOnlyTold self.old self.new }
         ensures settings { self.new.board.settings ≡ self.old.board.settings }
     {
-        for index in 0..places {
-            self.step(&Step::Learn { who, from, index })?;
-            let to = who;
-            self.step(&Step::Deliver { from, index, to })?;
+        let Place { owner: from, index } = place;
+        if who != from && who != to {
+            return Ok(());
+        }
+        self.step(&Step::Learn { who, from, index })?;
+        let to = who;
+        self.step(&Step::Deliver { from, index, to })?;
+        Ok(())
+    }
+
+    /// Does the same for each place of the originator. `beneficiaries` are those of its live
+    /// transfers; no other place has a transfer.
+    fn tell_places(&mut self, who: u8, from: u8, beneficiaries: &[u8]) -> Result<(), AllocError>
+        requires who { is_participant self.old.board.settings who ≡ true }
+        requires from { is_participant self.old.board.settings from ≡ true }
+        requires run { HasRunSomething self.old }
+        requires beneficiaries { HasBeneficiaries self.old from beneficiaries.now }
+        ensures ran { OnOk result ((O : Opening) (L : List Step) → HasRun O L self.old →
+            HasRun O (of_places who from self.old.board.settings.places ++ L) self.new) }
+        ensures told { HasOnlyTold self.old self.new }
+        ensures settings { self.new.board.settings ≡ self.old.board.settings }
+    {
+        for index in 0..beneficiaries.len() {
+            let place = Place {
+                owner: from,
+                index: index as u16,
+            };
+            self.tell_place(who, place, beneficiaries[index])?;
         }
         Ok(())
     }
 
     /// Does the same for the places of all originators.
-    fn tell_originators(&mut self, who: u8) -> Result<(), AllocError>
+    fn tell_originators(&mut self, who: u8, beneficiaries: &[Vec<u8>]) -> Result<(), AllocError>
         requires who { is_participant self.old.board.settings who ≡ true }
+        requires run { HasRunSomething self.old }
+        requires beneficiaries { HasAllBeneficiaries self.old beneficiaries.now }
         ensures ran { OnOk result ((O : Opening) (L : List Step) → HasRun O L self.old →
             HasRun O (of_originators who self.old.board.settings.places
             (participants self.old.board.settings) ++ L) self.new) }
@@ -57,9 +118,8 @@ impl World {
         ensures settings { self.new.board.settings ≡ self.old.board.settings }
     {
         let originators = self.settings().participants();
-        let places = self.settings().places();
         for from in 0..originators {
-            self.tell_places(who, from as u8, places)?;
+            self.tell_places(who, from as u8, &beneficiaries[usize::from(from)])?;
         }
         Ok(())
     }
@@ -67,8 +127,9 @@ impl World {
     /// Closes the hub: each participant learns the decided outcomes and gets the pending transfers,
     /// at every place. Decides nothing.
     ///
-    /// The hub may run further steps. Cost: participants² × places visits, each a `Learn` and a
-    /// `Deliver`.
+    /// The hub may run further steps. Cost: a `Learn` and a `Deliver` for both sides of each live
+    /// transfer, and a comparison for each other participant. Takes a byte for each live transfer
+    /// meanwhile.
     ///
     /// # Errors
     ///
@@ -81,9 +142,11 @@ impl World {
         ensures closed { OnOk result (HasClosed self.new) }
         ensures settings { self.new.board.settings ≡ self.old.board.settings }
     {
+        let alloc = *self.slots.allocator();
         let participants = self.settings.participants();
+        let beneficiaries = self.all_beneficiaries(alloc)?;
         for who in 0..participants {
-            self.tell_originators(who as u8)?;
+            self.tell_originators(who as u8, &beneficiaries)?;
         }
         Ok(())
     }

@@ -5,6 +5,8 @@ use Rattle.inst_command.specs.declared.step.Step.{Step}
 use Rattle.inst_model.specs.Closing.{of_originators, of_participants, closing}
 use Rattle.inst_model.specs.Interleaving.{IsInterleaving}
 use Rattle.inst_world.specs.HasRun.{World, HasRun, HasRunSomething}
+use Rattle.inst_world.specs.inner.Closing.{HasAllBeneficiaries}
+use Rattle.inst_world.proofs.BeneficiariesStay.{still_all_beneficiaries, still_run}
 use Rattle.inst_world.proofs.RunsThatOnlyTell.{told_more, told_none}
 use Rattle.inst_world.proofs.world.World.close.Goals as goal
 
@@ -35,10 +37,19 @@ loop-who-preserved c =
           ap (λ n. of_participants all s.places n ++ L) next ∙ append_assoc (of_originators l.who s.places all) before L in
           subst (λ M. HasRun O M c.tell_originators.new.self) (sym steps) told;
       told = told_more _ _ _ l.invariant.told c.tell_originators.ensures.told;
+      has = still_all_beneficiaries l.self c.tell_originators.new.self c.in_ok-beneficiaries.beneficiaries.items (still_run _ _ (subst HasRunSomething c.self.view_is c.self.invariant.3) l.invariant.told)
+          c.tell_originators.ensures.settings c.tell_originators.ensures.told l.invariant.has;
     }
 
 pub loop-who-init : goal.loop-who-init
-loop-who-init c = record { settings = refl; ran = λ O L run. run; told = told_none _ _ (λ O L run. run) }
+loop-who-init c =
+    let same = c.in_ok-beneficiaries.ensures.same in
+    record {
+      settings = ap (λ (h : World). h.board.settings) same;
+      ran = λ O L run. subst (HasRun O L) (sym same) run;
+      told = told_none _ _ (λ O L run. subst (HasRun O L) (sym same) run);
+      has = subst (λ (h : World). HasAllBeneficiaries h c.in_ok-beneficiaries.beneficiaries.items) (sym same) c.in_ok-beneficiaries.ensures.has;
+    }
 
 pub returns-in_err-tell_originators-clause-told : goal.returns-in_err-tell_originators-clause-told
 returns-in_err-tell_originators-clause-told c = told_more _ _ _ c.loop-who.invariant.told c.tell_originators.ensures.told
