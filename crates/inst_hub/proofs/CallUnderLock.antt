@@ -1,6 +1,6 @@
 -- A call under a lock: what lies behind it stays lawful, and what the caller has then seen.
-use Rattle.std.proofs.Common.{◌≡◌, ℕ, ◌<◌, true, ltb-true, IfSome, List, [], ◌∷◌, sym, refl, ◌∙◌, subst, Option, Some, None, ◌++◌, append_assoc, ap}
-use Rattle.std.specs.Prelude.{Bool, Contains, Result, Ok, Err, OnErr}
+use Rattle.std.proofs.Common.{◌≡◌, ℕ, ◌<◌, true, ltb-true, IfSome, List, [], ◌∷◌, sym, refl, ◌∙◌, subst, Option, Some, None, ◌++◌, append_assoc, append-nil, ap}
+use Rattle.std.specs.Prelude.{Bool, Contains, Result, Ok, Err, IfOk, OnErr}
 use Rattle.std.proofs.lemmas.List.Elements.{Contains-append_left}
 use Rattle.inst_settings.specs.Settings.{HubSettings, participants, is_participant}
 use Rattle.inst_command.specs.declared.ask.Ask.{Ask}
@@ -28,7 +28,7 @@ use Rattle.inst_hub.specs.declared.teller.Teller.{Teller}
 use Rattle.inst_participant.specs.LockLaw.{IsLater}
 use Rattle.inst_participant.specs.Answers.{Answered, IsSubmitted, IsTicket, IsTicketOf}
 use Rattle.inst_participant.specs.declared.follow_up.FollowUp.{FollowUp}
-use Rattle.inst_participant.specs.Following.{follow_up_of, Does}
+use Rattle.inst_participant.specs.Following.{follow_up_of, follow_up_after, Does}
 use Rattle.inst_participant.specs.Serving.{AnswersWithTicket, LeavesUnanswered}
 use Rattle.inst_hub.specs.Calls.{IsCall, Calls, IsLeftUnanswered, TellerKnowsMore, IsFollowed, knows_of, fronts_seen}
 use Rattle.inst_hub.specs.Founding.{IsSince}
@@ -151,9 +151,24 @@ followed_from h (Some f) t u fronts more done = record {
   seen = done.seen;
 }
 
-pub on_err : {A B : Type 0} (r : Result A B) (X : Type 0) → X → OnErr r X
-on_err (Ok a) X x = tt
-on_err (Err b) X x = x
+-- what was answered, or left
+pub asks_of : (h : Hub) (t u : Teller) (ask : Ask) (r : Result (Reply × Option Place) AllocError) (f : Option FollowUp) (x y : Participant) (p : ℕ) → p ≡ ask.who → IsSince (key_of h.row) p x
+    → GoesOn p x.slot.events t.seat → fronts_seen u ≡ fronts_seen t ++ front p x.slot.events ∷ front p y.slot.events ∷ []
+    → IsSound x.slot.settings x.slot.who x.slot.events → IfOk r (λ answer. AnswersWithTicket x ask answer (sight_knows u.sight) y)
+    → f ≡ follow_up_after y.slot.events ask.command r → IfOk r (λ answer. Asks h t ask (answer, f) u)
+asks_of h t u ask (Ok answer) f x y p is behind goes_on seen sound answers follows = asks_at h t u ask answer f x y p is behind goes_on seen sound answers follows
+asks_of h t u ask (Err fault) f x y p is behind goes_on seen sound answers follows = tt
+
+pub left_of : (h : Hub) (t u : Teller) (ask : Ask) (r : Result (Reply × Option Place) AllocError) (x y : Participant) (p : ℕ) → p ≡ ask.who → IsSince (key_of h.row) p x
+    → GoesOn p x.slot.events t.seat → fronts_seen u ≡ fronts_seen t ++ front p x.slot.events ∷ front p y.slot.events ∷ []
+    → OnErr r (LeavesUnanswered x ask y) → OnErr r (IsLeftUnanswered h t ask u)
+left_of h t u ask (Ok answer) x y p is behind goes_on seen leaves = tt
+left_of h t u ask (Err fault) x y p is behind goes_on seen leaves = left_at h t u ask x y p is behind goes_on seen leaves
+
+-- nothing follows where memory was refused
+pub none_after : (J : List Event) (command : Command) (r : Result (Reply × Option Place) AllocError) (f : Option FollowUp) → f ≡ follow_up_after J command r → OnErr r (f ≡ None)
+none_after J command (Ok answer) f follows = tt
+none_after J command (Err fault) f follows = follows
 
 -- what a teller knows stays known
 pub knows_twice : (t u v : Teller) → TellerKnowsMore t u → TellerKnowsMore u v → TellerKnowsMore t v
@@ -208,3 +223,26 @@ call_more h t u v ask r asks known more follows =
       ticket = ticket_more (knows_of u) (knows_of v) more.facts h.settings ask.who ask.command c.left.slot.events (transfer_told r.0.0) r.0.1 c.ticket;
     } in
     (follows.fronts, call, subst (λ (f : Option FollowUp). IsFollowed h f t follows.fronts) asks.1 (followed_from h r.1 t u follows.fronts known follows.followed))
+
+pub calls_of : (h : Hub) (t u v : Teller) (ask : Ask) (r : Result (Reply × Option Place) AllocError) (f : Option FollowUp) → IfOk r (λ answer. Asks h t ask (answer, f) u) → TellerKnowsMore t u → TellerKnowsMore u v
+    → Follows h f u v → IfOk r (λ answer. Calls h t ask answer v)
+calls_of h t u v ask (Ok answer) f asks known more follows = call_more h t u v ask (answer, f) asks known more follows
+calls_of h t u v ask (Err fault) f asks known more follows = tt
+
+-- nothing followed, so nothing else was seen
+left_still : (h : Hub) (t u v : Teller) (ask : Ask) (f : Option FollowUp) → IsLeftUnanswered h t ask u → f ≡ None → Follows h f u v → IsLeftUnanswered h t ask v
+left_still h t u v ask None left none follows = record {
+  found = left.found;
+  left = left.left;
+  behind = left.behind;
+  goes_on = left.goes_on;
+  seen = follows.seen ∙ (ap (λ (fs : List (Front Event)). fronts_seen u ++ fs) follows.followed ∙ (append-nil (fronts_seen u) ∙ left.seen));
+  serves = left.serves;
+  same = left.same;
+}
+left_still h t u v ask (Some g) left none follows = absurd (cc (none))
+
+pub left_after : (h : Hub) (t u v : Teller) (ask : Ask) (r : Result (Reply × Option Place) AllocError) (f : Option FollowUp) → OnErr r (IsLeftUnanswered h t ask u) → OnErr r (f ≡ None) → Follows h f u v
+    → OnErr r (IsLeftUnanswered h t ask v)
+left_after h t u v ask (Ok answer) f left none follows = tt
+left_after h t u v ask (Err fault) f left none follows = left_still h t u v ask f left none follows

@@ -1,5 +1,5 @@
 //! Calls, under the locks of participants.
-ghost use Rattle.std.specs.Prelude.{◌≡◌, ◌<◌, true, IfOk, IfSome, OnErr};
+ghost use Rattle.std.specs.Prelude.{◌≡◌, ◌<◌, true, None, IfOk, IfSome, OnErr};
 ghost use Rattle.inst_command.specs.Ask.{ask_fits};
 ghost use Rattle.inst_hub.specs.Calls.{IsTellerOf, TellerKnowsMore, HasCalled, IsLeftUnanswered};
 ghost use Rattle.inst_hub.specs.inner.Calls.{Follows, Asks};
@@ -63,26 +63,31 @@ impl Hub {
         requires fits { ask_fits self.now.settings ask.now ≡ true }
         ensures { HasCalled self.now teller.old ask.now result teller.new }
     {
-        let (answer, follow_up) = self.ask(rt, teller, ask, gate)?;
+        let (answer, follow_up) = self.ask(rt, teller, ask, gate);
         self.follow(rt, teller, follow_up);
-        Ok(answer)
+        answer
     }
 
-    /// Answers a command under the asker's lock. Also returns the follow-up.
+    /// Answers a command under the asker's lock. Also returns the follow-up, none on failure.
     pub(crate) fn ask<R: Wait, G: Gate>(
         &self,
         rt: &R,
         teller: &mut Teller,
         ask: &Ask,
         gate: &G,
-    ) -> Result<((Reply, Option<Ticket>), Option<FollowUp>), AllocError>
+    ) -> (
+        Result<(Reply, Option<Ticket>), AllocError>,
+        Option<FollowUp>,
+    )
         requires of { IsTellerOf self.now teller.old }
         requires fits { ask_fits self.now.settings ask.now ≡ true }
         ensures of { IsTellerOf self.now teller.new }
         ensures knows { TellerKnowsMore teller.old teller.new }
-        ensures call { IfOk result (λ r. Asks self.now teller.old ask.now r teller.new) }
-        ensures lock { IfOk result (λ r. IfSome r.1 (λ f. f.who < size self.now.row)) }
-        ensures left { OnErr result (IsLeftUnanswered self.now teller.old ask.now teller.new) }
+        ensures call { IfOk result.0 (λ answer.
+            Asks self.now teller.old ask.now (answer, result.1) teller.new) }
+        ensures lock { IfSome result.1 (λ f. f.who < size self.now.row) }
+        ensures left { OnErr result.0 (IsLeftUnanswered self.now teller.old ask.now teller.new) }
+        ensures none { OnErr result.0 (result.1 ≡ None) }
     {
         let lock = usize::from(ask.who);
         let mut participant = self.row.take(rt, &mut teller.seat, lock);
@@ -90,7 +95,7 @@ impl Hub {
         let follow_up = participant.follow_up(&ask.command, &answer);
         gate.pass(ask.who);
         self.row.give(&mut teller.seat, lock, participant);
-        Ok((answer?, follow_up))
+        (answer, follow_up)
     }
 
     /// Does the follow-up under the other side's lock. Drops it if it fails to allocate.
