@@ -2,7 +2,6 @@ pub mod OriginatorTellsOfPlace
 pub mod CopiesOfBooks
 pub mod BooksCarryWhatHubCarried
 pub mod RemainsOfClosingHub
-pub mod CodesCopied
 pub mod NextHubFromCopies
 pub mod PositionSumsAreSmall
 pub mod StepsExplainCopiedBooks

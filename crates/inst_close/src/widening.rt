@@ -12,12 +12,7 @@ fn codes_with(alloc: Global, settings: &Settings, more: &[Code]) -> Result<Vec<C
     ensures { IfOk result (λ codes. codes.items ≡ settings.now.codes ++ more.now) }
 {
     let mut codes = Vec::new(alloc);
-    for number in 0..settings.participants() {
-        let Some(code) = settings.code(number as u8) else {
-            unreachable!()
-        };
-        codes.push(*code)?;
-    }
+    codes.extend_from_slice(settings.codes())?;
     codes.extend_from_slice(more)?;
     Ok(codes)
 }

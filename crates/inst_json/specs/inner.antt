@@ -5,3 +5,4 @@ pub mod Lines
 pub mod Scalar
 pub mod Names
 pub mod Begin
+pub mod Spaces

@@ -161,7 +161,8 @@ impl Merge {
         Ok(true)
     }
 
-    /// Gives the transfer the originator's next place, unless its outcome was booked before the opening.
+    /// Gives the transfer the originator's next place, unless its outcome was booked before the
+    /// opening.
     fn take(&mut self, who: u8, id: Ident) -> Result<(), AllocError> {
         let place = self.places[usize::from(who)];
         let progress = self.progress(who, id)?;

@@ -136,6 +136,13 @@ impl Settings {
         self.codes.get(usize::from(index))
     }
 
+    /// Returns the codes of the participants, by number.
+    pub fn codes(&self) -> &[Code]
+        ensures { result.now ≡ self.now.codes }
+    {
+        &self.codes
+    }
+
     /// Returns the number of participants, 1 to 256.
     pub fn participants(&self) -> u16
         ensures value { result ≡ participants self.now }

@@ -44,16 +44,26 @@ impl Side {
     }
 }
 
+impl Transfer {
+    /// Returns the entry of this transfer at its key. For an own transfer its `deadline` is the time
+    /// stamp.
+    pub(crate) fn entry(&self, from: u8, id: Ident) -> Entry
+        ensures { result ≡ row_in ((from, id), self.now) }
+    {
+        Entry {
+            from,
+            id,
+            cents: self.cents,
+            deadline: self.side.time(),
+        }
+    }
+}
+
 impl Found {
     /// Returns the transfer's entry. For an own transfer its `deadline` is the time stamp.
     pub fn entry(&self) -> Entry
         ensures { result ≡ row_in ((self.now.from, self.now.id), self.now.transfer) }
     {
-        Entry {
-            from: self.from,
-            id: self.id,
-            cents: self.transfer.cents,
-            deadline: self.transfer.side.time(),
-        }
+        self.transfer.entry(self.from, self.id)
     }
 }

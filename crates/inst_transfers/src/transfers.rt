@@ -134,12 +134,7 @@ impl Transfers {
         ensures { result ≡ slice_get (rows_in self.now.entries) position }
     {
         let (key, transfer) = self.table.get_index(position)?;
-        Some(Entry {
-            from: key.0,
-            id: key.1,
-            cents: transfer.cents,
-            deadline: transfer.side.time(),
-        })
+        Some(transfer.entry(key.0, key.1))
     }
 
     /// Returns the number of transfers.

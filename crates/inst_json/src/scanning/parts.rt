@@ -4,6 +4,7 @@ ghost use Rattle.std.specs.Prelude.{length, drop, slice_index, Some, IfSome, dec
 ghost use Rattle.std.specs.List.{prefix_len};
 ghost use Rattle.std.specs.Str.{IsAscii};
 ghost use Rattle.inst_json.specs.inner.Scalar.{is_text};
+ghost use Rattle.inst_json.specs.inner.Spaces.{SkipsSpace};
 ghost use Rattle.std.specs.Simd.Lanes.{mask_l};
 ghost use Rattle.json.specs.Word.{is_space, ends_word};
 ghost use Rattle.json.specs.Text.{content, plain};
@@ -26,11 +27,7 @@ fn is_space(byte: u8) -> bool
 #[inline(never)]
 fn skip_spaces(text: &[u8], from: usize) -> usize
     requires { from ≤ length text.now }
-    ensures from { from ≤ result }
-    ensures within { result ≤ length text.now }
-    ensures stops { result < length text.now → is_space (slice_index text.now result) ≡ false }
-    ensures same { lex between (drop result text.now) ≡ lex between (drop from text.now) }
-    ensures ascii { IsAscii (drop result text.now) → IsAscii (drop from text.now) }
+    ensures { SkipsSpace text.now from result }
 {
     let mut at = from;
     while at < text.len() && is_space(text[at]) {
@@ -43,11 +40,7 @@ fn skip_spaces(text: &[u8], from: usize) -> usize
 #[inline(always)]
 pub(crate) fn skip_space(text: &[u8], from: usize) -> usize
     requires { from ≤ length text.now }
-    ensures from { from ≤ result }
-    ensures within { result ≤ length text.now }
-    ensures stops { result < length text.now → is_space (slice_index text.now result) ≡ false }
-    ensures same { lex between (drop result text.now) ≡ lex between (drop from text.now) }
-    ensures ascii { IsAscii (drop result text.now) → IsAscii (drop from text.now) }
+    ensures { SkipsSpace text.now from result }
 {
     if from < text.len() && text[from] > b' ' {
         return from;

@@ -13,7 +13,6 @@ returns-in_err-key c =
 pub returns : goal.returns
 returns c =
     let i = c.self.inside in
-    let key = c.in_ok-key.key.now in
-    ap (λ d. Some (record { from = key.0; id = key.1; cents = c.in_ok-key.transfer.now.cents; deadline = d })) c.time.ensures
+    ap Some c.entry.ensures
     ∙ sym (slice_get-map row_in i.table.entries c.args.position ∙ ap (option_map row_in) (sym c.in_ok-key.ensures.entry))
     ∙ ap (λ (h : Held). slice_get (rows_in h.entries) c.args.position) c.self.view_is
