@@ -11,6 +11,7 @@ use Rattle.inst_settings.specs.Settings.{HubSettings, same_text}
 use Rattle.inst_settings.specs.Lawful.{AreOfAHub, IsSettings}
 use Rattle.inst_options.specs.CommandLine.{command_line}
 use Rattle.inst_options.specs.BadOptions.{IsBadOption}
+use Rattle.inst_options.specs.Changes.{GivesChanges}
 use Rattle.inst_options.specs.Options.{AreOfNoLog, Chooses, GivesDigest, HasAHub, HasSmallNumbers}
 use Rattle.inst_options.specs.Options.{IsFlag, IsTask, IsText, NamesNoLog, NamesTheLog, Task}
 use Rattle.inst_options.specs.Options.Task.{Run, Play, Drill, Check}
@@ -18,6 +19,7 @@ use Rattle.inst_options.specs.declared.bad_option.BadOption.{BadOption}
 use Rattle.inst_options.specs.declared.error.WordsError.{WordsError}
 use Rattle.inst_options.specs.declared.error.WordsError.TheVariants as error
 use Rattle.inst_options.specs.declared.invocation.LogOptions.{LogOptions}
+use Rattle.inst_options.specs.declared.setting_changes.SettingChanges.{SettingChanges}
 use Rattle.inst_options.specs.declared.invocation.Invocation.{Invocation}
 use Rattle.inst_options.specs.declared.invocation.Invocation.TheVariants as wish
 
@@ -82,12 +84,13 @@ AskForTheLog words path = AreWhole words
     × (same_text name (codes "log") ≡ true) × IsText (codes "file") rows path)
 
 -- The words are a whole command line and ask for the second log, which begins with the books of the
--- first; the first must contain this digest, if one is given.
-abbrev pub AskForTheNext : List (List ℕ) → List ℕ → List ℕ → Option (List ℕ) → Type 0
-AskForTheNext words from to digest = AreWhole words
+-- first, under settings with these changes; the first must contain this digest, if one is given.
+abbrev pub AskForTheNext : List (List ℕ) → List ℕ → List ℕ → Option (List ℕ) → SettingChanges →
+    Type 0
+AskForTheNext words from to digest changes = AreWhole words
     × ((name : List ℕ) × (rows : List Row) × (subcommand_of command_line words ≡ Some (name, rows))
     × (same_text name (codes "next") ≡ true) × IsText (codes "log") rows from
-    × IsText (codes "to") rows to × GivesDigest rows digest)
+    × IsText (codes "to") rows to × GivesDigest rows digest × GivesChanges rows changes)
 
 -- The words ask for a summary, or not.
 abbrev pub AskForASummary : List (List ℕ) → Bool → Type 0
@@ -120,8 +123,8 @@ IsWished words (wish.Drill s transfers openings script) =
     × NameTheScript words (option_map (λ file. file.now) script)
 IsWished words (wish.Check s) = IsSettings s × AreWhole words × AreChosen words Check s
 IsWished words (wish.Log path) = AskForTheLog words path.now
-IsWished words (wish.Next from to digest) =
-    AskForTheNext words from.now to.now (option_map (λ d. d.now) digest)
+IsWished words (wish.Next next) =
+    AskForTheNext words next.from.now next.to.now (option_map (λ d. d.now) next.digest) next.changes
 IsWished words (wish.Explain word) = AskToExplain words word.now
 
 -- The words are a whole command line for a hub, and choose no settings that a hub can have, or no

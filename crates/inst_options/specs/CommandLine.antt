@@ -117,6 +117,30 @@ drill_rules =
     number_rule (codes "transfers") (codes "200") ∷ number_rule (codes "openings") (codes "1")
     ∷ script_rule ∷ []
 
+-- The codes of all participants after an opening.
+abbrev pub codes_rule : Rule
+codes_rule =
+    record (new_rule (codes "participants")) {
+      long = Some (codes "participants");
+      action =
+          Some Set;
+      value_names = 1;
+    }
+
+-- A whole number of 64 bits, without a default.
+abbrev pub change_rule : List ℕ → Rule
+change_rule name = record (number_rule name []) { defaults = [] }
+
+-- The settings that `next` can change.
+abbrev pub change_rules : List Rule
+change_rules =
+    codes_rule ∷ change_rule (codes "places") ∷ change_rule (codes "fundings")
+    ∷ change_rule (codes "limit")
+    ∷ change_rule (codes "margin")
+    ∷ change_rule (codes "ahead")
+    ∷ change_rule (codes "ceiling")
+    ∷ []
+
 -- The two logs of `next`, and a digest that the first one must contain.
 abbrev pub next_rules : List Rule
 next_rules = named_rule (codes "log") ∷ named_rule (codes "to") ∷ digest_rule ∷ []
@@ -138,7 +162,7 @@ subcommands =
     ∷ subcommand (codes "check") hub_rules
     ∷ subcommand (codes "drill") (hub_rules ++ drill_rules)
     ∷ subcommand (codes "log") (file_rule ∷ [])
-    ∷ subcommand (codes "next") next_rules
+    ∷ subcommand (codes "next") (next_rules ++ change_rules)
     ∷ subcommand (codes "explain") (fault_rule ∷ [])
     ∷ []
 

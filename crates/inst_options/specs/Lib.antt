@@ -1,6 +1,7 @@
 -- Cited by public contracts.
 pub mod CommandLine
 pub mod Options
+pub mod Changes
 pub mod BadOptions
 pub mod Asking
 pub mod Rows

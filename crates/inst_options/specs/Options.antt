@@ -52,10 +52,10 @@ DescribesALog rows =
     IsGiven (codes "told") rows
     ⊎ (IsGiven (codes "digest") rows ⊎ IsFlag (codes "resume") rows true)
 
--- The options give this number of replies that the client has, or no number of 64 bits.
-abbrev pub GivesTold : List Row → Option ℕ → Type 0
-GivesTold rows None = GivesNoneBelow (2 ^ 64) rows (codes "told")
-GivesTold rows (Some n) = Gives rows (codes "told") n
+-- The option gives this number, or no number of 64 bits.
+abbrev pub GivesOrNot : List Row → List ℕ → Option ℕ → Type 0
+GivesOrNot rows name None = GivesNoneBelow (2 ^ 64) rows name
+GivesOrNot rows name (Some n) = Gives rows name n
 
 -- A digit, `0-9 a-f`.
 abbrev pub is_digest_character : ℕ → Bool
@@ -82,7 +82,7 @@ GivesResume rows told digest resume =
 -- The options name this log, this number of replies, whether it must exist, and this digest.
 abbrev pub NamesTheLog : List Row → List ℕ → Option ℕ → Bool → Option Text → Type 0
 NamesTheLog rows path told resume digest =
-    (first_of (codes "log") rows ≡ Some path) × GivesTold rows told
+    (first_of (codes "log") rows ≡ Some path) × GivesOrNot rows (codes "told") told
     × GivesResume rows told digest resume × GivesDigest rows digest
 
 -- The options name no log.

@@ -9,6 +9,7 @@ use Rattle.inst_settings.specs.declared.hub_parameters.TheConstants.HubParameter
 use Rattle.inst_options.specs.Asking.{AreChosen, AreWhole, AskForTheLog, AskForTheNext}
 use Rattle.inst_options.specs.Asking.{AskToExplain, NameNoLog, NameTheLog, faults_of}
 use Rattle.inst_options.specs.Options.Task.{Run, Play, Drill}
+use Rattle.inst_options.specs.declared.setting_changes.SettingChanges.{SettingChanges}
 
 -- `inst_main run --participants AAAADEFF,BBBBFRPP --places 2`
 abbrev pub small_hub : List (List ℕ)
@@ -55,8 +56,21 @@ pub record DefaultHub : Type 0 where
 abbrev pub empty_digest : List ℕ
 empty_digest = codes "e3b0c44298fc1c149afbf4c8996fb92427ae41e4649b934ca495991b7852b855"
 
+-- No setting changes.
+abbrev pub no_changes : SettingChanges
+no_changes = record {
+  participants = None;
+  places = None;
+  fundings = None;
+  limit = None;
+  margin = None;
+  ahead = None;
+  ceiling = None;
+}
+
 -- Words with `--log`; with `--log` and `--told`, `--resume` or `--digest`; with none of these;
--- `inst_main log hub.log`; `inst_main next --log hub.log --to next.log`, without and with a digest.
+-- `inst_main log hub.log`; `inst_main next --log hub.log --to next.log`, without more, with a
+-- digest, and with more places.
 pub record KeptHub : Type 0 where
   pub whole : AreWhole (small_hub ++ codes "--log" ∷ codes "hub.log" ∷ [])
   pub all_told : NameTheLog (small_hub ++ codes "--log" ∷ codes "hub.log"
@@ -73,10 +87,13 @@ pub record KeptHub : Type 0 where
   pub shown : AskForTheLog (codes "inst_main" ∷ codes "log" ∷ codes "hub.log"
       ∷ []) (codes "hub.log")
   pub carried : AskForTheNext (codes "inst_main" ∷ codes "next" ∷ codes "--log" ∷ codes "hub.log"
-      ∷ codes "--to" ∷ codes "next.log" ∷ []) (codes "hub.log") (codes "next.log") None
+      ∷ codes "--to" ∷ codes "next.log" ∷ []) (codes "hub.log") (codes "next.log") None no_changes
   pub known_carried : AskForTheNext (codes "inst_main" ∷ codes "next" ∷ codes "--log"
       ∷ codes "hub.log" ∷ codes "--to" ∷ codes "next.log" ∷ codes "--digest" ∷ empty_digest
-      ∷ []) (codes "hub.log") (codes "next.log") (Some empty_digest)
+      ∷ []) (codes "hub.log") (codes "next.log") (Some empty_digest) no_changes
+  pub with_places : AskForTheNext (codes "inst_main" ∷ codes "next" ∷ codes "--log"
+      ∷ codes "hub.log" ∷ codes "--to" ∷ codes "next.log" ∷ codes "--places" ∷ codes "1024"
+      ∷ []) (codes "hub.log") (codes "next.log") None (record no_changes { places = Some 1024 })
 
 -- Words that aren't a whole command line: `inst_main run`, `inst_main play`, `inst_main drill`,
 -- `inst_main`, `inst_main --help` and `inst_main --version`.

@@ -164,7 +164,7 @@ fn advice_of(fault: Fault) -> &'static str {
         }
         Fault::BadIdentifier => { "shorten it, or use other characters" }
         Fault::BadAmount => {
-            "give the amount in cents; for a higher `--ceiling` start a new hub, with a new log"
+            "give the amount in cents; on a log, `next` takes a higher `--ceiling`"
         }
         Fault::BadMoment => {
             "give moments in milliseconds; for another `--base` start a new hub, with a new log"
@@ -177,9 +177,7 @@ fn advice_of(fault: Fault) -> &'static str {
             use a new identifier or reference; to repeat a line whose reply was lost, send its \
             fields unchanged"
         }
-        Fault::StampAhead => {
-            "set the clocks; for a larger `--ahead` start a new hub, with a new log"
-        }
+        Fault::StampAhead => { "set the clocks; on a log, `next` takes a larger `--ahead`" }
         Fault::Expired => {
             "\
             submit with a new time stamp, and the same identifier if you like; the beneficiary may \
@@ -187,8 +185,7 @@ fn advice_of(fault: Fault) -> &'static str {
         }
         Fault::Full => {
             "\
-            on a log, run `next`; for more `--places` or `--fundings`, at most 1,024, start a new \
-            hub, with a new log"
+            on a log, run `next`, which also takes more `--places` and `--fundings`, at most 1,024"
         }
         Fault::Shortage => { "ask for the `position`; fund, or wait for outcomes" }
         Fault::Memory => {

@@ -1,4 +1,5 @@
 //! The tasks that a command line can ask for.
+use crate::setting_changes::SettingChanges;
 use inst_settings::Settings;
 
 /// The log of a run.
@@ -12,6 +13,19 @@ pub struct LogOptions<'a> {
     pub resume: bool,
     /// A digest that the log must contain, 64 lower-case hexadecimal digits.
     pub digest: Option<&'a str>,
+}
+
+/// The logs of a next opening, and its settings.
+#[derive(Clone, Copy)]
+pub struct NextOptions<'a> {
+    /// The log of the hub to close.
+    pub from: &'a str,
+    /// The log that begins with the books.
+    pub to: &'a str,
+    /// A digest that the first log must contain, 64 lower-case hexadecimal digits.
+    pub digest: Option<&'a str>,
+    /// What changes.
+    pub changes: SettingChanges<'a>,
 }
 
 /// The task that the words of a command line ask for.
@@ -29,9 +43,8 @@ pub enum Invocation<'a> {
     Check(Settings),
     /// Prints the settings and the number of lines of the log of this name.
     Log(&'a str),
-    /// Closes the hub of the first log, and begins the second log with its books. The first log
-    /// must contain the digest, if there is one.
-    Next(&'a str, &'a str, Option<&'a str>),
+    /// Closes the hub of a log, and begins another log with its books.
+    Next(NextOptions<'a>),
     /// Explains the fault of this number or name.
     Explain(&'a str),
 }

@@ -5,14 +5,17 @@ ghost use Rattle.std.specs.Prelude.{codes, option_map};
 ghost use Rattle.clap.specs.Words.{first_of, found_of, rows_of};
 ghost use Rattle.inst_options.specs.Options.{AreOfNoLog, GivesNoDigest, HasAHub, IsText};
 ghost use Rattle.inst_options.specs.Options.{IsFlag, Gives, GivesNoneBelow, Chooses, IsDrill};
-ghost use Rattle.inst_options.specs.Options.{DescribesALog, GivesDigest, IsGiven, must_resume};
+ghost use Rattle.inst_options.specs.Options.{DescribesALog, GivesDigest, GivesOrNot, IsGiven};
+ghost use Rattle.inst_options.specs.Options.{must_resume};
+ghost use Rattle.inst_options.specs.Changes.{GivesChanges};
 ghost use Rattle.inst_options.specs.inner.Options.{GivesLog, IsWish};
 ghost use Rattle.inst_options.specs.inner.Options.{ChooseNone, AskForNone};
 ghost use Rattle.inst_options.specs.Asking.{IsBeginRefusal};
 ghost use Rattle.inst_settings.specs.Lawful.{IsSettings};
 
 use crate::digest::is_digest;
-use crate::invocation::{Invocation, LogOptions};
+use crate::invocation::{Invocation, LogOptions, NextOptions};
+use crate::setting_changes::SettingChanges;
 use clap::ArgMatches;
 use inst_base::Fault;
 use inst_settings::{HubParameters, Settings, parse_codes};
@@ -34,9 +37,12 @@ pub(crate) fn wish<'a>(
         return Ok(Invocation::Log(text_if_any(options, "file")));
     }
     if name == "next" {
-        let digest = digest(options)?;
-        let from = text_if_any(options, "log");
-        return Ok(Invocation::Next(from, text_if_any(options, "to"), digest));
+        return Ok(Invocation::Next(NextOptions {
+            from: text_if_any(options, "log"),
+            to: text_if_any(options, "to"),
+            digest: digest(options)?,
+            changes: changes(options),
+        }));
     }
     if name == "explain" {
         return Ok(Invocation::Explain(text_if_any(options, "fault")));
@@ -94,7 +100,7 @@ fn log_options<'a>(options: &ArgMatches<'a>) -> Result<Option<LogOptions<'a>>, F
     ensures fault { IsOkUnless result Fault.BadSettings }
 {
     let digest = digest(options)?;
-    let told = options.get_one::<u64>("told");
+    let told = number_given(options, "told");
     let resume = must_resume(flag(options, "resume"), told, digest);
     let path = options.get_str("log");
     match path {
@@ -144,6 +150,21 @@ fn digest<'a>(options: &ArgMatches<'a>) -> Result<Option<&'a str>, Fault>
         Some(text) if is_digest(text) => Ok(Some(text)),
         Some(_) => Err(Fault::BadSettings),
         None => Ok(None),
+    }
+}
+
+/// Returns the settings that the options change.
+fn changes<'a>(options: &ArgMatches<'a>) -> SettingChanges<'a>
+    ensures { GivesChanges (rows_of (found_of options.now)) result }
+{
+    SettingChanges {
+        participants: text_given(options, "participants"),
+        places: number_given(options, "places"),
+        fundings: number_given(options, "fundings"),
+        limit: number_given(options, "limit"),
+        margin: number_given(options, "margin"),
+        ahead: number_given(options, "ahead"),
+        ceiling: number_given(options, "ceiling"),
     }
 }
 
@@ -211,6 +232,13 @@ fn text_if_any<'a>(options: &ArgMatches<'a>, name: &str) -> &'a str
     ensures { IsText name.now (rows_of (found_of options.now)) result.now }
 {
     options.get_str(name).unwrap_or("")
+}
+
+/// Returns the number of an option, if it has one; the command line has parsed it as a whole number.
+fn number_given(options: &ArgMatches<'_>, name: &str) -> Option<u64>
+    ensures { GivesOrNot (rows_of (found_of options.now)) name.now result }
+{
+    options.get_one::<u64>(name)
 }
 
 /// Returns the number of an option, which the command line has parsed as a whole number.

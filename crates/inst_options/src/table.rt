@@ -33,6 +33,8 @@ pub(crate) enum Group {
     Log,
     /// The files for `next`.
     Next,
+    /// The settings that `next` can change.
+    Changes,
     /// The fault for `explain`.
     Explain,
 }
@@ -48,6 +50,7 @@ impl Group {
             Group::Drill => DRILL,
             Group::Log => LOG,
             Group::Next => NEXT,
+            Group::Changes => CHANGES,
             Group::Explain => EXPLAIN,
         }
     }
@@ -147,7 +150,7 @@ const SUBCOMMANDS: &'static [Subcommand] = &[
             its books",
         long_about: texts::NEXT,
         after_help: None,
-        groups: &[Group::Next],
+        groups: &[Group::Next, Group::Changes],
     },
     Subcommand {
         name: "explain",
@@ -337,6 +340,70 @@ const NEXT: &'static [OptionRow] = &[
         value_names: &["HEX"],
         defaults: &[],
         help: "Digest that the first log must contain, 64 hexadecimal digits in lower case",
+    },
+];
+
+/// The settings that `next` can change.
+const CHANGES: &'static [OptionRow] = &[
+    OptionRow {
+        name: "participants",
+        kind: Kind::Text,
+        required: false,
+        value_names: &["CODES"],
+        defaults: &[],
+        help: "Codes of all participants: those of the log in the same order, then those of who \
+            joins",
+    },
+    OptionRow {
+        name: "places",
+        kind: Kind::Number,
+        required: false,
+        value_names: &["COUNT"],
+        defaults: &[],
+        help: "Transfers that each originator can have in one opening, at least the most that it \
+            had in any",
+    },
+    OptionRow {
+        name: "fundings",
+        kind: Kind::Number,
+        required: false,
+        value_names: &["COUNT"],
+        defaults: &[],
+        help: "Fund and defund commands of each participant in one opening, at least the most \
+            that it had in any",
+    },
+    OptionRow {
+        name: "limit",
+        kind: Kind::Number,
+        required: false,
+        value_names: &["MS"],
+        defaults: &[],
+        help: "Maximum execution time, in milliseconds; can change only if the books have no \
+            forwarded transfer",
+    },
+    OptionRow {
+        name: "margin",
+        kind: Kind::Number,
+        required: false,
+        value_names: &["MS"],
+        defaults: &[],
+        help: "Cut-off for acceptance before the deadline, in milliseconds, 0 to limit - 1",
+    },
+    OptionRow {
+        name: "ahead",
+        kind: Kind::Number,
+        required: false,
+        value_names: &["MS"],
+        defaults: &[],
+        help: "How far a time stamp may be after the clock reading, in milliseconds, 0 to 60000",
+    },
+    OptionRow {
+        name: "ceiling",
+        kind: Kind::Number,
+        required: false,
+        value_names: &["CENTS"],
+        defaults: &[],
+        help: "Maximum amount of one command, in cents, at least the largest of the books",
     },
 ];
 

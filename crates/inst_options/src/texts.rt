@@ -50,10 +50,13 @@ pub(crate) const NEXT: &str = "\
 Closes the hub of a log, and makes the log of the next opening, which begins with its books
 
 The log that --log names is read, its lines are answered again without output, and the hub is closed: each participant
-learns the outcomes of its transfers. The log that --to names is made, with the same settings and the books, one event
-a line. A run with that log continues: pending transfers stay pending, identifiers stay taken, and decided transfers
+learns the outcomes of its transfers. The log that --to names is made, with the settings and the books, one event a
+line. A run with that log continues: pending transfers stay pending, identifiers stay taken, and decided transfers
 free their places. Nothing is written to standard output, standard input isn't read, and the lines of the first log are
-unchanged.";
+unchanged.
+
+The settings are those of the first log, with what is given here in their place. A change that its books don't allow is
+refused, and no log is made.";
 
 /// The long description of `explain`.
 pub(crate) const EXPLAIN: &str = "\

@@ -13,3 +13,4 @@ pub mod Statuses
 pub mod RefusedWords
 pub mod OutcomeOfTask
 pub mod ChangesByExitStatus
+pub mod BooksUnderChanges

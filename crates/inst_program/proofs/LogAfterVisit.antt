@@ -7,7 +7,7 @@ use Rattle.inst_log.specs.Opening.{lines_after_settings}
 use Rattle.inst_log.specs.Disks.{HasKeptFaith, HasSameFile}
 use Rattle.inst_logged.specs.Streams.{Streams}
 use Rattle.inst_program.specs.Files.{AllAreIn, Change, Files, IfKept, IsAsItWas, IsFileClosed, IsFileOpened, IsUntouched, MayBe, OthersStay, Stay, change_of, change_on}
-use Rattle.inst_program.specs.Keeping.{AnswersAFront, AnswersBehind, CarriesBooks, IsBegun, IsSafe, IsSparedLog, IsUntaken, KeepsLines, KeptRun}
+use Rattle.inst_program.specs.Keeping.{AnswersAFront, AnswersBehind, CarriesBooks, IsBegun, IsSafe, IsSparedLog, IsUntaken, KeepsLines, KeptRun, NextHub}
 use Rattle.inst_program.specs.inner.ExitReason.{IsUnkept}
 use Rattle.inst_program.specs.inner.Visiting.{IsSameChange, IsVisitedAs}
 use Rattle.inst_program.proofs.TextEquality.{text_tells}
@@ -102,7 +102,7 @@ module _ (c d : Change) (same : IsSameChange c d) where
       }) in
       subst (λ (file : List ℕ). IsBegun first (record { was = file; now = d.now; could_leave = d.could_leave; may_leave = d.may_leave })) (sym same.was) now
 
-  pub carries_books : (digest : Option (List ℕ)) (mixes mixes' : Type 0) (next : List ℕ) → (mixes' → mixes) → CarriesBooks digest mixes next c → CarriesBooks digest mixes' next d
+  pub carries_books : (digest : Option (List ℕ)) (mixes mixes' : Type 0) (next : NextHub) → (mixes' → mixes) → CarriesBooks digest mixes next c → CarriesBooks digest mixes' next d
   carries_books digest mixes mixes' next more x =
       subst (λ (file : List ℕ). CarriesBooks digest mixes' next (record { was = file; now = d.now; could_leave = d.could_leave; may_leave = d.may_leave })) (sym same.was) (record {
         there = x.there;
@@ -179,7 +179,7 @@ module _ {D : Type 0} (disks : Ghosts D) (old new : Files) (name : List ℕ) (di
   pub begun_in : (first : List ℕ) → (HasKeptFaith disks disk' → IsBegun first (change_on disks disk disk')) → IfKept new (IsBegun first (change_of old new name))
   begun_in first x is = begun (change_on disks disk disk') (change_of old new name) (v.change is) first (x (v.faith is))
 
-  pub carries_in : (digest : Option (List ℕ)) (mixes : Type 0) (next : List ℕ) → IsTrue new.is_clean → (HasKeptFaith disks disk' → CarriesBooks digest mixes next (change_on disks disk disk'))
+  pub carries_in : (digest : Option (List ℕ)) (mixes : Type 0) (next : NextHub) → IsTrue new.is_clean → (HasKeptFaith disks disk' → CarriesBooks digest mixes next (change_on disks disk disk'))
       → CarriesBooks digest mixes next (change_of old new name)
   carries_in digest mixes next is x = carries_books (change_on disks disk disk') (change_of old new name) (v.change is) digest mixes mixes next (λ m. m) (x (v.faith is))
 

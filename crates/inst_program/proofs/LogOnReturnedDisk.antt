@@ -30,7 +30,7 @@ use Rattle.inst_log.specs.Disks.{HasKeptFaith, HasSameFile}
 use Rattle.inst_logged.specs.Running.{disk_of, file_of, HasGone, HasNoRoom, SurvivesEachCrash, OpensLogAgain, RunsThrough, StaysAlike, StopsBy}
 use Rattle.inst_logged.specs.Streams.{Streams}
 use Rattle.inst_program.specs.Files.{Change, IsAsItWas, MayBe, change_on}
-use Rattle.inst_program.specs.Keeping.{AnswersAFront, AsksFor, CarriesBooks, HasNoOpeningLeft, IsAtMost, IsBeginning, IsBegun, IsLogOfAHub, IsSafe, IsSpared, IsSparedLog, IsTakenFor, IsUntaken, KeepsLines, KeptRun}
+use Rattle.inst_program.specs.Keeping.{AnswersAFront, AsksFor, CarriesBooks, HasNoOpeningLeft, IsAtMost, IsBeginning, IsBegun, IsLogOfAHub, IsSafe, IsSpared, IsSparedLog, IsTakenFor, IsUntaken, KeepsLines, KeptRun, NextHub}
 use Rattle.inst_program.specs.Keeping.IsUntaken.{Foreign}
 use Rattle.inst_logged.specs.Finding.{Unrefused}
 use Rattle.inst_program.specs.inner.ExitReason.{IsUnkept}
@@ -223,7 +223,7 @@ module _ {D : Type 0} (disks : Ghosts D) (mode : Mode) (s : HubSettings) (hub af
 
   pub carries_on : (digest : Option (List ℕ)) (wanted : Option Digest) → AsksFor digest wanted → (journals : Vec History Global) → 0 < length (recovered_lines (disks.seen disk))
       → ClosesWith disks wanted hub after (Some journals) → StaysAlike disks hub after
-      → CarriesBooks digest mixes_all (header_from Two mode (world_settings after.recorder.answers.runner.world) journals.items) (change_on disks disk disk')
+      → CarriesBooks digest mixes_all (record { mode = mode; settings = world_settings after.recorder.answers.runner.world; journals = journals.items }) (change_on disks disk disk')
   carries_on digest wanted asked journals there closes stays = record {
     there = there;
     wanted = wanted;
@@ -235,7 +235,7 @@ module _ {D : Type 0} (disks : Ghosts D) (mode : Mode) (s : HubSettings) (hub af
     journals = journals.items;
     books = subst (λ (f : List ℕ). AreBooksAfter mode gone (lines_after_settings hub.header.items f) journals.items) left.same
         (subst (λ (m : Mode). AreBooksAfter m gone (lines_after_settings hub.header.items (file_of disks hub)) journals.items) same_mode (closes.are gone has_gone_so));
-    next_is = ap (λ (u : HubSettings). header_from Two mode u journals.items)
+    next_is = ap {A = HubSettings} {B = NextHub} (λ u. record { mode = mode; settings = u; journals = journals.items })
         (subst (λ (f : List ℕ). world_settings after.recorder.answers.runner.world ≡ (past_after mode gone (lines_after_settings hub.header.items f)).settings) left.same
         (subst (λ (m : Mode). world_settings after.recorder.answers.runner.world ≡ (past_after m gone (lines_after_settings hub.header.items (file_of disks hub))).settings) same_mode (closes.settings gone has_gone_so)));
   }

@@ -6,13 +6,13 @@ use Rattle.inst_settings.specs.Settings.{HubSettings}
 use Rattle.inst_settings.specs.Lawful.{IsSettings}
 use Rattle.inst_lines.specs.declared.mode.Mode.{Mode}
 use Rattle.inst_options.specs.Options.Task.{Drill, Check}
-use Rattle.inst_options.specs.Asking.{AreChosen, AreWhole, AskForTheLog, AskForTheNext, AskToExplain, GiveTheLog, NameTheScript}
+use Rattle.inst_options.specs.Asking.{AreChosen, AreWhole, AskForTheLog, AskToExplain, GiveTheLog, NameTheScript}
 use Rattle.inst_options.specs.declared.invocation.LogOptions.{LogOptions}
 use Rattle.inst_logged.specs.Streams.{Streams}
 use Rattle.inst_program.specs.Files.{Files, IfKept, Stay}
-use Rattle.inst_program.specs.Keeping.{IsGoodLog, IsUncarried, IsUntaken, KeptRun, SparesBoth, kept_run}
+use Rattle.inst_program.specs.Keeping.{IsGoodLog, IsUncarried, IsUntaken, KeptRun, NextAsked, SparesBoth, kept_run}
 use Rattle.inst_program.proofs.LogAfterVisit.{all_stay}
-use Rattle.inst_program.specs.Program.{AskForADrill, AskForAKeptRun, Checks, Done, Drills, Refusal, task_of}
+use Rattle.inst_program.specs.Program.{AskForADrill, AskForAKeptRun, AskForNext, Checks, Done, Drills, Refusal, task_of}
 use Rattle.inst_program.specs.Program.Done.{Answered, Checked, Drilled, Kept}
 use Rattle.inst_program.specs.Program.Failed.{AtLines, Carrying, Drilling, Explaining, Keeping, Showing}
 use Rattle.inst_program.specs.Program.Refusal.{InUse, Uncarried, Unfit, Unnamed, Unscripted, Unshown, Untaken}
@@ -58,12 +58,12 @@ module _ (words : List (List ℕ)) (t : Streams) (old new : Files) where
   }
 
   -- the books of a log weren't carried over
-  pub uncarried_err : {A : Type 0} (from to : List ℕ) (digest : Option (List ℕ)) (r : Result A ExitReason) → AskForTheNext words from to digest → t.unread → t.unwritten
-      → OnErr r (SparesBoth from to old new) → IfErr r (λ e. status_of_ending e ≡ 2 → IsUncarried from to digest old new) → IfErr r (λ e. IsUndone words t old new (status_of_ending e))
-  uncarried_err from to digest (Ok x) asked still same spares why = tt
-  uncarried_err from to digest (Err e) asked still same spares why = record {
-    refused = λ two. record { unread = still; unwritten = same; why = Uncarried from to digest asked (why two) spares };
-    failed = λ three. Carrying still same (from, to, digest, asked, spares);
+  pub uncarried_err : {A : Type 0} (next : NextAsked) (r : Result A ExitReason) → AskForNext words next → t.unread → t.unwritten
+      → OnErr r (SparesBoth next.from next.to old new) → IfErr r (λ e. status_of_ending e ≡ 2 → IsUncarried next old new) → IfErr r (λ e. IsUndone words t old new (status_of_ending e))
+  uncarried_err next (Ok x) asked still same spares why = tt
+  uncarried_err next (Err e) asked still same spares why = record {
+    refused = λ two. record { unread = still; unwritten = same; why = Uncarried next asked (why two) spares };
+    failed = λ three. Carrying still same (next, asked, spares);
   }
 
   -- a log wasn't taken
@@ -82,6 +82,7 @@ module _ (words : List (List ℕ)) (t : Streams) (old new : Files) where
   unanswered mode s None ending.Unexplained lawful whole chosen given is = absurd is
   unanswered mode s None ending.NoInterleaving lawful whole chosen given is = absurd is
   unanswered mode s None ending.ScriptNotEmpty lawful whole chosen given is = absurd is
+  unanswered mode s None (ending.Unfit option) lawful whole chosen given is = absurd is
   unanswered mode s (Some log) e lawful whole chosen given is =
       let run = kept_run mode s log in
       let asked : AskForAKeptRun words run = record { lawful = lawful; whole = whole; chosen = chosen; log = given } in
@@ -134,6 +135,7 @@ module _ (words : List (List ℕ)) (t : Streams) (old new : Files) where
   }
   unexplained_err word (Err ending.NoInterleaving) asked still stay is = absurd is
   unexplained_err word (Err ending.ScriptNotEmpty) asked still stay is = absurd is
+  unexplained_err word (Err (ending.Unfit option)) asked still stay is = absurd is
 
   pub unchecked_err : {A : Type 0} (s : HubSettings) (r : Result A ExitReason) → IsSettings s → AreWhole words → AreChosen words Check s → Stay old new →
       IfErr r (IsUnchecked s t.left t.held t.held') → IfErr r (λ e. IsUndone words t old new (status_of_ending e))
@@ -146,3 +148,4 @@ module _ (words : List (List ℕ)) (t : Streams) (old new : Files) where
   unchecked_err s (Err ending.Unexplained) lawful whole chosen stay is = absurd is
   unchecked_err s (Err ending.NoInterleaving) lawful whole chosen stay is = absurd is
   unchecked_err s (Err ending.ScriptNotEmpty) lawful whole chosen stay is = absurd is
+  unchecked_err s (Err (ending.Unfit option)) lawful whole chosen stay is = absurd is

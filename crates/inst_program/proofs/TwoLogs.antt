@@ -4,8 +4,8 @@ use Rattle.inst_chain.specs.declared.digest.Digest.{Digest}
 use Rattle.inst_logged.specs.Refused.{IsLogTaken}
 use Rattle.inst_logged.specs.declared.version.Version.TheVariants.{Two}
 use Rattle.inst_program.specs.Files.{AllButTwoStay, Change, Files, IfKept, IsAsItWas, IsUntouched, change_of}
-use Rattle.inst_program.specs.Keeping.{AsksFor, Carries, CarriesBooks, HasNoOpeningLeft, IsBegun, IsGoodToClose, IsSafe, IsSparedLog, IsUncarried, SparesBoth}
-use Rattle.inst_program.specs.Keeping.IsUncarried.{Bad, InUse, Last, Other}
+use Rattle.inst_program.specs.Keeping.{AsksFor, Carries, CarriesBooks, HasNoOpeningLeft, IsBegun, IsChanged, IsGoodToClose, IsSafe, IsSparedLog, IsUncarried, NextAsked, NextHub, SparesBoth, lines_of_next}
+use Rattle.inst_program.specs.Keeping.IsUncarried.{Bad, InUse, Last, Other, Unfit}
 use Rattle.inst_program.specs.inner.Carrying.{IsLogUnbegun, IsLogUnclosed}
 use Rattle.inst_program.specs.inner.Visiting.{IsSameChange, IsVisited}
 use Rattle.inst_program.proofs.Digests.{taken_same}
@@ -13,7 +13,7 @@ use Rattle.inst_program.proofs.CausesOfUnclosedHub.{none_to_close}
 use Rattle.inst_program.proofs.LogAfterVisit.{begun, carries_books, safe_or, stays_behind}
 
 -- a log that was closed has its lines
-closed_safe : (digest : Option (List ℕ)) (mixes : Type 0) (next : List ℕ) (c : Change) → CarriesBooks digest mixes next c → IsSparedLog mixes c
+closed_safe : (digest : Option (List ℕ)) (mixes : Type 0) (next : NextHub) (c : Change) → CarriesBooks digest mixes next c → IsSparedLog mixes c
 closed_safe digest mixes next c x = record { wanted = x.wanted; log = x.log; spared = x.spared }
 
 -- none was opened
@@ -36,78 +36,91 @@ good_same digest w v is same file good = record {
 }
 
 -- the first isn't there
-pub absent_uncarried : (from to : List ℕ) (digest : Option (List ℕ)) (old new : Files) → IsUntouched old new → IfKept new (new.bytes from ≡ []) → IsUncarried from to digest old new
-absent_uncarried from to digest old new same none = Bad (λ wanted asked is good. none_to_close wanted (old.bytes from) (new.bytes from) (same.all is from).same (none is) good)
+pub absent_uncarried : (asked : NextAsked) (old new : Files) → IsUntouched old new → IfKept new (new.bytes asked.from ≡ []) → IsUncarried asked old new
+absent_uncarried asked old new same none = Bad (λ wanted asks is good. none_to_close wanted (old.bytes asked.from) (new.bytes asked.from) (same.all is asked.from).same (none is) good)
 
-module _ (from to : List ℕ) (apart : from ≢ to) (mixes : Type 0) (old a b : Files) (more : old.mixes → mixes) (untouched : IsUntouched old a) (first : IsVisited a b from) where
+module _ (asked : NextAsked) (apart : asked.from ≢ asked.to) (mixes : Type 0) (old a b : Files) (more : old.mixes → mixes) (untouched : IsUntouched old a) (first : IsVisited a b asked.from) where
   -- the second log until the first was closed
-  to_so_far : IfKept b (IsAsItWas (change_of old b to))
-  to_so_far is = stays_behind old a b to (untouched.all (first.clean is) to) (first.others is to (λ same. apart (sym same)))
+  to_so_far : IfKept b (IsAsItWas (change_of old b asked.to))
+  to_so_far is = stays_behind old a b asked.to (untouched.all (first.clean is) asked.to) (first.others is asked.to (λ same. apart (sym same)))
 
-  first_change : IfKept b (IsSameChange (change_of a b from) (change_of old b from))
+  first_change : IfKept b (IsSameChange (change_of a b asked.from) (change_of old b asked.from))
   first_change is =
-      let before = untouched.all (first.clean is) from in
+      let before = untouched.all (first.clean is) asked.from in
       record { was = sym before.same; now = refl; could = before.crash; may = λ file may. may }
 
-  pub not_closed : IsSafe mixes (IsTrue b.is_clean) (change_of a b from) → SparesBoth from to old b
+  pub not_closed : IsSafe mixes (IsTrue b.is_clean) (change_of a b asked.from) → SparesBoth asked.from asked.to old b
   not_closed safe = record {
-    from_is = λ is. safe_or (change_of a b from) (change_of old b from) (first_change is) mixes old.mixes more (safe is);
+    from_is = λ is. safe_or (change_of a b asked.from) (change_of old b asked.from) (first_change is) mixes old.mixes more (safe is);
     to_is = λ is. inl (to_so_far is);
     others = λ is other from_not to_not. stays_behind old a b other (untouched.all (first.clean is) other) (first.others is other from_not);
   }
 
   -- why the first isn't closed
-  pub uncarried_first : (digest : Option (List ℕ)) (wanted : Option Digest) → AsksFor digest wanted → IsLogUnclosed (b.in_use from) (IsTrue b.is_clean) wanted (a.bytes from)
-      → IsUncarried from to digest old b
-  uncarried_first digest wanted asked (inl used) = InUse (inl used)
-  uncarried_first digest wanted asked (inr (inl bad)) = Bad (λ w asks is good.
-      bad is (subst (IsGoodToClose wanted) (sym (untouched.all (first.clean is) from).same) (good_same digest w wanted asks asked (old.bytes from) good)))
-  uncarried_first digest wanted asked (inr (inr none)) = Last (λ is. subst HasNoOpeningLeft (untouched.all (first.clean is) from).same (none is))
+  pub uncarried_first : (wanted : Option Digest) → AsksFor asked.digest wanted → IsLogUnclosed (b.in_use asked.from) (IsTrue b.is_clean) wanted (a.bytes asked.from) → IsUncarried asked old b
+  uncarried_first wanted asks (inl used) = InUse (inl used)
+  uncarried_first wanted asks (inr (inl bad)) = Bad (λ w other is good.
+      bad is (subst (IsGoodToClose wanted) (sym (untouched.all (first.clean is) asked.from).same) (good_same asked.digest w wanted other asks (old.bytes asked.from) good)))
+  uncarried_first wanted asks (inr (inr none)) = Last (λ is. subst HasNoOpeningLeft (untouched.all (first.clean is) asked.from).same (none is))
 
-  module _ (c : Files) (second : IsVisited b c to) where
-    third : AllButTwoStay old c from to
+  -- the first was closed, and the changes aren't allowed
+  module _ (closed : NextHub) (books : IfKept b (CarriesBooks asked.digest mixes closed (change_of a b asked.from))) where
+    closed_so_far : IfKept b (CarriesBooks asked.digest old.mixes closed (change_of old b asked.from))
+    closed_so_far is = carries_books (change_of a b asked.from) (change_of old b asked.from) (first_change is) asked.digest mixes old.mixes closed more (books is)
+
+    pub unfit : ((next : NextHub) → ¬ (IsChanged asked.changes closed next)) → IsUncarried asked old b
+    unfit none = Unfit closed closed_so_far none
+
+    pub only_closed : SparesBoth asked.from asked.to old b
+    only_closed = record {
+      from_is = λ is. inr (closed_safe asked.digest old.mixes closed (change_of old b asked.from) (closed_so_far is));
+      to_is = λ is. inl (to_so_far is);
+      others = λ is other from_not to_not. stays_behind old a b other (untouched.all (first.clean is) other) (first.others is other from_not);
+    }
+
+  module _ (c : Files) (second : IsVisited b c asked.to) where
+    third : AllButTwoStay old c asked.from asked.to
     third is other from_not to_not =
         let is_b = second.clean is in
         stays_behind old a c other (untouched.all (first.clean is_b) other)
         (stays_behind a b c other (first.others is_b other from_not) (second.others is other to_not))
 
-    from_change : IfKept c (IsSameChange (change_of a b from) (change_of old c from))
+    from_change : IfKept c (IsSameChange (change_of a b asked.from) (change_of old c asked.from))
     from_change is =
         let is_b = second.clean is in
-        let before = untouched.all (first.clean is_b) from in
-        let behind = second.others is from apart in
+        let before = untouched.all (first.clean is_b) asked.from in
+        let behind = second.others is asked.from apart in
         record { was = sym before.same; now = behind.same; could = before.crash; may = behind.crash }
 
-    to_change : IfKept c (IsSameChange (change_of b c to) (change_of old c to))
+    to_change : IfKept c (IsSameChange (change_of b c asked.to) (change_of old c asked.to))
     to_change is =
         let before = to_so_far (second.clean is) in
         record { was = sym before.same; now = refl; could = before.crash; may = λ file may. may }
 
-    -- why the second isn't begun
-    module _ (digest : Option (List ℕ)) (next : List ℕ) (books : IfKept b (CarriesBooks digest mixes next (change_of a b from))) where
-      pub uncarried_second : IsLogUnbegun (c.in_use to) (IsTrue c.is_clean) next (b.bytes to) → IsUncarried from to digest old c
+    module _ (closed : NextHub) (books : IfKept b (CarriesBooks asked.digest mixes closed (change_of a b asked.from))) (next : NextHub) (changed : IsChanged asked.changes closed next) where
+      carried : IfKept c (CarriesBooks asked.digest old.mixes closed (change_of old c asked.from))
+      carried is = carries_books (change_of a b asked.from) (change_of old c asked.from) (from_change is) asked.digest mixes old.mixes closed more (books (second.clean is))
+
+      -- why the second isn't begun
+      pub uncarried_second : IsLogUnbegun (c.in_use asked.to) (IsTrue c.is_clean) (lines_of_next next) (b.bytes asked.to) → IsUncarried asked old c
       uncarried_second (inl used) = InUse (inr used)
-      uncarried_second (inr other) = Other next (λ is. (
-        carries_books (change_of a b from) (change_of old c from) (from_change is) digest mixes old.mixes next more (books (second.clean is)),
-        λ taken. other is (subst (IsLogTaken Two next None None) (sym (to_so_far (second.clean is)).same) taken),
-      ))
+      uncarried_second (inr other) = Other closed next carried changed (λ is taken.
+          other is (subst (IsLogTaken Two (lines_of_next next) None None) (sym (to_so_far (second.clean is)).same) taken))
 
-    module _ (digest : Option (List ℕ)) (next : List ℕ) (books : IfKept b (CarriesBooks digest mixes next (change_of a b from))) where
-      carried : IfKept c (CarriesBooks digest old.mixes next (change_of old c from))
-      carried is = carries_books (change_of a b from) (change_of old c from) (from_change is) digest mixes old.mixes next more (books (second.clean is))
-
-      pub carries : IfKept c (IsBegun next (change_of b c to)) → Carries from to digest old c
+      pub carries : IfKept c (IsBegun (lines_of_next next) (change_of b c asked.to)) → Carries asked old c
       carries begins = record {
         apart = apart;
-        next = next;
+        closed = closed;
         carries = carried;
-        begun = λ is. begun (change_of b c to) (change_of old c to) (to_change is) next (begins is);
+        next = next;
+        changed = changed;
+        begun = λ is. begun (change_of b c asked.to) (change_of old c asked.to) (to_change is) (lines_of_next next) (begins is);
         others = third;
       }
 
-      pub not_begun : IsSafe mixes (IsTrue c.is_clean) (change_of b c to) → SparesBoth from to old c
+      pub not_begun : IsSafe mixes (IsTrue c.is_clean) (change_of b c asked.to) → SparesBoth asked.from asked.to old c
       not_begun safe = record {
-        from_is = λ is. inr (closed_safe digest old.mixes next (change_of old c from) (carried is));
-        to_is = λ is. safe_or (change_of b c to) (change_of old c to) (to_change is) mixes old.mixes more (safe is);
+        from_is = λ is. inr (closed_safe asked.digest old.mixes closed (change_of old c asked.from) (carried is));
+        to_is = λ is. safe_or (change_of b c asked.to) (change_of old c asked.to) (to_change is) mixes old.mixes more (safe is);
         others = third;
       }

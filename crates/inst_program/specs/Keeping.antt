@@ -7,9 +7,11 @@ use Rattle.std.specs.Fmt.{decimal}
 use Rattle.std.specs.Str.Lossy.{utf8_lossy}
 use Rattle.std.specs.Io.KnownBytes.{Appends, IsAtEnd}
 use Rattle.sqlite_disk.specs.Disk.{Only}
+use mathlib.Core.List.{IsPrefix}
 use Rattle.inst_settings.specs.Settings.{HubSettings}
+use Rattle.inst_settings.specs.Lawful.{IsSettings}
 use Rattle.inst_journal.specs.History.{History}
-use Rattle.inst_world.specs.NextOpening.{CanOpenFrom}
+use Rattle.inst_world.specs.NextOpening.{CanOpenFrom, books_of}
 use Rattle.inst_lines.specs.Answering.{HubPast, new_past}
 use Rattle.inst_lines.specs.declared.mode.Mode.{Mode}
 use Rattle.inst_log.specs.Layout.{recovered_lines}
@@ -29,7 +31,10 @@ use Rattle.inst_logged.specs.Marking.{IsIntact}
 use Rattle.inst_logged.specs.Logged.{HasLogged, SurvivesACrash}
 use Rattle.inst_logged.specs.Refused.{HasWanted, IsLogTaken, OpensAs}
 use Rattle.inst_logged.specs.Streams.{Streams}
+use Rattle.inst_options.specs.Changes.{AreFormed, changed}
 use Rattle.inst_options.specs.declared.invocation.LogOptions.{LogOptions}
+use Rattle.inst_options.specs.declared.invocation.NextOptions.{NextOptions}
+use Rattle.inst_options.specs.declared.setting_changes.SettingChanges.{SettingChanges}
 use Rattle.inst_program.specs.Files.{Change, Files, change_of, AllButTwoStay, IfKept, IsAsItWas}
 use Rattle.inst_program.specs.Files.{MayBe}
 
@@ -249,10 +254,29 @@ pub record IsBegun (first : List ℕ) (c : Change) : Type 0 where
   pub intact : IsIntact Two c.now
   pub durable : Only c.now c.may_leave
 
--- The hub of this log was closed after all of its lines, which are the same; `next` is the
--- beginning of a log with its books. The log's marks were right, if it has any, and it had the
--- digest that was asked for.
-pub record CarriesBooks (digest : Option (List ℕ)) (mixes : Type 0) (next : List ℕ) (c : Change) :
+-- What a hub opens from: its mode, its settings, and the books of its participants by number.
+pub record NextHub : Type 0 where
+  pub mode : Mode
+  pub settings : HubSettings
+  pub journals : List History
+
+-- The beginning of the log of such a hub.
+abbrev pub lines_of_next : NextHub → List ℕ
+lines_of_next hub = header_from Two hub.mode hub.settings hub.journals
+
+-- The second hub opens where the first one would, after these changes of its settings. Each
+-- participant has its number and its history; who joins has none.
+pub record IsChanged (changes : SettingChanges) (old new : NextHub) : Type 0 where
+  pub mode : new.mode ≡ old.mode
+  pub settings : new.settings ≡ changed changes old.settings
+  pub lawful : IsSettings new.settings × AreFormed changes
+  pub codes : IsPrefix old.settings.codes new.settings.codes
+  pub books : (p : ℕ) → books_of new.journals p ≡ books_of old.journals p
+  pub can : CanOpenFrom new.settings new.journals
+
+-- The hub of this log was closed after all of its lines, which are the same; `next` is what it would
+-- open from. The log's marks were right, if it has any, and it had the digest that was asked for.
+pub record CarriesBooks (digest : Option (List ℕ)) (mixes : Type 0) (next : NextHub) (c : Change) :
     Type 0 where
   pub there : 0 < length (recovered_lines c.was)
   pub wanted : Option Digest
@@ -264,9 +288,11 @@ pub record CarriesBooks (digest : Option (List ℕ)) (mixes : Type 0) (next : Li
   pub journals : List History
   pub books : AreBooksAfter log.mode log.past (lines_after_settings log.first c.was) journals
   pub next_is : next
-      ≡ header_from Two log.mode
-      (past_after log.mode log.past (lines_after_settings log.first c.was)).settings
-      journals
+      ≡ record {
+        mode = log.mode;
+        settings = (past_after log.mode log.past (lines_after_settings log.first c.was)).settings;
+        journals = journals;
+      }
 
 -- The file is a log of a hub with right marks and the digest that is asked for.
 pub record IsGoodToClose (wanted : Option Digest) (file : List ℕ) : Type 0 where
@@ -284,13 +310,34 @@ pub record HasNoOpeningLeft (file : List ℕ) : Type 0 where
   pub log : IsLogOfAHub wanted file
   pub none : ¬ (HaveOpeningsLeft log.mode log.past (lines_after_settings log.first file))
 
--- The second log begins with the books of the hub of the first log, whose lines are the same.
-pub record Carries (from to : List ℕ) (digest : Option (List ℕ)) (old new : Files) : Type 0 where
-  pub apart : from ≢ to
-  pub next : List ℕ
-  pub carries : IfKept new (CarriesBooks digest old.mixes next (change_of old new from))
-  pub begun : IfKept new (IsBegun next (change_of old new to))
-  pub others : AllButTwoStay old new from to
+-- What `next` is asked for: the two logs, the digest that the first one must contain, and the
+-- settings that change.
+pub record NextAsked : Type 0 where
+  pub from : List ℕ
+  pub to : List ℕ
+  pub digest : Option (List ℕ)
+  pub changes : SettingChanges
+
+-- What these options ask for.
+abbrev pub next_asked : NextOptions → NextAsked
+next_asked next = record {
+  from = next.from.now;
+  to = next.to.now;
+  digest = option_map (λ d. d.now) next.digest;
+  changes = next.changes;
+}
+
+-- The second log begins with the books of the hub of the first log, whose lines are the same, under
+-- the settings of the first log with the changes.
+pub record Carries (asked : NextAsked) (old new : Files) : Type 0 where
+  pub apart : asked.from ≢ asked.to
+  pub closed : NextHub
+  pub carries : IfKept new
+      (CarriesBooks asked.digest old.mixes closed (change_of old new asked.from))
+  pub next : NextHub
+  pub changed : IsChanged asked.changes closed next
+  pub begun : IfKept new (IsBegun (lines_of_next next) (change_of old new asked.to))
+  pub others : AllButTwoStay old new asked.from asked.to
 
 -- Both logs are safe, and all other files are unchanged.
 pub record SparesBoth (from to : List ℕ) (old new : Files) : Type 0 where
@@ -299,14 +346,19 @@ pub record SparesBoth (from to : List ℕ) (old new : Files) : Type 0 where
   pub others : AllButTwoStay old new from to
 
 -- Why `next` is refused: the names are the same, another program may have a log open, the first log
--- can't be closed or has no opening left, or the second is another log.
-pub data IsUncarried (from to : List ℕ) (digest : Option (List ℕ)) (old new : Files) : Type 0 where
-  Same : from ≡ to → IsUncarried from to digest old new
-  InUse : new.in_use from ⊎ new.in_use to → IsUncarried from to digest old new
-  Bad : ((wanted : Option Digest) → AsksFor digest wanted →
-      IfKept new (¬ (IsGoodToClose wanted (old.bytes from)))) → IsUncarried from to digest old new
-  Last : IfKept new (HasNoOpeningLeft (old.bytes from)) → IsUncarried from to digest old new
-  Other : (next : List ℕ) →
-      IfKept new (CarriesBooks digest old.mixes next (change_of old new from)
-      × ¬ (IsLogTaken Two next None None (old.bytes to)))
-      → IsUncarried from to digest old new
+-- can't be closed or has no opening left, its books don't allow the changes, or the second is
+-- another log.
+pub data IsUncarried (asked : NextAsked) (old new : Files) : Type 0 where
+  Same : asked.from ≡ asked.to → IsUncarried asked old new
+  InUse : new.in_use asked.from ⊎ new.in_use asked.to → IsUncarried asked old new
+  Bad : ((wanted : Option Digest) → AsksFor asked.digest wanted →
+      IfKept new (¬ (IsGoodToClose wanted (old.bytes asked.from)))) → IsUncarried asked old new
+  Last : IfKept new (HasNoOpeningLeft (old.bytes asked.from)) → IsUncarried asked old new
+  Unfit : (closed : NextHub) →
+      IfKept new (CarriesBooks asked.digest old.mixes closed (change_of old new asked.from)) →
+      ((next : NextHub) → ¬ (IsChanged asked.changes closed next)) → IsUncarried asked old new
+  Other : (closed next : NextHub) →
+      IfKept new (CarriesBooks asked.digest old.mixes closed (change_of old new asked.from)) →
+      IsChanged asked.changes closed next →
+      IfKept new (¬ (IsLogTaken Two (lines_of_next next) None None (old.bytes asked.to)))
+      → IsUncarried asked old new

@@ -32,7 +32,7 @@ use Rattle.inst_logged.specs.Streams.{Streams}
 use Rattle.inst_program.specs.Files.{Files, IfKept, OthersStay, Stay, change_of}
 use Rattle.inst_program.specs.Script.{CannotTakeTheScript, HasScript, SparesTheScript}
 use Rattle.inst_program.specs.Keeping.{Carries, IsGoodLog, IsUncarried, IsUntaken, KeepsAFront}
-use Rattle.inst_program.specs.Keeping.{KeepsLines, KeptRun, SparesBoth, TellsOfTheLog}
+use Rattle.inst_program.specs.Keeping.{KeepsLines, KeptRun, NextAsked, SparesBoth, TellsOfTheLog}
 
 -- The exit status for a fault.
 abbrev pub status_of : Fault → ℕ
@@ -176,17 +176,19 @@ HasShown words t old new =
     (name : List ℕ) × AskForTheLog words name
     × IfKept new (TellsOfTheLog (old.bytes name) t.held t.held')
 
+-- The words ask for a log with the books of another.
+abbrev pub AskForNext : List (List ℕ) → NextAsked → Type 0
+AskForNext words asked = AskForTheNext words asked.from asked.to asked.digest asked.changes
+
 -- The words ask for a log with the books of another, and it was made.
 abbrev pub HasCarried : List (List ℕ) → Files → Files → Type 0
 HasCarried words old new =
-    (from : List ℕ) × (to : List ℕ) × (digest : Option (List ℕ))
-    × AskForTheNext words from to digest × Carries from to digest old new
+    (asked : NextAsked) × AskForNext words asked × Carries asked old new
 
 -- The words ask for a log with the books of another; both logs are safe.
 abbrev pub HasSparedBoth : List (List ℕ) → Files → Files → Type 0
 HasSparedBoth words old new =
-    (from : List ℕ) × (to : List ℕ) × (digest : Option (List ℕ))
-    × AskForTheNext words from to digest × SparesBoth from to old new
+    (asked : NextAsked) × AskForNext words asked × SparesBoth asked.from asked.to old new
 
 -- The text of an explanation: a fault's number and name, its usual meaning, and what to do.
 abbrev pub explanation_text : ℕ → List ℕ → List ℕ → List ℕ → List ℕ
@@ -243,9 +245,8 @@ pub data Refusal (words : List (List ℕ)) (old new : Files) : Type 0 where
       IfKept new (¬ (IsGoodLog (old.bytes name))) → Stay old new → Refusal words old new
   Unscripted : (asked : AskForADrill words) (name : List ℕ) → asked.script ≡ Some name →
       CannotTakeTheScript name old new → Stay old new → Refusal words old new
-  Uncarried : (from to : List ℕ) (digest : Option (List ℕ)) → AskForTheNext words from to digest →
-      IsUncarried from to digest old new
-      → SparesBoth from to old new → Refusal words old new
+  Uncarried : (asked : NextAsked) → AskForNext words asked → IsUncarried asked old new
+      → SparesBoth asked.from asked.to old new → Refusal words old new
 
 -- Nothing was read or written.
 pub record Refused (words : List (List ℕ)) (t : Streams) (old new : Files) : Type 0 where

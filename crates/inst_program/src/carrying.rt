@@ -1,5 +1,5 @@
 //! The task `next`: a log that begins with the books of another one.
-ghost use Rattle.std.specs.Prelude.{◌≡◌, ◌<◌, List, ℕ, Option, option_map, length, IsTrue, IfErr};
+ghost use Rattle.std.specs.Prelude.{◌≡◌, ◌<◌, List, ℕ, Option, length, IsTrue, IfErr};
 ghost use Rattle.std.specs.Prelude.{IfOk, OnOk, OnErr};
 ghost use Rattle.inst_log.specs.Layout.{recovered_lines};
 ghost use Rattle.inst_world.specs.HasRun.{world_settings};
@@ -9,66 +9,54 @@ ghost use Rattle.inst_log.specs.Disks.{HasKeptFaith, IsJustOpened, IsOnlyRead};
 ghost use Rattle.inst_logged.specs.declared.version.Version.TheVariants.{Two};
 ghost use Rattle.inst_program.specs.Files.{AllAreIn, IfKept, change_of, change_on};
 ghost use Rattle.inst_program.specs.Keeping.{AsksFor, Carries, CarriesBooks, IsBegun, IsSafe};
-ghost use Rattle.inst_program.specs.Keeping.{IsUncarried, SparesBoth};
+ghost use Rattle.inst_program.specs.Keeping.{IsUncarried, SparesBoth, lines_of_next, next_asked};
+ghost use Rattle.inst_program.specs.inner.Changing.{hub_closed, hub_opening};
 ghost use Rattle.inst_program.specs.inner.Carrying.{IsHubClosed, IsReadAsLog, IsLogUnbegun};
 ghost use Rattle.inst_program.specs.inner.Carrying.{IsLogUnclosed};
 ghost use Rattle.inst_program.specs.inner.Carrying.{ReadsBeginning};
 ghost use Rattle.inst_program.specs.inner.ExitReason.{status_of_ending};
 ghost use Rattle.inst_program.specs.inner.Visiting.{IsVisited};
 
+use crate::changing::{Closed, Opening, change};
 use crate::exit_reason::{ExitReason, ending_of, or_ending, told_ending};
 use crate::keeping::wanted_of;
 use crate::logs::Logs;
-use inst_agenda::Runner;
 use inst_base::Fault;
 use inst_chain::Digest;
 use inst_journal::Journal;
 use inst_lines::Mode;
 use inst_log::read_lines;
 use inst_logged::{LogHeader, LoggedError, NewHub, Version, read_beginning};
-use inst_options::LogFault;
+use inst_options::{LogFault, NextOptions};
 use inst_settings::Settings;
 use sqlite_disk::Disk;
 use std::alloc::Global;
 use std::io::Write;
 
-/// A hub that was closed, with its books.
-#[derive(Drop)]
-struct Closed {
-    mode: Mode,
-    runner: Runner,
-    journals: Vec<Journal>,
-}
-
-/// The log that is closed, the log that begins with its books, and the digest that the first must
-/// contain.
-pub(crate) struct NextTask<'a> {
-    pub(crate) from: &'a str,
-    pub(crate) to: &'a str,
-    pub(crate) digest: Option<&'a str>,
-}
-
-/// Closes the hub of the first log and makes the second log, which begins with its books. A second
-/// log that begins so already keeps its lines. If the first log is damaged, prints on `errors` how
-/// far it is right.
+/// Closes the hub of the first log and makes the second log, which begins with its books, under the
+/// settings that change. A second log that begins so already keeps its lines. If the first log is
+/// damaged, prints on `errors` how far it is right.
 pub(crate) fn next<L: Logs, E: Write>(
     logs: &mut L,
     alloc: Global,
-    task: NextTask<'_>,
+    task: NextOptions<'_>,
     errors: &mut E,
 ) -> Result<(), ExitReason>
     requires none_out { AllAreIn (L.files logs.old) }
     ensures ok { OnOk result
-        (Carries task.entry.from.now task.entry.to.now
-        (option_map (λ d. d.now) task.entry.digest) (L.files logs.old) (L.files logs.new)) }
+        (Carries (next_asked task.entry) (L.files logs.old) (L.files logs.new)) }
     ensures err { OnErr result
         (SparesBoth task.entry.from.now task.entry.to.now (L.files logs.old) (L.files logs.new)) }
     ensures refused { IfErr result (λ ending. status_of_ending ending ≡ 2
-        → IsUncarried task.entry.from.now task.entry.to.now
-        (option_map (λ d. d.now) task.entry.digest) (L.files logs.old) (L.files logs.new)) }
+        → IsUncarried (next_asked task.entry) (L.files logs.old) (L.files logs.new)) }
     ensures all_in { AllAreIn (L.files logs.new) }
 {
-    let NextTask { from, to, digest } = task;
+    let NextOptions {
+        from,
+        to,
+        digest,
+        changes,
+    } = task;
     if !logs.has(from)? {
         return Err(ExitReason::Log(LogFault::NoLog));
     }
@@ -77,7 +65,8 @@ pub(crate) fn next<L: Logs, E: Write>(
         return Err(ExitReason::Log(LogFault::LogInUse));
     }
     let closed = close(logs, alloc, from, wanted, errors)?;
-    begin(logs, alloc, &closed, to)
+    let next = change(alloc, closed, &changes)?;
+    begin(logs, alloc, &next, to)
 }
 
 /// Closes the hub of the log of this name.
@@ -91,8 +80,7 @@ fn close<L: Logs, E: Write>(
     requires none_out { AllAreIn (L.files logs.old) }
     ensures ok { IfOk result (λ closed.
         IfKept (L.files logs.new) ((digest : Option (List ℕ)) → AsksFor digest wanted
-        → CarriesBooks digest ((d : L.Log) → IsTrue (L.Log.Disk.is_mixing d))
-        (header_from Two closed.mode (world_settings closed.runner.world) closed.journals.items)
+        → CarriesBooks digest ((d : L.Log) → IsTrue (L.Log.Disk.is_mixing d)) (hub_closed closed)
         (change_of (L.files logs.old) (L.files logs.new) from.now))) }
     ensures can { IfOk result (λ closed.
         CanOpenFrom (world_settings closed.runner.world) closed.journals.items) }
@@ -162,33 +150,23 @@ fn close_hub<D: Disk + Drop, E: Write>(
     }
 }
 
-/// Makes the log of this name, for a hub that opens from the books of the closed one.
-fn begin<L: Logs>(logs: &mut L, alloc: Global, closed: &Closed, to: &str) -> Result<(), ExitReason>
+/// Makes the log of this name, for a hub that opens from these books.
+fn begin<L: Logs>(logs: &mut L, alloc: Global, next: &Opening, to: &str) -> Result<(), ExitReason>
     requires none_out { AllAreIn (L.files logs.old) }
-    requires can { CanOpenFrom (world_settings closed.now.runner.world) closed.now.journals.items }
-    ensures ok { OnOk result (IfKept (L.files logs.new) (IsBegun
-        (header_from Two closed.now.mode (world_settings closed.now.runner.world)
-        closed.now.journals.items)
+    requires can { CanOpenFrom next.now.settings next.now.journals.items }
+    ensures ok { OnOk result (IfKept (L.files logs.new) (IsBegun (lines_of_next (hub_opening next.now))
         (change_of (L.files logs.old) (L.files logs.new) to.now))) }
     ensures err { OnErr result (IsSafe ((d : L.Log) →
         IsTrue (L.Log.Disk.is_mixing d)) (IsTrue (L.files logs.new).is_clean)
         (change_of (L.files logs.old) (L.files logs.new) to.now)) }
     ensures refused { IfErr result (λ ending. status_of_ending ending ≡ 2 →
         IsLogUnbegun ((L.files logs.new).in_use to.now)
-        (IsTrue (L.files logs.new).is_clean)
-        (header_from Two closed.now.mode (world_settings closed.now.runner.world)
-        closed.now.journals.items)
+        (IsTrue (L.files logs.new).is_clean) (lines_of_next (hub_opening next.now))
         ((L.files logs.old).bytes to.now)) }
     ensures visited { IsVisited (L.files logs.old) (L.files logs.new) to.now }
 {
     let disk = logs.open(to)?;
-    let (outcome, disk) = begin_on(
-        alloc,
-        closed.mode,
-        closed.runner.settings(),
-        &closed.journals,
-        disk,
-    );
+    let (outcome, disk) = begin_on(alloc, next.mode, &next.settings, &next.journals, disk);
     logs.close(disk);
     outcome
 }

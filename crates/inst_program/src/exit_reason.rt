@@ -26,6 +26,8 @@ pub(crate) enum ExitReason {
     NoInterleaving,
     /// The file for the script of a drill isn't empty.
     ScriptNotEmpty,
+    /// The books of a log don't allow the change that the option of this name asks for.
+    Unfit(&'static str),
 }
 
 impl From<Fault> for ExitReason {

@@ -3,6 +3,7 @@
 #![tactic(auto)]
 
 mod carrying;
+mod changing;
 mod console;
 mod drilling;
 mod exit_reason;

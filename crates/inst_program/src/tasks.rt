@@ -12,7 +12,7 @@ ghost use Rattle.inst_program.specs.inner.ExitReason.{status_of_ending};
 ghost use Rattle.inst_program.specs.inner.ExitReason.{AreLinesAnswered, IsUnanswered, IsUnchecked};
 ghost use Rattle.inst_program.specs.inner.ExitReason.{IsUndone, IsUnexplained};
 
-use crate::carrying::{NextTask, next};
+use crate::carrying::next;
 use crate::console::Console;
 use crate::drilling::{DrillTask, drill_hub};
 use crate::exit_reason::ExitReason;
@@ -177,6 +177,11 @@ fn tell_ending<E: Write>(ending: ExitReason, errors: &mut E) -> u8
             );
             2
         }
+        ExitReason::Unfit(name) => {
+            let status = tell(Fault::BadSettings, errors);
+            let _ = writeln!(errors, "the log and its books don't allow this --{name}");
+            status
+        }
         ExitReason::NoInterleaving => {
             let fault = AnyFault::NoInterleaving;
             let _ = writeln!(errors, "fault {} {}", fault.number(), fault.name());
@@ -251,10 +256,7 @@ fn serve<
         Invocation::Log(path) => {
             show(logs, alloc, path, &mut console.writer, &mut console.errors)
         }
-        Invocation::Next(from, to, digest) => {
-            let task = NextTask { from, to, digest };
-            next(logs, alloc, task, &mut console.errors)
-        }
+        Invocation::Next(task) => next(logs, alloc, task, &mut console.errors),
         Invocation::Explain(word) => explain(word, &mut console.writer),
     }
 }

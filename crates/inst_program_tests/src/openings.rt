@@ -39,3 +39,34 @@ fn the_next_log_begins_with_the_books(rt: HostRuntime) -> Result<(), Fail> {
     let wanted = (0, SECOND_REPLIES, b"".as_slice());
     run_to(&rt, &mut logs, RUN_SECOND, SECOND_LINES, wanted)
 }
+
+/// The next opening with one more participant, more places and a cut-off.
+const NEXT_WIDER: &str = "next --log a --to b --participants AAAADEFF,BBBBFRPP,CCCCITMM,DDDDNL2A \
+    --places 512 --margin 100";
+
+/// A run of that opening.
+const RUN_WIDER: &str =
+    "run --participants AAAADEFF,BBBBFRPP,CCCCITMM,DDDDNL2A --places 512 --margin 100 --log b \
+    --resume";
+
+/// A transfer to the participant that joined.
+const WIDER_LINES: &[u8] =
+    b"{\"at\":3000,\"cents\":100,\"cmd\":\"submit\",\"id\":\"T2\",\"stamp\":3000,\"to\":\"DDDDNL2A\",\
+    \"who\":\"AAAADEFF\"}\n\
+    {\"at\":3000,\"cmd\":\"confirm\",\"from\":\"AAAADEFF\",\"id\":\"T2\",\"who\":\"DDDDNL2A\"}\n\
+    {\"at\":3000,\"cmd\":\"position\",\"who\":\"AAAADEFF\"}\n\
+    {\"at\":3000,\"cmd\":\"position\",\"who\":\"DDDDNL2A\"}\n";
+
+const WIDER_REPLIES: &[u8] = b"{\"deadline\":13000,\"id\":\"T2\",\"reply\":\"taken\"}\n\
+    {\"from\":\"AAAADEFF\",\"id\":\"T2\",\"reply\":\"state\",\"state\":\"accepted\"}\n\
+    {\"available\":29900,\"position\":29900,\"reply\":\"position\",\"reserved\":0}\n\
+    {\"available\":100,\"position\":100,\"reply\":\"position\",\"reserved\":0}\n";
+
+#[test]
+fn the_next_log_has_other_settings(rt: HostRuntime) -> Result<(), Fail> {
+    let mut logs = MemoryLogs::new(rt.alloc());
+    run_to(&rt, &mut logs, RUN, LINES, (0, REPLIES, b""))?;
+    run_to(&rt, &mut logs, NEXT_WIDER, b"", (0, b"", b""))?;
+    let wanted = (0, WIDER_REPLIES, b"".as_slice());
+    run_to(&rt, &mut logs, RUN_WIDER, WIDER_LINES, wanted)
+}

@@ -65,3 +65,37 @@ fn a_damaged_log_stays_as_it_is(rt: HostRuntime) -> Result<(), Fail> {
     is_refused(&rt, &mut logs, "log a", errors, &damaged)?;
     is_refused(&rt, &mut logs, NEXT, errors, &damaged)
 }
+
+/// Changes that the books of the lines don't allow, with the option that is named.
+const UNFIT: &'static [(&'static str, &'static str)] = &[
+    ("--participants BBBBFRPP,AAAADEFF,CCCCITMM", "participants"),
+    ("--participants AAAADEFF,BBBBFRPP", "participants"),
+    (
+        "--participants AAAADEFF,BBBBFRPP,CCCCITMM,CCCCITMM",
+        "participants",
+    ),
+    ("--places 0", "places"),
+    ("--places 65537", "places"),
+    ("--fundings 1025", "fundings"),
+    ("--limit 9999", "limit"),
+    ("--margin 10000", "margin"),
+    ("--margin 10 --ceiling 19999", "ceiling"),
+    ("--limit 100 --margin 50 --places 2", "limit"),
+];
+
+#[test]
+fn a_change_that_the_books_do_not_allow_is_named(rt: HostRuntime) -> Result<(), Fail> {
+    let mut logs = MemoryLogs::new(rt.alloc());
+    run_to(&rt, &mut logs, RUN, LINES, (0, REPLIES, b""))?;
+    let log = logs.bytes(Which::First).to_vec(rt.alloc())?;
+    for (options, name) in UNFIT {
+        let words = format!(in rt.alloc(); "{NEXT} {options}")?;
+        let errors = format!(in rt.alloc();
+            "fault 15 BadSettings\nthe log and its books don't allow this --{name}\n"
+        )?;
+        run_to(&rt, &mut logs, &words, b"", (2, b"", errors.as_bytes()))?;
+        assert_eq!(rt; logs.bytes(Which::First), log.as_slice());
+        assert!(rt; !logs.is_made(Which::Second));
+    }
+    Ok(())
+}

@@ -9,6 +9,7 @@ use Rattle.inst_options.specs.declared.invocation.Invocation.TheVariants as wish
 use Rattle.inst_options.specs.Options.{Task, HasAHub, NamesNoLog, NamesTheLog, IsText, IsFlag}
 use Rattle.inst_options.specs.Options.{IsTask, Chooses, HasSmallNumbers}
 use Rattle.inst_options.specs.Options.{GivesDigest}
+use Rattle.inst_options.specs.Changes.{GivesChanges}
 use Rattle.inst_options.specs.Options.Task.{Run, Play, Drill, Check}
 
 -- The options name this log, or none.
@@ -45,9 +46,10 @@ IsWish name rows (wish.Drill s transfers openings script) =
 IsWish name rows (wish.Check s) = IsSettings s × IsTask name rows Check × Chooses rows s
 IsWish name rows (wish.Log path) =
     (same_text name (codes "log") ≡ true) × IsText (codes "file") rows path.now
-IsWish name rows (wish.Next from to digest) =
-    (same_text name (codes "next") ≡ true) × IsText (codes "log") rows from.now
-    × IsText (codes "to") rows to.now
-    × GivesDigest rows (option_map (λ d. d.now) digest)
+IsWish name rows (wish.Next next) =
+    (same_text name (codes "next") ≡ true) × IsText (codes "log") rows next.from.now
+    × IsText (codes "to") rows next.to.now
+    × GivesDigest rows (option_map (λ d. d.now) next.digest)
+    × GivesChanges rows next.changes
 IsWish name rows (wish.Explain word) =
     (same_text name (codes "explain") ≡ true) × IsText (codes "fault") rows word.now

@@ -5,12 +5,13 @@ use Rattle.clap.specs.declared.builder.action.ArgAction.{ArgAction}
 use Rattle.clap.specs.declared.builder.action.ArgAction.TheVariants.{Set, SetTrue}
 use Rattle.clap.specs.declared.builder.value_parser.ValueParser.{ValueParser}
 use Rattle.clap.specs.declared.builder.value_parser.ValueParser.TheVariants.{Unsigned}
-use Rattle.inst_options.specs.CommandLine.{drill_rules, fault_rule, file_rule, hub_rules}
-use Rattle.inst_options.specs.CommandLine.{next_rules, run_rules}
+use Rattle.inst_options.specs.CommandLine.{change_rules, drill_rules, fault_rule, file_rule}
+use Rattle.inst_options.specs.CommandLine.{hub_rules, next_rules, run_rules}
 use Rattle.inst_options.specs.CommandLine.{with_rules}
 use Rattle.inst_options.specs.declared.table.OptionRow.{OptionRow}
 use Rattle.inst_options.specs.declared.table.Group.{Group}
-use Rattle.inst_options.specs.declared.table.Group.TheVariants.{Hub, Run, Drill, Log, Next, Explain}
+use Rattle.inst_options.specs.declared.table.Group.TheVariants.{Hub, Run, Drill, Log, Next, Changes}
+use Rattle.inst_options.specs.declared.table.Group.TheVariants.{Explain}
 use Rattle.inst_options.specs.declared.table.Kind.{Kind}
 use Rattle.inst_options.specs.declared.table.Kind.TheVariants.{Flag, Word, Text as OfText, Number}
 use Rattle.inst_options.specs.declared.table.Subcommand.{Subcommand}
@@ -54,6 +55,7 @@ rules_of Run = run_rules
 rules_of Drill = drill_rules
 rules_of Log = file_rule ∷ []
 rules_of Next = next_rules
+rules_of Changes = change_rules
 rules_of Explain = fault_rule ∷ []
 
 -- The command line with the options of these groups.

@@ -10,7 +10,7 @@ use Rattle.inst_log.specs.Layout.{recovered_lines}
 use Rattle.inst_log.specs.Opening.{Begins}
 use Rattle.inst_chain.specs.declared.digest.Digest.{Digest}
 use Rattle.inst_logged.specs.LogHeader.{beginning_with}
-use Rattle.inst_logged.specs.Header.{AreFirstLines, header_from}
+use Rattle.inst_logged.specs.Header.{AreFirstLines}
 use Rattle.inst_logged.specs.Refused.{IsLogTaken}
 use Rattle.inst_log.specs.Disks.{HasKeptFaith}
 use Rattle.inst_logged.specs.declared.log_header.LogHeader.{LogHeader}
@@ -20,7 +20,8 @@ use Rattle.inst_program.specs.Files.{change_on}
 use Rattle.inst_program.specs.Keeping.{AsksFor, CarriesBooks, HasNoOpeningLeft, IsGoodToClose}
 use Rattle.inst_program.specs.Keeping.{IsSafe}
 use Rattle.inst_program.specs.inner.ExitReason.{status_of_ending}
-use Rattle.inst_program.specs.declared.carrying.Closed.{Closed}
+use Rattle.inst_program.specs.inner.Changing.{hub_closed}
+use Rattle.inst_program.specs.declared.changing.Closed.{Closed}
 use Rattle.inst_program.specs.declared.exit_reason.ExitReason.{ExitReason}
 
 -- Why the hub of this log isn't closed: another program may have it open, it can't be closed, or it
@@ -55,9 +56,7 @@ pub record IsHubClosed {D : Type 0} (disks : Ghosts D) (wanted : Option Digest) 
   pub ok : IfOk result (λ closed. HasKeptFaith disks new → (digest : Option (List ℕ)) →
       AsksFor digest wanted
       → CarriesBooks digest ((d : D) →
-      IsTrue (disks.is_mixing d))
-      (header_from Two closed.mode (world_settings closed.runner.world) closed.journals.items)
-      (change_on disks old new))
+      IsTrue (disks.is_mixing d)) (hub_closed closed) (change_on disks old new))
   pub can : IfOk result (λ closed.
       CanOpenFrom (world_settings closed.runner.world) closed.journals.items)
   pub err : OnErr result (IsSafe ((d : D) →

@@ -1,15 +1,13 @@
 use Rattle.std.proofs.Common.{codes, inr}
-use Rattle.std.specs.Str.Parse.{ParsesUnsigned, ExplainsUnsignedError, HasUnsignedDigitsIfOk}
 use Rattle.clap.specs.Words.{found_of}
-use Rattle.inst_options.proofs.OptionsOfLog.{given_text, given_none, given_told}
+use Rattle.inst_options.proofs.OptionsOfLog.{given_text, given_none}
 use Rattle.inst_options.proofs.options.log_options.Goals as goal
 
 pub returns-in-Some-clause-log : goal.returns-in-Some-clause-log
 returns-in-Some-clause-log c =
     let options = found_of c.args.options.now in (
       given_text options (codes "log") c.get_str-path.result c.in-Some.path c.get_str-path.ensures c.in-Some.is,
-      given_told (λ text q. ParsesUnsigned 64 10 text q × ExplainsUnsignedError 10 text q × HasUnsignedDigitsIfOk text q) options c.get_one-told.result
-          c.get_one-told.ensures.none c.get_one-told.ensures.value (λ text q h. h.0),
+      c.number_given-told.ensures,
       (c.flag.result, c.flag.ensures, c.must_resume-resume.ensures),
       c.in_ok-digest.ensures.digest,
     )

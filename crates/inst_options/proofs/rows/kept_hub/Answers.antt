@@ -1,9 +1,10 @@
-use Rattle.std.proofs.Common.{◌≡◌, ◌++◌, ⊎_elim, ℕ, true, false, List, Option, Some, None, rules, refl, sym, ap, get_or, unwrap_or, option_map, codes, [], ◌∷◌, arith}
-use Rattle.clap.specs.Words.{Row, Text, subcommand_of}
+use Rattle.std.proofs.Common.{◌≡◌, ◌++◌, ⊎_elim, ℕ, true, false, List, Option, Some, None, rules, refl, sym, ap, ◌∙◌, get_or, unwrap_or, option_map, codes, [], ◌∷◌, arith}
+use Rattle.clap.specs.Words.{Row, Text, one_of, subcommand_of}
 use Rattle.clap.proofs.OnLiterals.{clap_on_literals}
 use Rattle.inst_options.specs.CommandLine.{command_line}
 use Rattle.inst_options.specs.Asking.{AskForTheLog, AskForTheNext, NameNoLog, NameTheLog}
-use Rattle.inst_options.specs.Rows.{KeptHub, empty_digest, small_hub, small_script}
+use Rattle.inst_options.specs.Options.{GivesOrNot}
+use Rattle.inst_options.specs.Rows.{KeptHub, empty_digest, no_changes, small_hub, small_script}
 use Rattle.inst_options.proofs.rows.kept_hub.Goals as goal
 
 none_some : (text : Text) → None ≡ Some text → ⊥
@@ -97,7 +98,14 @@ shown = (refl, (codes "log", rows_in log_words, refl, refl, λ given at. some_on
 abbrev next_words : List (List ℕ)
 next_words = codes "inst_main" ∷ codes "next" ∷ codes "--log" ∷ codes "hub.log" ∷ codes "--to" ∷ codes "next.log" ∷ []
 
-carried : AskForTheNext next_words (codes "hub.log") (codes "next.log") None
+-- an option that isn't given gives nothing
+abbrev nothing_given : List Row → List ℕ → Type 0
+nothing_given rows name = one_of name rows ≡ None
+
+gives_nothing : (rows : List Row) (name : List ℕ) → nothing_given rows name → GivesOrNot rows name None
+gives_nothing rows name none n gives = absurd (none_some gives.0 (sym none ∙ gives.1))
+
+carried : AskForTheNext next_words (codes "hub.log") (codes "next.log") None no_changes
 unfolding clap_on_literals
 carried = (
   refl,
@@ -109,6 +117,44 @@ carried = (
     (λ given at. some_one (codes "hub.log") given at),
     (λ given at. some_one (codes "next.log") given at),
     (refl, tt),
+    record {
+      participants = refl;
+      places = gives_nothing (rows_in next_words) (codes "places") refl;
+      fundings = gives_nothing (rows_in next_words) (codes "fundings") refl;
+      limit = gives_nothing (rows_in next_words) (codes "limit") refl;
+      margin = gives_nothing (rows_in next_words) (codes "margin") refl;
+      ahead = gives_nothing (rows_in next_words) (codes "ahead") refl;
+      ceiling = gives_nothing (rows_in next_words) (codes "ceiling") refl;
+    },
+  ),
+)
+
+abbrev wider_next_words : List (List ℕ)
+wider_next_words =
+    codes "inst_main" ∷ codes "next" ∷ codes "--log" ∷ codes "hub.log" ∷ codes "--to" ∷ codes "next.log"
+    ∷ codes "--places" ∷ codes "1024" ∷ []
+
+with_places : AskForTheNext wider_next_words (codes "hub.log") (codes "next.log") None (record no_changes { places = Some 1024 })
+unfolding clap_on_literals
+with_places = (
+  refl,
+  (
+    codes "next",
+    rows_in wider_next_words,
+    refl,
+    refl,
+    (λ given at. some_one (codes "hub.log") given at),
+    (λ given at. some_one (codes "next.log") given at),
+    (refl, tt),
+    record {
+      participants = refl;
+      places = (codes "1024", refl, search rules, refl);
+      fundings = gives_nothing (rows_in wider_next_words) (codes "fundings") refl;
+      limit = gives_nothing (rows_in wider_next_words) (codes "limit") refl;
+      margin = gives_nothing (rows_in wider_next_words) (codes "margin") refl;
+      ahead = gives_nothing (rows_in wider_next_words) (codes "ahead") refl;
+      ceiling = gives_nothing (rows_in wider_next_words) (codes "ceiling") refl;
+    },
   ),
 )
 
@@ -117,7 +163,7 @@ known_next_words =
     codes "inst_main" ∷ codes "next" ∷ codes "--log" ∷ codes "hub.log" ∷ codes "--to" ∷ codes "next.log"
     ∷ codes "--digest" ∷ empty_digest ∷ []
 
-known_carried : AskForTheNext known_next_words (codes "hub.log") (codes "next.log") (Some empty_digest)
+known_carried : AskForTheNext known_next_words (codes "hub.log") (codes "next.log") (Some empty_digest) no_changes
 unfolding clap_on_literals
 known_carried = (
   refl,
@@ -129,6 +175,15 @@ known_carried = (
     (λ given at. some_one (codes "hub.log") given at),
     (λ given at. some_one (codes "next.log") given at),
     (refl, refl),
+    record {
+      participants = refl;
+      places = gives_nothing (rows_in known_next_words) (codes "places") refl;
+      fundings = gives_nothing (rows_in known_next_words) (codes "fundings") refl;
+      limit = gives_nothing (rows_in known_next_words) (codes "limit") refl;
+      margin = gives_nothing (rows_in known_next_words) (codes "margin") refl;
+      ahead = gives_nothing (rows_in known_next_words) (codes "ahead") refl;
+      ceiling = gives_nothing (rows_in known_next_words) (codes "ceiling") refl;
+    },
   ),
 )
 
@@ -145,6 +200,7 @@ row = record {
   shown = shown;
   carried = carried;
   known_carried = known_carried;
+  with_places = with_places;
 }
 
 pub returns : goal.returns

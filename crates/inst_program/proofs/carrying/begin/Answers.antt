@@ -12,22 +12,22 @@ returns-clause-ok g c =
     let old = g.L.Logs.files c.args.logs.now in
     let new = g.L.Logs.files c.close.new.self in
     let disk = c.in_ok-disk.disk in
-    let disk' = c.begin_on-outcome.result.1 in
+    let disk' = c.begin_on-disk.result.1 in
     let v : IsVisitedAs g.L.Log.Disk old new c.args.to.now disk disk' = visited g.L.Log.Disk old _ new c.args.to.now disk disk' c.in_ok-disk.ensures.opened c.close.ensures.closed c.close.ensures.clean in
-    on_ok_weaker c.begin_on-outcome.result.0 (λ is. begun_in g.L.Log.Disk old new c.args.to.now disk disk' v _ is) (rw (c.settings.ensures, c.deref.ensures.value) at c.begin_on-outcome.ensures.ok)
+    on_ok_weaker c.begin_on-disk.result.0 (λ is. begun_in g.L.Log.Disk old new c.args.to.now disk disk' v _ is) (rw (c.deref.ensures.value) at c.begin_on-disk.ensures.ok)
 
 pub returns-clause-err : goal.returns-clause-err
 returns-clause-err g c =
     let old = g.L.Logs.files c.args.logs.now in
     let new = g.L.Logs.files c.close.new.self in
     let disk = c.in_ok-disk.disk in
-    let disk' = c.begin_on-outcome.result.1 in
+    let disk' = c.begin_on-disk.result.1 in
     let v : IsVisitedAs g.L.Log.Disk old new c.args.to.now disk disk' = visited g.L.Log.Disk old _ new c.args.to.now disk disk' c.in_ok-disk.ensures.opened c.close.ensures.closed c.close.ensures.clean in
-    on_err_weaker c.begin_on-outcome.result.0 (λ is. safe_in g.L.Log.Disk old new c.args.to.now disk disk' v _ is) c.begin_on-outcome.ensures.err
+    on_err_weaker c.begin_on-disk.result.0 (λ is. safe_in g.L.Log.Disk old new c.args.to.now disk disk' v _ is) c.begin_on-disk.ensures.err
 
 pub returns-clause-visited : goal.returns-clause-visited
 returns-clause-visited g c =
-    (visited g.L.Log.Disk (g.L.Logs.files c.args.logs.now) _ (g.L.Logs.files c.close.new.self) c.args.to.now c.in_ok-disk.disk c.begin_on-outcome.result.1
+    (visited g.L.Log.Disk (g.L.Logs.files c.args.logs.now) _ (g.L.Logs.files c.close.new.self) c.args.to.now c.in_ok-disk.disk c.begin_on-disk.result.1
     c.in_ok-disk.ensures.opened c.close.ensures.closed c.close.ensures.clean).visit
 
 pub returns-in_err-disk-clause-refused : goal.returns-in_err-disk-clause-refused
@@ -40,6 +40,6 @@ returns-clause-refused g c =
     let old = g.L.Logs.files c.args.logs.now in
     let new = g.L.Logs.files c.close.new.self in
     let disk = c.in_ok-disk.disk in
-    let disk' = c.begin_on-outcome.result.1 in
+    let disk' = c.begin_on-disk.result.1 in
     let v : IsVisitedAs g.L.Log.Disk old new c.args.to.now disk disk' = visited g.L.Log.Disk old _ new c.args.to.now disk disk' c.in_ok-disk.ensures.opened c.close.ensures.closed c.close.ensures.clean in
-    IfErr-weaker c.begin_on-outcome.result.0 _ _ (λ e is two. unbegun_in g.L.Log.Disk old new c.args.to.now disk disk' v _ _ (is two)) (rw (c.settings.ensures, c.deref.ensures.value) at c.begin_on-outcome.ensures.refused)
+    IfErr-weaker c.begin_on-disk.result.0 _ _ (λ e is two. unbegun_in g.L.Log.Disk old new c.args.to.now disk disk' v _ _ (is two)) (rw (c.deref.ensures.value) at c.begin_on-disk.ensures.refused)

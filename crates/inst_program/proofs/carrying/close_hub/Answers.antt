@@ -2,9 +2,7 @@ use Rattle.std.proofs.Common.{inl, inr, IsTrue, sym, subst}
 use Rattle.inst_agenda.specs.declared.runner.Runner.{Runner}
 use Rattle.inst_world.specs.HasRun.{world_settings}
 use Rattle.inst_world.specs.NextOpening.{CanOpenFrom}
-use Rattle.inst_logged.specs.Header.{header_from}
 use Rattle.inst_log.specs.Disks.{HasKeptFaith}
-use Rattle.inst_logged.specs.declared.version.Version.TheVariants.{Two}
 use Rattle.inst_program.specs.Files.{change_on}
 use Rattle.inst_program.specs.Keeping.{CarriesBooks}
 use Rattle.inst_program.proofs.LogOnReturnedDisk.{begun_with, carries_on, left_behind, left_equal, no_opening_on, left_as_it_was, safe_closed, safe_on}
@@ -33,7 +31,7 @@ returns-in-Ok-Some g c =
           let there = (c.requires.read (c.of_log.ensures.read.clean clean-found)).there in
           let closes = rw c.in-Ok-Some.field-0-is at (c.in-Ok-Some.ensures.ok clean) in
           let carried = carries_on disks mode s hub after c.args.disk disk' has left left' stay digest c.args.wanted asked c.in-Ok-Some.journals there closes (c.close-books.ensures.any_moment clean) in
-          subst (λ (r : Runner). CarriesBooks digest ((d : g.row.D.Denot) → IsTrue (disks.is_mixing d)) (header_from Two mode (world_settings r.world) c.in-Ok-Some.journals.items) (change_on disks c.args.disk disk'))
+          subst (λ (r : Runner). CarriesBooks digest ((d : g.row.D.Denot) → IsTrue (disks.is_mixing d)) (record { mode = mode; settings = world_settings r.world; journals = c.in-Ok-Some.journals.items }) (change_on disks c.args.disk disk'))
           (sym c.into_parts-runner.ensures.runner) carried;
       can = subst (λ (r : Runner). CanOpenFrom (world_settings r.world) c.in-Ok-Some.journals.items) (sym c.into_parts-runner.ensures.runner) (rw c.in-Ok-Some.field-0-is at c.in-Ok-Some.ensures.can);
       err = tt;

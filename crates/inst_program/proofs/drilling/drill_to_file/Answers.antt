@@ -12,22 +12,22 @@ returns-clause-ok g c =
     let old = g.L.Logs.files c.args.logs.now in
     let new = g.L.Logs.files c.close.new.self in
     let disk = c.in_ok-disk.disk in
-    let disk' = c.drill_to-outcome.result.1 in
+    let disk' = c.drill_to-disk.result.1 in
     let v : IsVisitedAs g.L.Log.Disk old new c.args.path.now disk disk' = visited g.L.Log.Disk old _ new c.args.path.now disk disk' c.in_ok-disk.ensures.opened c.close.ensures.closed c.close.ensures.clean in
-    drills_in old new c.args.path.now g.L.Log.Disk disk disk' c.args.asked _ _ _ c.drill_to-outcome.result.0 v c.drill_to-outcome.ensures.scripted
+    drills_in old new c.args.path.now g.L.Log.Disk disk disk' c.args.asked _ _ _ c.drill_to-disk.result.0 v c.drill_to-disk.ensures.scripted
 
 pub returns-clause-err : goal.returns-clause-err
 returns-clause-err g c =
     let old = g.L.Logs.files c.args.logs.now in
     let new = g.L.Logs.files c.close.new.self in
     let disk = c.in_ok-disk.disk in
-    let disk' = c.drill_to-outcome.result.1 in
+    let disk' = c.drill_to-disk.result.1 in
     let v : IsVisitedAs g.L.Log.Disk old new c.args.path.now disk disk' = visited g.L.Log.Disk old _ new c.args.path.now disk disk' c.in_ok-disk.ensures.opened c.close.ensures.closed c.close.ensures.clean in
-    undrilled_in old new c.args.path.now g.L.Log.Disk disk disk' c.args.asked _ _ _ c.drill_to-outcome.result.0 v c.drill_to-outcome.ensures.scripted
+    undrilled_in old new c.args.path.now g.L.Log.Disk disk disk' c.args.asked _ _ _ c.drill_to-disk.result.0 v c.drill_to-disk.ensures.scripted
 
 pub returns-clause-all_in : goal.returns-clause-all_in
 returns-clause-all_in g c =
-    (visited g.L.Log.Disk (g.L.Logs.files c.args.logs.now) _ (g.L.Logs.files c.close.new.self) c.args.path.now c.in_ok-disk.disk c.drill_to-outcome.result.1
+    (visited g.L.Log.Disk (g.L.Logs.files c.args.logs.now) _ (g.L.Logs.files c.close.new.self) c.args.path.now c.in_ok-disk.disk c.drill_to-disk.result.1
     c.in_ok-disk.ensures.opened c.close.ensures.closed c.close.ensures.clean).visit.all_in
 
 pub returns-in_err-disk-clause-err : goal.returns-in_err-disk-clause-err

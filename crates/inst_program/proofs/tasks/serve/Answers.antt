@@ -1,6 +1,7 @@
 use Rattle.std.proofs.Common.{ℕ, List, Bor, option_map, refl}
 use Rattle.std.proofs.lemmas.Result.{on_ok_weaker}
-use Rattle.inst_options.specs.Asking.{AskForTheNext}
+use Rattle.inst_program.specs.Keeping.{next_asked}
+use Rattle.inst_program.specs.Program.{AskForNext}
 use Rattle.inst_program.specs.Program.Done.{Carried, Explained, Shown}
 use Rattle.inst_program.proofs.OutcomeOfTask.{answered, checked, drilled, unanswered_err, uncarried_err, unchecked_err, undrilled_err, unexplained_err, unshown_err}
 use Rattle.inst_program.proofs.LogAfterVisit.{nothing_happened}
@@ -48,14 +49,14 @@ returns-in-Log-clause-err g c words wished =
 
 pub returns-in-Next-clause-ok : goal.returns-in-Next-clause-ok
 returns-in-Next-clause-ok g c words wished =
-    let digest = option_map (λ (d : Bor (List ℕ)). d.now) c.in-Next.digest in
-    let is : AskForTheNext words c.in-Next.from.now c.in-Next.to.now digest = rw c.in-Next.is at wished in
-    on_ok_weaker c.next.result (λ done. Carried refl refl (c.in-Next.from.now, c.in-Next.to.now, digest, is, done)) c.next.ensures.ok
+    let asked = next_asked c.in-Next.task in
+    let is : AskForNext words asked = rw c.in-Next.is at wished in
+    on_ok_weaker c.next.result (λ done. Carried refl refl (asked, is, done)) c.next.ensures.ok
 
 pub returns-in-Next-clause-err : goal.returns-in-Next-clause-err
 returns-in-Next-clause-err g c words wished =
     let is = rw c.in-Next.is at wished in
-    uncarried_err words _ _ _ c.in-Next.from.now c.in-Next.to.now (option_map (λ (d : Bor (List ℕ)). d.now) c.in-Next.digest) c.next.result is refl refl c.next.ensures.err c.next.ensures.refused
+    uncarried_err words _ _ _ (next_asked c.in-Next.task) c.next.result is refl refl c.next.ensures.err c.next.ensures.refused
 
 pub returns-in-Explain-clause-ok : goal.returns-in-Explain-clause-ok
 returns-in-Explain-clause-ok g c words wished =

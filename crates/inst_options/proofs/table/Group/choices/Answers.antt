@@ -17,5 +17,8 @@ returns-in-Log c = sym (ap rules_of c.in-Log.is)
 pub returns-in-Next : goal.returns-in-Next
 returns-in-Next c = sym (ap rules_of c.in-Next.is)
 
+pub returns-in-Changes : goal.returns-in-Changes
+returns-in-Changes c = sym (ap rules_of c.in-Changes.is)
+
 pub returns-in-Explain : goal.returns-in-Explain
 returns-in-Explain c = sym (ap rules_of c.in-Explain.is)
