@@ -11,3 +11,4 @@ pub mod CountsAfterOneMoreEvent
 pub mod ComparisonOfNumbers
 pub mod BooksCloseWhereSidesAgree
 pub mod ReplayedJournals
+pub mod CarriedPositions

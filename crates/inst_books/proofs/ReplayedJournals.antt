@@ -38,12 +38,12 @@ sound_more s who J items i x b same below here kept sound fits =
     subst (IsSound s who) (sym (one_more J items i x same below here))
     (sound_push s who (take i J) x sound (subst (λ (b : LedgerBook). Fits b.settings b.who b.events x) kept fits))
 
-get_before : {A : Type 0} (xs : List A) (x : A) (i : ℕ) → i < length xs → slice_get (xs ++ x ∷ []) i ≡ slice_get xs i
+pub get_before : {A : Type 0} (xs : List A) (x : A) (i : ℕ) → i < length xs → slice_get (xs ++ x ∷ []) i ≡ slice_get xs i
 get_before [] x i below = absurd (omega (arith, below))
 get_before (y ∷ ys) x zero below = refl
 get_before (y ∷ ys) x (suc i) below = get_before ys x i (omega (arith, below))
 
-below_or_last : (p n : ℕ) → p < n + 1 → (p < n) ⊎ (n ≡ p)
+pub below_or_last : (p n : ℕ) → p < n + 1 → (p < n) ⊎ (n ≡ p)
 below_or_last p n below = grind arith
 
 -- one journal more

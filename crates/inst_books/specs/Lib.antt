@@ -6,3 +6,4 @@ pub mod Laws
 pub mod Tally
 -- Definitions that only private functions and proofs cite.
 pub mod inner
+pub mod Positions

@@ -3,3 +3,4 @@ pub mod Events
 pub mod Books
 pub mod Agreeing
 pub mod Replaying
+pub mod Carrying

@@ -31,7 +31,7 @@ fn keep_all(replay: &mut Replay, journal: &Journal) -> Result<bool, AllocError>
 }
 
 /// Returns the replayed ledger of participant `who`; `None` if the journal can't be its book.
-fn replayed(
+pub(crate) fn replayed(
     alloc: Global,
     settings: &Settings,
     who: u8,

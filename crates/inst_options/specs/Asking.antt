@@ -84,13 +84,15 @@ AskForTheLog words path = AreWhole words
     × (same_text name (codes "log") ≡ true) × IsText (codes "file") rows path)
 
 -- The words are a whole command line and ask for the second log, which begins with the books of the
--- first, under settings with these changes; the first must contain this digest, if one is given.
-abbrev pub AskForTheNext : List (List ℕ) → List ℕ → List ℕ → Option (List ℕ) → SettingChanges →
-    Type 0
-AskForTheNext words from to digest changes = AreWhole words
+-- first, or with their positions alone, under settings with these changes; the first must contain
+-- this digest, if one is given.
+abbrev pub AskForTheNext : List (List ℕ) → List ℕ → List ℕ → Option (List ℕ) → Bool →
+    SettingChanges → Type 0
+AskForTheNext words from to digest positions changes = AreWhole words
     × ((name : List ℕ) × (rows : List Row) × (subcommand_of command_line words ≡ Some (name, rows))
     × (same_text name (codes "next") ≡ true) × IsText (codes "log") rows from
-    × IsText (codes "to") rows to × GivesDigest rows digest × GivesChanges rows changes)
+    × IsText (codes "to") rows to × GivesDigest rows digest
+    × IsFlag (codes "positions") rows positions × GivesChanges rows changes)
 
 -- The words ask for a summary, or not.
 abbrev pub AskForASummary : List (List ℕ) → Bool → Type 0
@@ -124,7 +126,8 @@ IsWished words (wish.Drill s transfers openings script) =
 IsWished words (wish.Check s) = IsSettings s × AreWhole words × AreChosen words Check s
 IsWished words (wish.Log path) = AskForTheLog words path.now
 IsWished words (wish.Next next) =
-    AskForTheNext words next.from.now next.to.now (option_map (λ d. d.now) next.digest) next.changes
+    AskForTheNext words next.from.now next.to.now (option_map (λ d. d.now) next.digest)
+    next.positions next.changes
 IsWished words (wish.Explain word) = AskToExplain words word.now
 
 -- The words are a whole command line for a hub, and choose no settings that a hub can have, or no

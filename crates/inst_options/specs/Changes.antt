@@ -15,7 +15,7 @@ abbrev pub codes_after : Option Text → List (List ℕ) → List (List ℕ)
 codes_after None codes = codes
 codes_after (Some text) codes = parts_of text
 
--- The settings after these changes. What isn't given stays, and so does the base.
+-- The settings after these changes. What isn't given stays.
 abbrev pub changed : SettingChanges → HubSettings → HubSettings
 changed c s = record {
   codes = codes_after (option_map (λ text. text.now) c.participants) s.codes;
@@ -25,7 +25,7 @@ changed c s = record {
   margin = unwrap_or c.margin s.margin;
   ahead = unwrap_or c.ahead s.ahead;
   ceiling = unwrap_or c.ceiling s.ceiling;
-  base = s.base;
+  base = unwrap_or c.base s.base;
 }
 
 -- The options give these changes.
@@ -38,6 +38,7 @@ pub record GivesChanges (rows : List Row) (c : SettingChanges) : Type 0 where
   pub margin : GivesOrNot rows (codes "margin") c.margin
   pub ahead : GivesOrNot rows (codes "ahead") c.ahead
   pub ceiling : GivesOrNot rows (codes "ceiling") c.ceiling
+  pub base : GivesOrNot rows (codes "base") c.base
 
 -- The codes that are given, if any, are well formed.
 abbrev pub AreFormed : SettingChanges → Type 0

@@ -1,5 +1,5 @@
 -- The program's command line. Its words are a choice of this hub.
-use Rattle.std.specs.Prelude.{◌-◌, ◌^◌, ℕ, true, List, ◌∷◌, [], ◌++◌, Some, codes}
+use Rattle.std.specs.Prelude.{◌-◌, ◌^◌, ℕ, true, false, List, ◌∷◌, [], ◌++◌, Some, codes}
 use Rattle.clap.specs.Words.{App, Rule, Shape, new_app, new_rule, with_rule, with_subcommand}
 use Rattle.clap.specs.Simple.{on_top}
 use Rattle.clap.specs.declared.builder.action.ArgAction.TheVariants.{Set, SetTrue}
@@ -28,6 +28,10 @@ number_rule name value =
       value_names = 1;
     }
 
+-- A whole number of 64 bits, without a default.
+abbrev pub change_rule : List ℕ → Rule
+change_rule name = record (number_rule name []) { defaults = [] }
+
 -- The file of a log, as the positional word of `log`; required.
 abbrev pub file_rule : Rule
 file_rule = record (new_rule (codes "file")) { required = true; action = Some Set; value_names = 1 }
@@ -49,14 +53,7 @@ named_rule name =
 
 -- The number of replies that the client has, of 64 bits.
 abbrev pub told_rule : Rule
-told_rule =
-    record (new_rule (codes "told")) {
-      long = Some (codes "told");
-      action = Some Set;
-      parser =
-          Some (Unsigned 0 (2 ^ 64 - 1));
-      value_names = 1;
-    }
+told_rule = change_rule (codes "told")
 
 -- The log must exist.
 abbrev pub resume_rule : Rule
@@ -119,17 +116,7 @@ drill_rules =
 
 -- The codes of all participants after an opening.
 abbrev pub codes_rule : Rule
-codes_rule =
-    record (new_rule (codes "participants")) {
-      long = Some (codes "participants");
-      action =
-          Some Set;
-      value_names = 1;
-    }
-
--- A whole number of 64 bits, without a default.
-abbrev pub change_rule : List ℕ → Rule
-change_rule name = record (number_rule name []) { defaults = [] }
+codes_rule = record participants_rule { required = false }
 
 -- The settings that `next` can change.
 abbrev pub change_rules : List Rule
@@ -139,11 +126,19 @@ change_rules =
     ∷ change_rule (codes "margin")
     ∷ change_rule (codes "ahead")
     ∷ change_rule (codes "ceiling")
+    ∷ change_rule (codes "base")
     ∷ []
 
--- The two logs of `next`, and a digest that the first one must contain.
+-- The second log begins with the positions alone.
+abbrev pub positions_rule : Rule
+positions_rule =
+    record (new_rule (codes "positions")) { long = Some (codes "positions"); action = Some SetTrue }
+
+-- The two logs of `next`, a digest that the first one must contain, and if only positions are
+-- carried.
 abbrev pub next_rules : List Rule
-next_rules = named_rule (codes "log") ∷ named_rule (codes "to") ∷ digest_rule ∷ []
+next_rules =
+    named_rule (codes "log") ∷ named_rule (codes "to") ∷ digest_rule ∷ positions_rule ∷ []
 
 -- The command line with these options, in order.
 abbrev pub with_rules : App → List Rule → App

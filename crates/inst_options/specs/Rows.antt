@@ -66,11 +66,12 @@ no_changes = record {
   margin = None;
   ahead = None;
   ceiling = None;
+  base = None;
 }
 
 -- Words with `--log`; with `--log` and `--told`, `--resume` or `--digest`; with none of these;
 -- `inst_main log hub.log`; `inst_main next --log hub.log --to next.log`, without more, with a
--- digest, and with more places.
+-- digest, with more places, and with positions alone.
 pub record KeptHub : Type 0 where
   pub whole : AreWhole (small_hub ++ codes "--log" ∷ codes "hub.log" ∷ [])
   pub all_told : NameTheLog (small_hub ++ codes "--log" ∷ codes "hub.log"
@@ -87,13 +88,16 @@ pub record KeptHub : Type 0 where
   pub shown : AskForTheLog (codes "inst_main" ∷ codes "log" ∷ codes "hub.log"
       ∷ []) (codes "hub.log")
   pub carried : AskForTheNext (codes "inst_main" ∷ codes "next" ∷ codes "--log" ∷ codes "hub.log"
-      ∷ codes "--to" ∷ codes "next.log" ∷ []) (codes "hub.log") (codes "next.log") None no_changes
+      ∷ codes "--to" ∷ codes "next.log" ∷ []) (codes "hub.log") (codes "next.log") None false no_changes
   pub known_carried : AskForTheNext (codes "inst_main" ∷ codes "next" ∷ codes "--log"
       ∷ codes "hub.log" ∷ codes "--to" ∷ codes "next.log" ∷ codes "--digest" ∷ empty_digest
-      ∷ []) (codes "hub.log") (codes "next.log") (Some empty_digest) no_changes
+      ∷ []) (codes "hub.log") (codes "next.log") (Some empty_digest) false no_changes
   pub with_places : AskForTheNext (codes "inst_main" ∷ codes "next" ∷ codes "--log"
       ∷ codes "hub.log" ∷ codes "--to" ∷ codes "next.log" ∷ codes "--places" ∷ codes "1024"
-      ∷ []) (codes "hub.log") (codes "next.log") None (record no_changes { places = Some 1024 })
+      ∷ []) (codes "hub.log") (codes "next.log") None false (record no_changes { places = Some 1024 })
+  pub with_positions : AskForTheNext (codes "inst_main" ∷ codes "next" ∷ codes "--log"
+      ∷ codes "hub.log" ∷ codes "--to" ∷ codes "next.log" ∷ codes "--positions"
+      ∷ []) (codes "hub.log") (codes "next.log") None true no_changes
 
 -- Words that aren't a whole command line: `inst_main run`, `inst_main play`, `inst_main drill`,
 -- `inst_main`, `inst_main --help` and `inst_main --version`.

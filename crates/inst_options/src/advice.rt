@@ -13,6 +13,11 @@ impl AnyFault {
                 "\
                 no single-threaded run was found that leaves a drill's books; the hub may be broken"
             }
+            AnyFault::PendingTransfer => {
+                "\
+                `next --positions` found a pending transfer, which a new chain can't carry; the \
+                line before the fault names it, with its deadline"
+            }
         }
     }
 
@@ -23,6 +28,11 @@ impl AnyFault {
             AnyFault::Log(fault) => advice_of_log(fault),
             AnyFault::NoInterleaving => {
                 "report it with the command line, the version and the machine"
+            }
+            AnyFault::PendingTransfer => {
+                "\
+                resume the log, let the transfer end (a command at its deadline times it out), and \
+                run `next` again"
             }
         }
     }
@@ -167,7 +177,9 @@ fn advice_of(fault: Fault) -> &'static str {
             "give the amount in cents; on a log, `next` takes a higher `--ceiling`"
         }
         Fault::BadMoment => {
-            "give moments in milliseconds; for another `--base` start a new hub, with a new log"
+            "\
+            give moments in milliseconds; on a log, `next --positions` begins a new chain with \
+            another `--base`"
         }
         Fault::UnknownParticipant => { "use a code that `--participants` has" }
         Fault::SelfTransfer => { "nothing: such a payment needs no hub" }
@@ -230,7 +242,7 @@ fn advice_of_log(fault: LogFault) -> &'static str {
         }
         LogFault::LogInUse => { "stop the other program first, or name another log" }
         LogFault::BadBooks => { "restore the log from a copy as `next` made it" }
-        LogFault::LastOpening => { "start a new hub, and fund its positions again" }
+        LogFault::LastOpening => { "begin a new chain with `next --positions`" }
         LogFault::DamagedLog => {
             "\
             restore the log from a copy, and compare its digest; or use the log of another replica"

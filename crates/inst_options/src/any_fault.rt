@@ -1,4 +1,4 @@
-//! All faults of the program, numbered 1 to 29.
+//! All faults of the program, numbered 1 to 30.
 ghost use Rattle.std.specs.Prelude.{◌≡◌, ◌↔◌, IfSome, None, true};
 ghost use Rattle.inst_options.specs.AnyFault.{any_fault_number, any_fault_name, IsNamed};
 ghost use Rattle.inst_options.specs.declared.any_fault.AnyFault.{AnyFault as SomeFault};
@@ -15,6 +15,8 @@ pub enum AnyFault {
     Log(LogFault),
     /// No run in one thread was found that leaves the books of a drill's opening: 29.
     NoInterleaving,
+    /// A transfer is pending, so no new chain can begin with the positions alone: 30.
+    PendingTransfer,
 }
 
 /// All faults, ordered by number.
@@ -48,6 +50,7 @@ const ALL: &'static [AnyFault] = &[
     AnyFault::Log(LogFault::OtherDigest),
     AnyFault::Log(LogFault::ChangedLog),
     AnyFault::NoInterleaving,
+    AnyFault::PendingTransfer,
 ];
 
 impl AnyFault {
@@ -59,6 +62,7 @@ impl AnyFault {
             AnyFault::Hub(fault) => fault.number(),
             AnyFault::Log(fault) => fault.number(),
             AnyFault::NoInterleaving => 29,
+            AnyFault::PendingTransfer => 30,
         }
     }
 
@@ -70,6 +74,7 @@ impl AnyFault {
             AnyFault::Hub(fault) => fault.name(),
             AnyFault::Log(fault) => fault.name(),
             AnyFault::NoInterleaving => "NoInterleaving",
+            AnyFault::PendingTransfer => "PendingTransfer",
         }
     }
 }
@@ -80,7 +85,7 @@ impl AnyFault {
 /// ```text
 /// fault_of("13")       // Some(AnyFault::Hub(Fault::Shortage))
 /// fault_of("Shortage") // the same
-/// fault_of("30")       // None
+/// fault_of("31")       // None
 /// ```
 pub fn fault_of(word: &str) -> Option<AnyFault>
     ensures named { IfSome result (λ fault. IsNamed word.now fault) }

@@ -24,6 +24,8 @@ pub struct NextOptions<'a> {
     pub to: &'a str,
     /// A digest that the first log must contain, 64 lower-case hexadecimal digits.
     pub digest: Option<&'a str>,
+    /// `true` if only positions are carried, into a new chain of logs.
+    pub positions: bool,
     /// What changes.
     pub changes: SettingChanges<'a>,
 }

@@ -41,6 +41,7 @@ pub(crate) fn wish<'a>(
             from: text_if_any(options, "log"),
             to: text_if_any(options, "to"),
             digest: digest(options)?,
+            positions: flag(options, "positions"),
             changes: changes(options),
         }));
     }
@@ -165,6 +166,7 @@ fn changes<'a>(options: &ArgMatches<'a>) -> SettingChanges<'a>
         margin: number_given(options, "margin"),
         ahead: number_given(options, "ahead"),
         ceiling: number_given(options, "ceiling"),
+        base: number_given(options, "base"),
     }
 }
 

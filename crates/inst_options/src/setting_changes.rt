@@ -25,6 +25,8 @@ pub struct SettingChanges<'a> {
     pub ahead: Option<u64>,
     /// The largest amount of a command, in cents.
     pub ceiling: Option<u64>,
+    /// The absolute milliseconds from which moments are counted.
+    pub base: Option<u64>,
 }
 
 impl<'a> SettingChanges<'a> {
@@ -40,10 +42,11 @@ impl<'a> SettingChanges<'a> {
         margin: None,
         ahead: None,
         ceiling: None,
+        base: None,
     };
 
     /// Returns `true` if nothing changes.
-    pub fn are_none(&self) -> bool
+    pub fn is_empty(&self) -> bool
         ensures same { result ≡ true → (s : HubSettings) → changed self.now s ≡ s }
         ensures formed { result ≡ true → AreFormed self.now }
     {
@@ -54,10 +57,11 @@ impl<'a> SettingChanges<'a> {
             && self.margin.is_none()
             && self.ahead.is_none()
             && self.ceiling.is_none()
+            && self.base.is_none()
     }
 
     /// Returns each change alone, with the name of its option.
-    pub fn singles(&self) -> [(&'static str, SettingChanges<'a>); 7] {
+    pub fn each_alone(&self) -> [(&'static str, SettingChanges<'a>); 8] {
         let none = SettingChanges::NONE;
         [
             (
@@ -109,6 +113,13 @@ impl<'a> SettingChanges<'a> {
                     ..none
                 },
             ),
+            (
+                "base",
+                SettingChanges {
+                    base: self.base,
+                    ..none
+                },
+            ),
         ]
     }
 }
@@ -137,7 +148,7 @@ pub fn changed_settings(
         margin: medium(changes.margin, old.margin)?,
         ahead: medium(changes.ahead, old.ahead)?,
         ceiling: changes.ceiling.unwrap_or(old.ceiling),
-        base: old.base,
+        base: changes.base.unwrap_or(old.base),
     };
     let codes = match changes.participants {
         Some(text) => parse_codes(alloc, text.as_bytes())?,

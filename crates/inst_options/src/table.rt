@@ -341,6 +341,15 @@ const NEXT: &'static [OptionRow] = &[
         defaults: &[],
         help: "Digest that the first log must contain, 64 hexadecimal digits in lower case",
     },
+    OptionRow {
+        name: "positions",
+        kind: Kind::Flag,
+        required: false,
+        value_names: &[],
+        defaults: &[],
+        help: "Begins a new chain: the second log has the positions alone, as fundings, and no \
+            other history",
+    },
 ];
 
 /// The settings that `next` can change.
@@ -405,6 +414,15 @@ const CHANGES: &'static [OptionRow] = &[
         defaults: &[],
         help: "Maximum amount of one command, in cents, at least the largest of the books",
     },
+    OptionRow {
+        name: "base",
+        kind: Kind::Number,
+        required: false,
+        value_names: &["MS"],
+        defaults: &[],
+        help: "Earliest moment, in milliseconds; with --positions, after all time stamps of the \
+            books, 1 ms after the last one if not given",
+    },
 ];
 
 /// The fault that `explain` explains.
@@ -414,5 +432,5 @@ const EXPLAIN: &'static [OptionRow] = &[OptionRow {
     required: true,
     value_names: &["FAULT"],
     defaults: &[],
-    help: "Number of the fault, 1 to 29, or its name",
+    help: "Number of the fault, 1 to 30, or its name",
 }];

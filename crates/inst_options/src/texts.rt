@@ -56,7 +56,12 @@ free their places. Nothing is written to standard output, standard input isn't r
 unchanged.
 
 The settings are those of the first log, with what is given here in their place. A change that its books don't allow is
-refused, and no log is made.";
+refused, and no log is made.
+
+With --positions the second log begins a new chain. It has no history but one funding, or a few, for each participant
+with money, up to its position. All settings may change, banks with a position of 0 may leave, and openings count anew.
+No transfer may be pending. The base is after every time stamp of the first log's books, so none of its submissions can
+be taken again; references of fundings are free again.";
 
 /// The long description of `explain`.
 pub(crate) const EXPLAIN: &str = "\

@@ -78,6 +78,7 @@ module _ (changes : SettingChanges) (mode : Mode) (s : HubSettings) (journals al
   allowed_changed t opened is allows = record {
     mode = refl;
     settings = allows.settings;
+    base = allows.base;
     lawful = allows.lawful;
     codes = allows.codes;
     books = λ p. ap (λ l. books_of l p) is ∙ same_books t allows.codes allows.lawful.0.participants_most p;
@@ -89,6 +90,7 @@ module _ (changes : SettingChanges) (mode : Mode) (s : HubSettings) (journals al
   unallowed_unchanged none next is =
       let t : HubSettings = changed changes s in
       let lawful : IsSettings t × AreFormed changes = subst (λ u. IsSettings u × AreFormed changes) is.settings is.lawful in
+      let base : t.base ≡ s.base = ap (λ (u : HubSettings). u.base) (sym is.settings) ∙ is.base in
       let codes : IsPrefix s.codes t.codes = subst (λ (u : HubSettings). IsPrefix s.codes u.codes) is.settings is.codes in
       let can : CanOpenFrom t next.journals = subst (λ u. CanOpenFrom u next.journals) is.settings is.can in
       let few : participants t ≤ 256 = lawful.0.participants_most in
@@ -96,16 +98,4 @@ module _ (changes : SettingChanges) (mode : Mode) (s : HubSettings) (journals al
         one_each = length_taken (participants t) all (omega (arith, few, extended.most));
         same = λ p one. same_books t codes few p ∙ sym (is.books p);
       } in
-      none (record { settings = refl; lawful = lawful; codes = codes; can = can_open_from t (books_of next.journals) (take (participants t) all) can.books are })
-
--- nothing changes
-pub unchanged : (changes : SettingChanges) (mode : Mode) (s t : HubSettings) (journals : List History) → ((u : HubSettings) → changed changes u ≡ u) → AreFormed changes → t ≡ s → IsSettings s → CanOpenFrom s journals
-    → IsChanged changes (record { mode = mode; settings = s; journals = journals }) (record { mode = mode; settings = t; journals = journals })
-unchanged changes mode s t journals stay formed same lawful can = record {
-  mode = refl;
-  settings = same ∙ sym (stay s);
-  lawful = (subst IsSettings (sym same) lawful, formed);
-  codes = ([], append-nil s.codes ∙ ap (λ (u : HubSettings). u.codes) (sym same));
-  books = λ p. refl;
-  can = subst (λ u. CanOpenFrom u journals) (sym same) can;
-}
+      none (record { settings = refl; base = base; lawful = lawful; codes = codes; can = can_open_from t (books_of next.journals) (take (participants t) all) can.books are })

@@ -83,6 +83,7 @@ module _ (words : List (List ℕ)) (t : Streams) (old new : Files) where
   unanswered mode s None ending.NoInterleaving lawful whole chosen given is = absurd is
   unanswered mode s None ending.ScriptNotEmpty lawful whole chosen given is = absurd is
   unanswered mode s None (ending.Unfit option) lawful whole chosen given is = absurd is
+  unanswered mode s None ending.PendingTransfer lawful whole chosen given is = absurd is
   unanswered mode s (Some log) e lawful whole chosen given is =
       let run = kept_run mode s log in
       let asked : AskForAKeptRun words run = record { lawful = lawful; whole = whole; chosen = chosen; log = given } in
@@ -136,6 +137,7 @@ module _ (words : List (List ℕ)) (t : Streams) (old new : Files) where
   unexplained_err word (Err ending.NoInterleaving) asked still stay is = absurd is
   unexplained_err word (Err ending.ScriptNotEmpty) asked still stay is = absurd is
   unexplained_err word (Err (ending.Unfit option)) asked still stay is = absurd is
+  unexplained_err word (Err ending.PendingTransfer) asked still stay is = absurd is
 
   pub unchecked_err : {A : Type 0} (s : HubSettings) (r : Result A ExitReason) → IsSettings s → AreWhole words → AreChosen words Check s → Stay old new →
       IfErr r (IsUnchecked s t.left t.held t.held') → IfErr r (λ e. IsUndone words t old new (status_of_ending e))
@@ -149,3 +151,4 @@ module _ (words : List (List ℕ)) (t : Streams) (old new : Files) where
   unchecked_err s (Err ending.NoInterleaving) lawful whole chosen stay is = absurd is
   unchecked_err s (Err ending.ScriptNotEmpty) lawful whole chosen stay is = absurd is
   unchecked_err s (Err (ending.Unfit option)) lawful whole chosen stay is = absurd is
+  unchecked_err s (Err ending.PendingTransfer) lawful whole chosen stay is = absurd is

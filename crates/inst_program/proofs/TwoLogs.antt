@@ -4,7 +4,7 @@ use Rattle.inst_chain.specs.declared.digest.Digest.{Digest}
 use Rattle.inst_logged.specs.Refused.{IsLogTaken}
 use Rattle.inst_logged.specs.declared.version.Version.TheVariants.{Two}
 use Rattle.inst_program.specs.Files.{AllButTwoStay, Change, Files, IfKept, IsAsItWas, IsUntouched, change_of}
-use Rattle.inst_program.specs.Keeping.{AsksFor, Carries, CarriesBooks, HasNoOpeningLeft, IsBegun, IsChanged, IsGoodToClose, IsSafe, IsSparedLog, IsUncarried, NextAsked, NextHub, SparesBoth, lines_of_next}
+use Rattle.inst_program.specs.Keeping.{AsksFor, Carries, CarriesBooks, HasNoOpeningLeft, HasNoSuccessor, IsBegun, IsGoodToClose, IsSafe, IsSparedLog, IsSuccessor, IsUncarried, NextAsked, NextHub, SparesBoth, lines_of_next}
 use Rattle.inst_program.specs.Keeping.IsUncarried.{Bad, InUse, Last, Other, Unfit}
 use Rattle.inst_program.specs.inner.Carrying.{IsLogUnbegun, IsLogUnclosed}
 use Rattle.inst_program.specs.inner.Visiting.{IsSameChange, IsVisited}
@@ -68,7 +68,7 @@ module _ (asked : NextAsked) (apart : asked.from ≢ asked.to) (mixes : Type 0) 
     closed_so_far : IfKept b (CarriesBooks asked.digest old.mixes closed (change_of old b asked.from))
     closed_so_far is = carries_books (change_of a b asked.from) (change_of old b asked.from) (first_change is) asked.digest mixes old.mixes closed more (books is)
 
-    pub unfit : ((next : NextHub) → ¬ (IsChanged asked.changes closed next)) → IsUncarried asked old b
+    pub unfit : HasNoSuccessor asked.positions asked.changes closed → IsUncarried asked old b
     unfit none = Unfit closed closed_so_far none
 
     pub only_closed : SparesBoth asked.from asked.to old b
@@ -97,14 +97,14 @@ module _ (asked : NextAsked) (apart : asked.from ≢ asked.to) (mixes : Type 0) 
         let before = to_so_far (second.clean is) in
         record { was = sym before.same; now = refl; could = before.crash; may = λ file may. may }
 
-    module _ (closed : NextHub) (books : IfKept b (CarriesBooks asked.digest mixes closed (change_of a b asked.from))) (next : NextHub) (changed : IsChanged asked.changes closed next) where
+    module _ (closed : NextHub) (books : IfKept b (CarriesBooks asked.digest mixes closed (change_of a b asked.from))) (next : NextHub) (follows : IsSuccessor asked.positions asked.changes closed next) where
       carried : IfKept c (CarriesBooks asked.digest old.mixes closed (change_of old c asked.from))
       carried is = carries_books (change_of a b asked.from) (change_of old c asked.from) (from_change is) asked.digest mixes old.mixes closed more (books (second.clean is))
 
       -- why the second isn't begun
       pub uncarried_second : IsLogUnbegun (c.in_use asked.to) (IsTrue c.is_clean) (lines_of_next next) (b.bytes asked.to) → IsUncarried asked old c
       uncarried_second (inl used) = InUse (inr used)
-      uncarried_second (inr other) = Other closed next carried changed (λ is taken.
+      uncarried_second (inr other) = Other closed next carried follows (λ is taken.
           other is (subst (IsLogTaken Two (lines_of_next next) None None) (sym (to_so_far (second.clean is)).same) taken))
 
       pub carries : IfKept c (IsBegun (lines_of_next next) (change_of b c asked.to)) → Carries asked old c
@@ -113,7 +113,7 @@ module _ (asked : NextAsked) (apart : asked.from ≢ asked.to) (mixes : Type 0) 
         closed = closed;
         carries = carried;
         next = next;
-        changed = changed;
+        follows = follows;
         begun = λ is. begun (change_of b c asked.to) (change_of old c asked.to) (to_change is) (lines_of_next next) (begins is);
         others = third;
       }

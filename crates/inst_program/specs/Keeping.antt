@@ -2,7 +2,8 @@
 -- (`faith`): it had the bytes stated, and no wrong answer of it was taken as true. A choice of this
 -- hub.
 use Rattle.std.specs.Prelude.{◌≡◌, ◌≢◌, ◌⊎◌, ◌-◌, ◌<◌, ◌^◌, ◌++◌, ◌∷◌, [], ℕ, Bool, true, List}
-use Rattle.std.specs.Prelude.{length, Option, None, Some, option_map, unwrap_or, IsTrue, codes}
+use Rattle.std.specs.Prelude.{false, length, Option, None, Some, IfSome, option_map, unwrap_or}
+use Rattle.std.specs.Prelude.{IsTrue, codes}
 use Rattle.std.specs.Fmt.{decimal}
 use Rattle.std.specs.Str.Lossy.{utf8_lossy}
 use Rattle.std.specs.Io.KnownBytes.{Appends, IsAtEnd}
@@ -12,6 +13,7 @@ use Rattle.inst_settings.specs.Settings.{HubSettings}
 use Rattle.inst_settings.specs.Lawful.{IsSettings}
 use Rattle.inst_journal.specs.History.{History}
 use Rattle.inst_world.specs.NextOpening.{CanOpenFrom, books_of}
+use Rattle.inst_books.specs.Positions.{CarriesPositions, IsBaseAfter}
 use Rattle.inst_lines.specs.Answering.{HubPast, new_past}
 use Rattle.inst_lines.specs.declared.mode.Mode.{Mode}
 use Rattle.inst_log.specs.Layout.{recovered_lines}
@@ -264,15 +266,44 @@ pub record NextHub : Type 0 where
 abbrev pub lines_of_next : NextHub → List ℕ
 lines_of_next hub = header_from Two hub.mode hub.settings hub.journals
 
--- The second hub opens where the first one would, after these changes of its settings. Each
--- participant has its number and its history; who joins has none.
+-- The second hub opens where the first one would, after these changes of its settings, which leave
+-- the base. Each participant has its number and its history; who joins has none.
 pub record IsChanged (changes : SettingChanges) (old new : NextHub) : Type 0 where
   pub mode : new.mode ≡ old.mode
   pub settings : new.settings ≡ changed changes old.settings
+  pub base : new.settings.base ≡ old.settings.base
   pub lawful : IsSettings new.settings × AreFormed changes
   pub codes : IsPrefix old.settings.codes new.settings.codes
   pub books : (p : ℕ) → books_of new.journals p ≡ books_of old.journals p
   pub can : CanOpenFrom new.settings new.journals
+
+-- The new settings are the old ones with these changes. Their base is the one that is given, if any,
+-- and it is after every time stamp of these books.
+pub record AreRenewed (changes : SettingChanges) (old : HubSettings) (journals : List History)
+    (new : HubSettings) : Type 0 where
+  pub settings : new ≡ changed (record changes { base = Some new.base }) old
+  pub given : IfSome changes.base (λ base. new.base ≡ base)
+  pub after : IsBaseAfter old.base journals new.base
+  pub lawful : IsSettings new × AreFormed changes
+
+-- The second hub begins a new chain under these changes of the settings of the first one. No
+-- transfer is pending, each code has the position that it had, and there is no other history.
+pub record IsRenewed (changes : SettingChanges) (old new : NextHub) : Type 0 where
+  pub mode : new.mode ≡ old.mode
+  pub settings : AreRenewed changes old.settings old.journals new.settings
+  pub positions : CarriesPositions old.settings old.journals new.settings new.journals
+  pub can : CanOpenFrom new.settings new.journals
+
+-- The second hub follows the first one: in a new chain, if this is asked for, or else with its
+-- books.
+abbrev pub IsSuccessor : Bool → SettingChanges → NextHub → NextHub → Type 0
+IsSuccessor false changes old new = IsChanged changes old new
+IsSuccessor true changes old new = IsRenewed changes old new
+
+-- No hub follows with the books under these changes. Why no new chain can begin is only tested.
+abbrev pub HasNoSuccessor : Bool → SettingChanges → NextHub → Type 0
+HasNoSuccessor false changes old = (new : NextHub) → ¬ (IsChanged changes old new)
+HasNoSuccessor true changes old = Unit {0}
 
 -- The hub of this log was closed after all of its lines, which are the same; `next` is what it would
 -- open from. The log's marks were right, if it has any, and it had the digest that was asked for.
@@ -310,12 +341,13 @@ pub record HasNoOpeningLeft (file : List ℕ) : Type 0 where
   pub log : IsLogOfAHub wanted file
   pub none : ¬ (HaveOpeningsLeft log.mode log.past (lines_after_settings log.first file))
 
--- What `next` is asked for: the two logs, the digest that the first one must contain, and the
--- settings that change.
+-- What `next` is asked for: the two logs, the digest that the first one must contain, if a new chain
+-- begins, and the settings that change.
 pub record NextAsked : Type 0 where
   pub from : List ℕ
   pub to : List ℕ
   pub digest : Option (List ℕ)
+  pub positions : Bool
   pub changes : SettingChanges
 
 -- What these options ask for.
@@ -324,18 +356,19 @@ next_asked next = record {
   from = next.from.now;
   to = next.to.now;
   digest = option_map (λ d. d.now) next.digest;
+  positions = next.positions;
   changes = next.changes;
 }
 
--- The second log begins with the books of the hub of the first log, whose lines are the same, under
--- the settings of the first log with the changes.
+-- The second log begins with the books of the hub of the first log, whose lines are the same, or
+-- with its positions alone, under the settings of the first log with the changes.
 pub record Carries (asked : NextAsked) (old new : Files) : Type 0 where
   pub apart : asked.from ≢ asked.to
   pub closed : NextHub
   pub carries : IfKept new
       (CarriesBooks asked.digest old.mixes closed (change_of old new asked.from))
   pub next : NextHub
-  pub changed : IsChanged asked.changes closed next
+  pub follows : IsSuccessor asked.positions asked.changes closed next
   pub begun : IfKept new (IsBegun (lines_of_next next) (change_of old new asked.to))
   pub others : AllButTwoStay old new asked.from asked.to
 
@@ -346,7 +379,7 @@ pub record SparesBoth (from to : List ℕ) (old new : Files) : Type 0 where
   pub others : AllButTwoStay old new from to
 
 -- Why `next` is refused: the names are the same, another program may have a log open, the first log
--- can't be closed or has no opening left, its books don't allow the changes, or the second is
+-- can't be closed or has no opening left, its books don't allow what is asked for, or the second is
 -- another log.
 pub data IsUncarried (asked : NextAsked) (old new : Files) : Type 0 where
   Same : asked.from ≡ asked.to → IsUncarried asked old new
@@ -356,9 +389,9 @@ pub data IsUncarried (asked : NextAsked) (old new : Files) : Type 0 where
   Last : IfKept new (HasNoOpeningLeft (old.bytes asked.from)) → IsUncarried asked old new
   Unfit : (closed : NextHub) →
       IfKept new (CarriesBooks asked.digest old.mixes closed (change_of old new asked.from)) →
-      ((next : NextHub) → ¬ (IsChanged asked.changes closed next)) → IsUncarried asked old new
+      HasNoSuccessor asked.positions asked.changes closed → IsUncarried asked old new
   Other : (closed next : NextHub) →
       IfKept new (CarriesBooks asked.digest old.mixes closed (change_of old new asked.from)) →
-      IsChanged asked.changes closed next →
+      IsSuccessor asked.positions asked.changes closed next →
       IfKept new (¬ (IsLogTaken Two (lines_of_next next) None None (old.bytes asked.to)))
       → IsUncarried asked old new

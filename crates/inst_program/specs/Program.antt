@@ -178,7 +178,8 @@ HasShown words t old new =
 
 -- The words ask for a log with the books of another.
 abbrev pub AskForNext : List (List ℕ) → NextAsked → Type 0
-AskForNext words asked = AskForTheNext words asked.from asked.to asked.digest asked.changes
+AskForNext words asked =
+    AskForTheNext words asked.from asked.to asked.digest asked.positions asked.changes
 
 -- The words ask for a log with the books of another, and it was made.
 abbrev pub HasCarried : List (List ℕ) → Files → Files → Type 0

@@ -21,6 +21,7 @@ use crate::changing::{Closed, Opening, change};
 use crate::exit_reason::{ExitReason, ending_of, or_ending, told_ending};
 use crate::keeping::wanted_of;
 use crate::logs::Logs;
+use crate::renewing::renew;
 use inst_base::Fault;
 use inst_chain::Digest;
 use inst_journal::Journal;
@@ -33,8 +34,8 @@ use sqlite_disk::Disk;
 use std::alloc::Global;
 use std::io::Write;
 
-/// Closes the hub of the first log and makes the second log, which begins with its books, under the
-/// settings that change. A second log that begins so already keeps its lines. If the first log is
+/// Closes the hub of the first log and makes the second log, which begins with its books, or with
+/// its positions alone, under the settings that change. A second log that begins so already keeps its lines. If the first log is
 /// damaged, prints on `errors` how far it is right.
 pub(crate) fn next<L: Logs, E: Write>(
     logs: &mut L,
@@ -55,6 +56,7 @@ pub(crate) fn next<L: Logs, E: Write>(
         from,
         to,
         digest,
+        positions,
         changes,
     } = task;
     if !logs.has(from)? {
@@ -65,7 +67,11 @@ pub(crate) fn next<L: Logs, E: Write>(
         return Err(ExitReason::Log(LogFault::LogInUse));
     }
     let closed = close(logs, alloc, from, wanted, errors)?;
-    let next = change(alloc, closed, &changes)?;
+    let next = if positions {
+        renew(alloc, closed, &changes, errors)?
+    } else {
+        change(alloc, closed, &changes)?
+    };
     begin(logs, alloc, &next, to)
 }
 

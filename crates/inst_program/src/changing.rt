@@ -1,4 +1,4 @@
-//! Changing the settings of a hub that opens next.
+//! Changing the settings of a hub that opens next from the same books.
 ghost use Rattle.std.specs.Prelude.{◌≡◌, ◌≤◌, None, length, IfErr, IfOk, IfSome};
 ghost use Rattle.inst_settings.specs.declared.ranges.TheConstants.{MOST_PARTICIPANTS};
 ghost use Rattle.inst_world.specs.HasRun.{world_settings};
@@ -56,7 +56,7 @@ pub(crate) fn change(
         runner,
         journals,
     } = closed;
-    if changes.are_none() {
+    if changes.is_empty() {
         let settings = runner.settings().copy()?;
         return Ok(Opening {
             mode,
@@ -113,6 +113,9 @@ fn allowed(
         Err(Fault::Memory) => return Err(AllocError),
         Err(_) => return Ok(None),
     };
+    if next.base() != settings.base() {
+        return Ok(None);
+    }
     if !next.codes().starts_with(settings.codes()) {
         return Ok(None);
     }
@@ -131,8 +134,8 @@ fn unfit_option(
 ) -> Result<&'static str, AllocError>
     requires { length journals.now ≡ MOST_PARTICIPANTS }
 {
-    let singles = changes.singles();
-    for (name, change) in &singles {
+    let changes = changes.each_alone();
+    for (name, change) in &changes {
         if allowed(alloc, settings, change, journals)?.is_none() {
             return Ok(*name);
         }

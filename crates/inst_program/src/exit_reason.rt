@@ -28,6 +28,8 @@ pub(crate) enum ExitReason {
     ScriptNotEmpty,
     /// The books of a log don't allow the change that the option of this name asks for.
     Unfit(&'static str),
+    /// A new chain can't begin while a transfer is pending.
+    PendingTransfer,
 }
 
 impl From<Fault> for ExitReason {

@@ -10,6 +10,7 @@ mod exit_reason;
 mod keeping;
 mod laws;
 mod logs;
+mod renewing;
 pub mod rows;
 mod showing;
 mod summary;

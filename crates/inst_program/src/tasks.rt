@@ -166,7 +166,7 @@ fn tell_ending<E: Write>(ending: ExitReason, errors: &mut E) -> u8
         ExitReason::Unexplained => {
             let _ = writeln!(
                 errors,
-                "error: no fault has this number or name; the numbers are 1 to 29"
+                "error: no fault has this number or name; the numbers are 1 to 30"
             );
             2
         }
@@ -183,11 +183,19 @@ fn tell_ending<E: Write>(ending: ExitReason, errors: &mut E) -> u8
             status
         }
         ExitReason::NoInterleaving => {
-            let fault = AnyFault::NoInterleaving;
-            let _ = writeln!(errors, "fault {} {}", fault.number(), fault.name());
+            tell_fault(AnyFault::NoInterleaving, errors);
             3
         }
+        ExitReason::PendingTransfer => {
+            tell_fault(AnyFault::PendingTransfer, errors);
+            2
+        }
     }
+}
+
+/// Prints the line of a fault.
+fn tell_fault<E: Write>(fault: AnyFault, errors: &mut E) {
+    let _ = writeln!(errors, "fault {} {}", fault.number(), fault.name());
 }
 
 /// Prints the line of a fault, and returns its exit status.

@@ -50,6 +50,7 @@ IsWish name rows (wish.Next next) =
     (same_text name (codes "next") ≡ true) × IsText (codes "log") rows next.from.now
     × IsText (codes "to") rows next.to.now
     × GivesDigest rows (option_map (λ d. d.now) next.digest)
+    × IsFlag (codes "positions") rows next.positions
     × GivesChanges rows next.changes
 IsWish name rows (wish.Explain word) =
     (same_text name (codes "explain") ≡ true) × IsText (codes "fault") rows word.now

@@ -36,6 +36,7 @@ pub record AreExtended (journals all : List History) : Type 0 where
 pub record Allows (changes : SettingChanges) (s : HubSettings) (all : List History)
     (t : HubSettings) : Type 0 where
   pub settings : t ≡ changed changes s
+  pub base : t.base ≡ s.base
   pub lawful : IsSettings t × AreFormed changes
   pub codes : IsPrefix s.codes t.codes
   pub can : CanOpenFrom t (take (participants t) all)

@@ -105,7 +105,7 @@ nothing_given rows name = one_of name rows ≡ None
 gives_nothing : (rows : List Row) (name : List ℕ) → nothing_given rows name → GivesOrNot rows name None
 gives_nothing rows name none n gives = absurd (none_some gives.0 (sym none ∙ gives.1))
 
-carried : AskForTheNext next_words (codes "hub.log") (codes "next.log") None no_changes
+carried : AskForTheNext next_words (codes "hub.log") (codes "next.log") None false no_changes
 unfolding clap_on_literals
 carried = (
   refl,
@@ -117,6 +117,7 @@ carried = (
     (λ given at. some_one (codes "hub.log") given at),
     (λ given at. some_one (codes "next.log") given at),
     (refl, tt),
+    ((λ e. absurd (false_true e)), (λ _. refl)),
     record {
       participants = refl;
       places = gives_nothing (rows_in next_words) (codes "places") refl;
@@ -125,6 +126,7 @@ carried = (
       margin = gives_nothing (rows_in next_words) (codes "margin") refl;
       ahead = gives_nothing (rows_in next_words) (codes "ahead") refl;
       ceiling = gives_nothing (rows_in next_words) (codes "ceiling") refl;
+      base = gives_nothing (rows_in next_words) (codes "base") refl;
     },
   ),
 )
@@ -134,7 +136,7 @@ wider_next_words =
     codes "inst_main" ∷ codes "next" ∷ codes "--log" ∷ codes "hub.log" ∷ codes "--to" ∷ codes "next.log"
     ∷ codes "--places" ∷ codes "1024" ∷ []
 
-with_places : AskForTheNext wider_next_words (codes "hub.log") (codes "next.log") None (record no_changes { places = Some 1024 })
+with_places : AskForTheNext wider_next_words (codes "hub.log") (codes "next.log") None false (record no_changes { places = Some 1024 })
 unfolding clap_on_literals
 with_places = (
   refl,
@@ -146,6 +148,7 @@ with_places = (
     (λ given at. some_one (codes "hub.log") given at),
     (λ given at. some_one (codes "next.log") given at),
     (refl, tt),
+    ((λ e. absurd (false_true e)), (λ _. refl)),
     record {
       participants = refl;
       places = (codes "1024", refl, search rules, refl);
@@ -154,6 +157,7 @@ with_places = (
       margin = gives_nothing (rows_in wider_next_words) (codes "margin") refl;
       ahead = gives_nothing (rows_in wider_next_words) (codes "ahead") refl;
       ceiling = gives_nothing (rows_in wider_next_words) (codes "ceiling") refl;
+      base = gives_nothing (rows_in wider_next_words) (codes "base") refl;
     },
   ),
 )
@@ -163,7 +167,7 @@ known_next_words =
     codes "inst_main" ∷ codes "next" ∷ codes "--log" ∷ codes "hub.log" ∷ codes "--to" ∷ codes "next.log"
     ∷ codes "--digest" ∷ empty_digest ∷ []
 
-known_carried : AskForTheNext known_next_words (codes "hub.log") (codes "next.log") (Some empty_digest) no_changes
+known_carried : AskForTheNext known_next_words (codes "hub.log") (codes "next.log") (Some empty_digest) false no_changes
 unfolding clap_on_literals
 known_carried = (
   refl,
@@ -175,6 +179,7 @@ known_carried = (
     (λ given at. some_one (codes "hub.log") given at),
     (λ given at. some_one (codes "next.log") given at),
     (refl, refl),
+    ((λ e. absurd (false_true e)), (λ _. refl)),
     record {
       participants = refl;
       places = gives_nothing (rows_in known_next_words) (codes "places") refl;
@@ -183,6 +188,38 @@ known_carried = (
       margin = gives_nothing (rows_in known_next_words) (codes "margin") refl;
       ahead = gives_nothing (rows_in known_next_words) (codes "ahead") refl;
       ceiling = gives_nothing (rows_in known_next_words) (codes "ceiling") refl;
+      base = gives_nothing (rows_in known_next_words) (codes "base") refl;
+    },
+  ),
+)
+
+abbrev new_chain_words : List (List ℕ)
+new_chain_words =
+    codes "inst_main" ∷ codes "next" ∷ codes "--log" ∷ codes "hub.log" ∷ codes "--to" ∷ codes "next.log"
+    ∷ codes "--positions" ∷ []
+
+with_positions : AskForTheNext new_chain_words (codes "hub.log") (codes "next.log") None true no_changes
+unfolding clap_on_literals
+with_positions = (
+  refl,
+  (
+    codes "next",
+    rows_in new_chain_words,
+    refl,
+    refl,
+    (λ given at. some_one (codes "hub.log") given at),
+    (λ given at. some_one (codes "next.log") given at),
+    (refl, tt),
+    ((λ _. refl), (λ other. ⊎_elim (λ e. absurd (none_some (codes "true") (sym e))) (λ e. absurd (false_true (sym e))) other)),
+    record {
+      participants = refl;
+      places = gives_nothing (rows_in new_chain_words) (codes "places") refl;
+      fundings = gives_nothing (rows_in new_chain_words) (codes "fundings") refl;
+      limit = gives_nothing (rows_in new_chain_words) (codes "limit") refl;
+      margin = gives_nothing (rows_in new_chain_words) (codes "margin") refl;
+      ahead = gives_nothing (rows_in new_chain_words) (codes "ahead") refl;
+      ceiling = gives_nothing (rows_in new_chain_words) (codes "ceiling") refl;
+      base = gives_nothing (rows_in new_chain_words) (codes "base") refl;
     },
   ),
 )
@@ -201,6 +238,7 @@ row = record {
   carried = carried;
   known_carried = known_carried;
   with_places = with_places;
+  with_positions = with_positions;
 }
 
 pub returns : goal.returns
