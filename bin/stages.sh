@@ -48,6 +48,14 @@ finish() {
     return "$status"
 }
 
+live_years() {
+    if command -v python3 > /dev/null; then
+        bin/years
+    else
+        echo "years: no python3 here, so no hub lives for days"
+    fi
+}
+
 check_documents() {
     if command -v python3 > /dev/null; then
         bin/check_schema && bin/check_believed && bin/check_pages && bin/check_documents && bin/pictures --check

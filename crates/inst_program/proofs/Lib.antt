@@ -14,3 +14,4 @@ pub mod RefusedWords
 pub mod OutcomeOfTask
 pub mod ChangesByExitStatus
 pub mod BooksUnderChanges
+pub mod BaseOfNewChain

@@ -8,8 +8,9 @@ ghost use Rattle.inst_logged.specs.Header.{header_from};
 ghost use Rattle.inst_log.specs.Disks.{HasKeptFaith, IsJustOpened, IsOnlyRead};
 ghost use Rattle.inst_logged.specs.declared.version.Version.TheVariants.{Two};
 ghost use Rattle.inst_program.specs.Files.{AllAreIn, IfKept, change_of, change_on};
-ghost use Rattle.inst_program.specs.Keeping.{AsksFor, Carries, CarriesBooks, IsBegun, IsSafe};
-ghost use Rattle.inst_program.specs.Keeping.{IsUncarried, SparesBoth, lines_of_next, next_asked};
+ghost use Rattle.inst_program.specs.Keeping.{AsksFor, Carries, CarriesBooks, HasNoSuccessor, IsBegun};
+ghost use Rattle.inst_program.specs.Keeping.{IsSafe, IsSuccessor, IsUncarried, SparesBoth};
+ghost use Rattle.inst_program.specs.Keeping.{lines_of_next, next_asked};
 ghost use Rattle.inst_program.specs.inner.Changing.{hub_closed, hub_opening};
 ghost use Rattle.inst_program.specs.inner.Carrying.{IsHubClosed, IsReadAsLog, IsLogUnbegun};
 ghost use Rattle.inst_program.specs.inner.Carrying.{IsLogUnclosed};
@@ -28,7 +29,7 @@ use inst_journal::Journal;
 use inst_lines::Mode;
 use inst_log::read_lines;
 use inst_logged::{LogHeader, LoggedError, NewHub, Version, read_beginning};
-use inst_options::{LogFault, NextOptions};
+use inst_options::{LogFault, NextOptions, SettingChanges};
 use inst_settings::Settings;
 use sqlite_disk::Disk;
 use std::alloc::Global;
@@ -67,12 +68,30 @@ pub(crate) fn next<L: Logs, E: Write>(
         return Err(ExitReason::Log(LogFault::LogInUse));
     }
     let closed = close(logs, alloc, from, wanted, errors)?;
-    let next = if positions {
-        renew(alloc, closed, &changes, errors)?
-    } else {
-        change(alloc, closed, &changes)?
-    };
+    let next = succeed(alloc, closed, positions, &changes, errors)?;
     begin(logs, alloc, &next, to)
+}
+
+/// Returns what the next hub opens from: a new chain's if only positions are carried, or else the
+/// same books.
+fn succeed<E: Write>(
+    alloc: Global,
+    closed: Closed,
+    positions: bool,
+    changes: &SettingChanges<'_>,
+    errors: &mut E,
+) -> Result<Opening, ExitReason>
+    requires can { CanOpenFrom (world_settings closed.runner.world) closed.journals.items }
+    ensures follows { IfOk result (λ next.
+        IsSuccessor positions changes.now (hub_closed closed) (hub_opening next)) }
+    ensures unfit { IfErr result (λ ending. status_of_ending ending ≡ 2 →
+        HasNoSuccessor positions changes.now (hub_closed closed)) }
+{
+    if positions {
+        renew(alloc, closed, changes, errors)
+    } else {
+        change(alloc, closed, changes)
+    }
 }
 
 /// Closes the hub of the log of this name.

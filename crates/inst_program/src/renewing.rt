@@ -106,7 +106,7 @@ fn uncarried<E: Write>(
             tell_pending(alloc, settings, who, journals, errors)?;
             Ok(ExitReason::PendingTransfer)
         }
-        CarryFault::Leaver(_) => Ok(ExitReason::Unfit("participants")),
+        CarryFault::Leaver => Ok(ExitReason::Unfit("participants")),
         CarryFault::TooLarge => Ok(ExitReason::Unfit("fundings")),
         CarryFault::Memory => Ok(ExitReason::Fault(Fault::Memory)),
     }

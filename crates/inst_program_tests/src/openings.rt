@@ -1,6 +1,6 @@
 //! A run writes a log, the task `log` shows it, and the task `next` makes the log of the next
 //! opening.
-use crate::memory_logs::MemoryLogs;
+use crate::memory_logs::{MemoryLogs, Which};
 use crate::scene::{LINES, NEXT, REPLIES, RUN, run_to};
 use std::test::Fail;
 
@@ -69,4 +69,64 @@ fn the_next_log_has_other_settings(rt: HostRuntime) -> Result<(), Fail> {
     run_to(&rt, &mut logs, NEXT_WIDER, b"", (0, b"", b""))?;
     let wanted = (0, WIDER_REPLIES, b"".as_slice());
     run_to(&rt, &mut logs, RUN_WIDER, WIDER_LINES, wanted)
+}
+
+/// A new chain under other settings: one bank leaves, another joins, and the limit is shorter.
+const NEW_CHAIN: &str =
+    "next --log a --to b --positions --participants DDDDNL2A,BBBBFRPP,AAAADEFF --limit 500 \
+    --base 3000";
+
+/// A run of its first log.
+const RUN_CHAIN: &str =
+    "run --participants DDDDNL2A,BBBBFRPP,AAAADEFF --limit 500 --base 3000 --log b --resume";
+
+/// The old submission and its confirmation, sent again, then a new submission with the same
+/// identifier.
+const CHAIN_LINES: &[u8] = b"{\"at\":3000,\"cmd\":\"position\",\"who\":\"AAAADEFF\"}\n\
+    {\"at\":3000,\"cmd\":\"position\",\"who\":\"BBBBFRPP\"}\n\
+    {\"at\":3000,\"cmd\":\"position\",\"who\":\"DDDDNL2A\"}\n\
+    {\"at\":3000,\"cents\":20000,\"cmd\":\"submit\",\"id\":\"T1\",\"stamp\":1000,\"to\":\"BBBBFRPP\",\
+    \"who\":\"AAAADEFF\"}\n\
+    {\"at\":3000,\"cmd\":\"confirm\",\"from\":\"AAAADEFF\",\"id\":\"T1\",\"who\":\"BBBBFRPP\"}\n\
+    {\"at\":3000,\"cents\":20000,\"cmd\":\"submit\",\"id\":\"T1\",\"stamp\":3000,\"to\":\"BBBBFRPP\",\
+    \"who\":\"AAAADEFF\"}\n";
+
+const CHAIN_REPLIES: &[u8] =
+    b"{\"available\":30000,\"position\":30000,\"reply\":\"position\",\"reserved\":0}\n\
+    {\"available\":20000,\"position\":20000,\"reply\":\"position\",\"reserved\":0}\n\
+    {\"available\":0,\"position\":0,\"reply\":\"position\",\"reserved\":0}\n\
+    {\"fault\":\"BadMoment\",\"number\":5,\"reply\":\"refused\"}\n\
+    {\"fault\":\"UnknownTransfer\",\"number\":8,\"reply\":\"refused\"}\n\
+    {\"deadline\":3500,\"id\":\"T1\",\"reply\":\"taken\"}\n";
+
+#[test]
+fn a_new_chain_has_the_positions_alone(rt: HostRuntime) -> Result<(), Fail> {
+    let mut logs = MemoryLogs::new(rt.alloc());
+    run_to(&rt, &mut logs, RUN, LINES, (0, REPLIES, b""))?;
+    run_to(&rt, &mut logs, NEW_CHAIN, b"", (0, b"", b""))?;
+    let wanted = (0, CHAIN_REPLIES, b"".as_slice());
+    run_to(&rt, &mut logs, RUN_CHAIN, CHAIN_LINES, wanted)
+}
+
+/// A new chain whose first fundings are as many as an opening has, each of the ceiling.
+const FULL_CHAIN: &str = "next --log a --to b --positions --ceiling 10000 --fundings 3";
+
+/// The first lines of its log: the base is 1 ms after the time stamp of the books.
+const FULL_LOG: &[u8] =
+    b"{\"ahead\":1000,\"base\":1001,\"books\":5,\"ceiling\":10000,\"fundings\":3,\"limit\":10000,\
+    \"log\":\"run\",\"margin\":0,\"participants\":[\"AAAADEFF\",\"BBBBFRPP\",\"CCCCITMM\"],\
+    \"places\":256,\"version\":2}\n\
+    {\"book\":\"AAAADEFF\",\"cents\":10000,\"event\":\"funded\",\"ref\":\"CARRY 1\"}\n\
+    {\"book\":\"AAAADEFF\",\"cents\":10000,\"event\":\"funded\",\"ref\":\"CARRY 2\"}\n\
+    {\"book\":\"AAAADEFF\",\"cents\":10000,\"event\":\"funded\",\"ref\":\"CARRY 3\"}\n\
+    {\"book\":\"BBBBFRPP\",\"cents\":10000,\"event\":\"funded\",\"ref\":\"CARRY 1\"}\n\
+    {\"book\":\"BBBBFRPP\",\"cents\":10000,\"event\":\"funded\",\"ref\":\"CARRY 2\"}\n";
+
+#[test]
+fn a_position_takes_all_fundings_of_an_opening(rt: HostRuntime) -> Result<(), Fail> {
+    let mut logs = MemoryLogs::new(rt.alloc());
+    run_to(&rt, &mut logs, RUN, LINES, (0, REPLIES, b""))?;
+    run_to(&rt, &mut logs, FULL_CHAIN, b"", (0, b"", b""))?;
+    assert!(rt; logs.bytes(Which::Second).starts_with(FULL_LOG));
+    Ok(())
 }

@@ -81,7 +81,37 @@ const UNFIT: &'static [(&'static str, &'static str)] = &[
     ("--margin 10000", "margin"),
     ("--margin 10 --ceiling 19999", "ceiling"),
     ("--limit 100 --margin 50 --places 2", "limit"),
+    ("--base 1", "base"),
+    ("--positions --base 1000", "base"),
+    ("--positions --base 4611686018427387905", "base"),
+    ("--positions --participants AAAADEFF,CCCCITMM", "participants"),
+    ("--positions --places 0", "places"),
+    ("--positions --limit 100 --margin 100", "margin"),
+    ("--positions --ceiling 9999 --fundings 3", "fundings"),
+    ("--positions --ceiling 10000 --fundings 2", "fundings"),
 ];
+
+/// The lines of a transfer that stays pending.
+const PENDING: &[u8] =
+    b"{\"at\":0,\"cents\":50000,\"cmd\":\"fund\",\"ref\":\"F1\",\"who\":\"AAAADEFF\"}\n\
+    {\"at\":1000,\"cents\":20000,\"cmd\":\"submit\",\"id\":\"T1\",\"stamp\":1000,\"to\":\"BBBBFRPP\",\
+    \"who\":\"AAAADEFF\"}\n";
+
+#[test]
+fn a_pending_transfer_is_not_carried_into_a_new_chain(rt: HostRuntime) -> Result<(), Fail> {
+    let mut logs = MemoryLogs::new(rt.alloc());
+    let replies = b"{\"ref\":\"F1\",\"reply\":\"done\"}\n\
+        {\"deadline\":11000,\"id\":\"T1\",\"reply\":\"taken\"}\n";
+    run_to(&rt, &mut logs, RUN, PENDING, (0, replies, b""))?;
+    let log = logs.bytes(Which::First).to_vec(rt.alloc())?;
+    let words = format!(in rt.alloc(); "{NEXT} --positions")?;
+    let errors = b"the transfer 'T1' of AAAADEFF is pending; its deadline is 11000\n\
+        fault 30 PendingTransfer\n";
+    run_to(&rt, &mut logs, &words, b"", (2, b"", errors))?;
+    assert_eq!(rt; logs.bytes(Which::First), log.as_slice());
+    assert!(rt; !logs.is_made(Which::Second));
+    Ok(())
+}
 
 #[test]
 fn a_change_that_the_books_do_not_allow_is_named(rt: HostRuntime) -> Result<(), Fail> {

@@ -32,7 +32,7 @@ returns-clause-ok g c =
     let asked = next_asked c.args.task in
     on_ok_weaker c.begin.result (λ is.
     carries asked apart _ _ _ _ (g.met.L.Logs.mixing c.args.logs.now) c.has.ensures.untouched c.close.ensures.visited _ c.begin.ensures.visited (hub_closed c.in_ok-closed.closed)
-    (λ kept. c.in_ok-closed.ensures.ok kept asked.digest c.in_ok-wanted.ensures) (hub_opening c.in_ok-next.next) c.in_ok-next.ensures.changed is) c.begin.ensures.ok
+    (λ kept. c.in_ok-closed.ensures.ok kept asked.digest c.in_ok-wanted.ensures) (hub_opening c.in_ok-next.next) c.in_ok-next.ensures.follows is) c.begin.ensures.ok
 
 pub returns-clause-err : goal.returns-clause-err
 returns-clause-err g c =
@@ -40,7 +40,7 @@ returns-clause-err g c =
     let asked = next_asked c.args.task in
     on_err_weaker c.begin.result (λ is.
     not_begun asked apart _ _ _ _ (g.met.L.Logs.mixing c.args.logs.now) c.has.ensures.untouched c.close.ensures.visited _ c.begin.ensures.visited (hub_closed c.in_ok-closed.closed)
-    (λ kept. c.in_ok-closed.ensures.ok kept asked.digest c.in_ok-wanted.ensures) (hub_opening c.in_ok-next.next) c.in_ok-next.ensures.changed is) c.begin.ensures.err
+    (λ kept. c.in_ok-closed.ensures.ok kept asked.digest c.in_ok-wanted.ensures) (hub_opening c.in_ok-next.next) c.in_ok-next.ensures.follows is) c.begin.ensures.err
 
 pub returns-in_err-has-clause-refused : goal.returns-in_err-has-clause-refused
 returns-in_err-has-clause-refused g c =
@@ -79,4 +79,4 @@ returns-clause-refused g c =
     let asked = next_asked c.args.task in
     IfErr-weaker c.begin.result _ _ (λ e is two.
     uncarried_second asked apart _ _ _ _ (g.met.L.Logs.mixing c.args.logs.now) c.has.ensures.untouched c.close.ensures.visited _ c.begin.ensures.visited (hub_closed c.in_ok-closed.closed)
-    (λ kept. c.in_ok-closed.ensures.ok kept asked.digest c.in_ok-wanted.ensures) (hub_opening c.in_ok-next.next) c.in_ok-next.ensures.changed (is two)) c.begin.ensures.refused
+    (λ kept. c.in_ok-closed.ensures.ok kept asked.digest c.in_ok-wanted.ensures) (hub_opening c.in_ok-next.next) c.in_ok-next.ensures.follows (is two)) c.begin.ensures.refused

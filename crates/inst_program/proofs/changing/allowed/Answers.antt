@@ -24,6 +24,7 @@ returns-clause-allows c =
     let P : HubSettings → Type 0 = Allows c.args.changes.now c.args.settings.now journals in
     subst (λ o. IfSome o P) (sym c.then_some.ensures) (some_if c.in_ok-can.can next P (λ can. record {
       settings = c.in-Ok.ensures.settings;
+      base = sym c.base.ensures.value ∙ c.if-base.false ∙ c.base-2.ensures.value;
       lawful = c.in-Ok.ensures.lawful;
       codes = begins_so bytes_eq bytes_eq-Decides next.codes c.args.settings.now.codes (sym begins ∙ c.if-not-starts_with.false);
       can = subst (λ n. CanOpenFrom next (take n journals)) count (c.in_ok-can.ensures.can.0 can);

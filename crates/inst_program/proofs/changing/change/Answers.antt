@@ -1,4 +1,4 @@
-use Rattle.std.proofs.Common.{◌≡◌, ◌∙◌, ap, subst, IfSome, Some, take}
+use Rattle.std.proofs.Common.{◌∙◌, ap, subst, IfSome, Some, take}
 use Rattle.inst_settings.specs.Settings.{HubSettings}
 use Rattle.inst_world.specs.HasRun.{world_settings}
 use Rattle.inst_program.specs.inner.Changing.{Allows}

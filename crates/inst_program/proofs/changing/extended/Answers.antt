@@ -1,4 +1,4 @@
-use Rattle.std.proofs.Common.{◌++◌, ◌∷◌, [], length, length-append, List, arith, ap, sym, ◌∙◌, refl}
+use Rattle.std.proofs.Common.{◌∷◌, [], length, length-append, List, arith, ap, sym, ◌∙◌, refl}
 use Rattle.inst_journal.specs.History.{History}
 use Rattle.inst_world.specs.NextOpening.{books_of}
 use Rattle.inst_program.proofs.BooksUnderChanges.{joined_same}
