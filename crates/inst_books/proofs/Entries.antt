@@ -15,7 +15,7 @@ use Rattle.inst_command.specs.declared.outcome.Outcome.{Outcome}
 use Rattle.inst_command.specs.declared.outcome.Outcome.TheVariants.{Accepted, Rejected, TimedOut}
 use Rattle.inst_journal.specs.declared.event.Event.{Event}
 use Rattle.inst_journal.specs.declared.event.Event.TheVariants.{Funded, Defunded, Taken, Forwarded, Booked, Fetched, Opened}
-use Rattle.inst_json.specs.LineFields.{text, whole}
+use Rattle.inst_json.specs.LineFields.{text, whole, fields_of}
 use Rattle.inst_json.specs.Fields.{code_in, reason_in, count_in}
 use Rattle.inst_books.specs.Events.{event_data, outcome_data, event_can_be_written}
 use Rattle.inst_books.specs.Reading.{identifier_in, amount_in, moment_in, participant_in, outcome_in, funded_in, defunded_in, taken_in, forwarded_in, booked_in, fetched_in, entry_in}
@@ -54,7 +54,7 @@ count_again count h = ap (λ b. if b then Ok count else Err BadField) h
 
 -- ---- the events
 
-outcome_again : (book from id : List ℕ) (outcome : Outcome) → outcome_has_form outcome ≡ true → outcome_in (outcome_data book from id outcome) ≡ Ok outcome
+outcome_again : (book from id : List ℕ) (outcome : Outcome) → outcome_has_form outcome ≡ true → outcome_in (fields_of (outcome_data book from id outcome)) ≡ Ok outcome
 unfolding outcome_in
 outcome_again book from id Accepted h = refl
 outcome_again book from id (Rejected reason) h = rw (reason_again reason h) refl
@@ -64,7 +64,7 @@ module _ (s : HubSettings) (who : ℕ) (lawful : IsSettings s) (all : list_all i
   at_book : participant_in s (text (code_numbered s who)) ≡ Ok who
   at_book = participant_again s who lawful all known
 
-  pub entry_again : (event : Event) → event_can_be_written s event ≡ true → event_has_form event ≡ true → entry_in s (event_data s who event) ≡ Ok (who, event)
+  pub entry_again : (event : Event) → event_can_be_written s event ≡ true → event_has_form event ≡ true → entry_in s (fields_of (event_data s who event)) ≡ Ok (who, event)
   unfolding entry_in funded_in defunded_in taken_in forwarded_in booked_in fetched_in
   entry_again (Funded funding) writable form =
       let parts = and_parts (is_identifier funding.reference) (is_amount funding.cents) form in

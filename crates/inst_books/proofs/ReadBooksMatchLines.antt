@@ -1,17 +1,16 @@
 -- What is read of a text is what its lines say.
-use Rattle.std.proofs.Common.{◌≡◌, inl, inr, ℕ, zero, suc, ◌==◌, ◌<◌, Bool, true, false, nat_lt, List, [], ◌∷◌, ◌++◌, length, get_or, Result, Ok, Err, IsOkAnd, Option, Some, None, ok_or, lt-ltb, codes, refl, sym, ap, ◌∙◌, subst, arith, append_assoc, append-nil, length-append, if◌then◌else◌}
+use Rattle.std.proofs.Common.{◌≡◌, inl, inr, ℕ, zero, suc, ◌==◌, ◌<◌, Bool, true, false, nat_lt, List, [], ◌∷◌, ◌++◌, length, get_or, Result, Ok, Err, IsOkAnd, Option, Some, None, ok_or, lt-ltb, refl, sym, ap, ◌∙◌, subst, arith, append_assoc, append-nil, length-append, if◌then◌else◌}
 use Rattle.std.specs.Prelude.{flat_map}
 use Rattle.std.proofs.lemmas.Bool.{cases_eq, eq-eqb, ne_eqb, eqb-true}
 use Rattle.std.proofs.lemmas.Bool.Decides.{nat_tests}
 use Rattle.std.proofs.lemmas.List.{length-replicate, get_or-replicate}
 use Rattle.std.proofs.lemmas.List.Quantifiers.{position-Some}
-use Rattle.serde_json.specs.Data.{Data}
 use Rattle.inst_base.specs.declared.fault.Fault.{Fault}
 use Rattle.inst_base.specs.declared.fault.Fault.TheVariants.{UnknownParticipant}
 use Rattle.inst_settings.specs.Codes.{index_of}
 use Rattle.inst_settings.specs.Settings.{same_text, HubSettings, participants, is_participant}
 use Rattle.inst_journal.specs.declared.event.Event.{Event}
-use Rattle.inst_json.specs.LineFields.{FoundValue}
+use Rattle.inst_json.specs.LineFields.{FoundValue, LineFields, fields_of}
 use Rattle.inst_json.specs.Refusals.{◌>>=◌}
 use Rattle.inst_json.specs.Fields.{text_in, code_in}
 use Rattle.inst_json.specs.Checks.{participant_of}
@@ -20,7 +19,7 @@ use Rattle.inst_log.specs.Layout.{recovered_lines, blocks, AreWholeLines}
 use Rattle.inst_log.proofs.Lines.{parts}
 use Rattle.inst_books.specs.declared.fault.BookFault.{BookFault}
 use Rattle.inst_books.specs.declared.fault.BookFault.TheVariants.{BadLine}
-use Rattle.inst_books.specs.Reading.{Entry, field, participant_in, event_named, entry_in, entry_of_line, or_bad_line, event_of_line}
+use Rattle.inst_books.specs.Reading.{Entry, participant_in, event_named, entry_in, entry_of_line, or_bad_line, event_of_line}
 use Rattle.inst_books.specs.Books.{books_with_event, go_on, with_lines, no_books, books_of_text}
 use Rattle.inst_books.specs.Laws.{said_of, EachSaysAnEvent, TellsTheBooks}
 
@@ -83,26 +82,26 @@ module _ (s : HubSettings) where
   abbrev of_event : ℕ → Event → Result Entry Fault
   of_event who event = Ok (who, event)
 
-  abbrev of_name : Data → ℕ → List ℕ → Result Entry Fault
+  abbrev of_name : LineFields → ℕ → List ℕ → Result Entry Fault
   of_name line who name = event_named s line name >>= of_event who
 
-  abbrev of_book : Data → ℕ → Result Entry Fault
-  of_book line who = text_in (field line (codes "event")) >>= of_name line who
+  abbrev of_book : LineFields → ℕ → Result Entry Fault
+  of_book line who = text_in line.event >>= of_name line who
 
-  entry_there : (line : Data) (entry : Entry) → entry_in s line ≡ Ok entry → is_participant s entry.0 ≡ true
+  entry_there : (line : LineFields) (entry : Entry) → entry_in s line ≡ Ok entry → is_participant s entry.0 ≡ true
   unfolding entry_in
   entry_there line entry is =
-      let (who, in_book, rest) = bound (participant_in s (field line (codes "book"))) (of_book line) entry is in
-      let (name, in_event, named) = bound (text_in (field line (codes "event"))) (of_name line who) entry rest in
+      let (who, in_book, rest) = bound (participant_in s line.book) (of_book line) entry is in
+      let (name, in_event, named) = bound (text_in line.event) (of_name line who) entry rest in
       let (event, in_line, says) = bound (event_named s line name) (of_event who) entry named in
       let same : who ≡ entry.0 = ap (λ (r : Result Entry Fault). (entry_or entry r).0) says in
-      ap (is_participant s) (sym same) ∙ participant_there (field line (codes "book")) who in_book
+      ap (is_participant s) (sym same) ∙ participant_there line.book who in_book
 
   pub line_there : (line : List ℕ) (entry : Entry) → event_of_line s line ≡ Ok entry → is_participant s entry.0 ≡ true
   unfolding entry_of_line
   line_there line entry is =
-      let (value, is_json, has) = bound (json_of line) (entry_in s) entry (no_bad_line (entry_of_line s line) entry is) in
-      entry_there value entry has
+      let (value, is_json, has) = bound (json_of line) (λ d. entry_in s (fields_of d)) entry (no_bad_line (entry_of_line s line) entry is) in
+      entry_there (fields_of value) entry has
 
 -- ---- all lines
 

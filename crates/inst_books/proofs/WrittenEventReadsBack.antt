@@ -18,6 +18,7 @@ use Rattle.inst_command.specs.Ask.{is_count}
 use Rattle.inst_command.specs.declared.outcome.Outcome.TheVariants.{Accepted, Rejected, TimedOut}
 use Rattle.inst_journal.specs.declared.event.Event.{Event}
 use Rattle.inst_journal.specs.declared.event.Event.TheVariants.{Funded, Defunded, Taken, Forwarded, Booked, Fetched, Opened}
+use Rattle.inst_json.specs.LineFields.{fields_of}
 use Rattle.inst_json.specs.Refusals.{◌>>=◌}
 use Rattle.inst_json.proofs.LineAsJson.{json_of-value}
 use Rattle.inst_json.proofs.ReplyReadsBack.{ReadsBack, from_parts}
@@ -92,7 +93,7 @@ line_reads_back s who event h =
     let line : List ℕ = event_line s who event in
     let back : read line ≡ Some (event_data s who event) = from_parts (event_data s who event) (data_reads s who h.settings.base_most event h.writable h.form) in
     let value = json_of-value line (event_data s who event) (utf8 line (line_printable s who h.codes h.book event h.writable h.form)) back in
-    ap (λ r. or_bad_line (r >>= entry_in s)) (sym value) ∙ ap or_bad_line (entry_again s who h.settings h.codes h.book event h.writable h.form)
+    ap (λ r. or_bad_line (r >>= (λ d. entry_in s (fields_of d)))) (sym value) ∙ ap or_bad_line (entry_again s who h.settings h.codes h.book event h.writable h.form)
 
 quiet_byte : (x : ℕ) → is_printable x ≡ true → x ≡ 10 → ⊥
 quiet_byte x h is = grind (arith, nat_tests)

@@ -1,8 +1,6 @@
 -- The event of a line. A line is a JSON object; its book, its event and the event's members are
 -- found by name, in any order, and other names are ignored. A choice of this hub.
 use Rattle.std.specs.Prelude.{◌≡◌, ◌⊎◌, ℕ, List, Result, Ok, Err, codes, if◌then◌else◌}
-use Rattle.serde_json.specs.Data.{Data}
-use Rattle.serde_json.specs.Find.{get}
 use Rattle.inst_base.specs.Cents.{cents_of}
 use Rattle.inst_base.specs.Moment.{moment_of}
 use Rattle.inst_base.specs.Text.{identifier_of}
@@ -14,17 +12,13 @@ use Rattle.inst_command.specs.declared.outcome.Outcome.TheVariants.{Accepted, Re
 use Rattle.inst_journal.specs.declared.event.Event.{Event}
 use Rattle.inst_journal.specs.declared.event.Event.TheVariants.{Funded, Defunded, Taken, Forwarded}
 use Rattle.inst_journal.specs.declared.event.Event.TheVariants.{Booked, Fetched, Opened}
-use Rattle.inst_json.specs.LineFields.{FoundValue, value_found}
+use Rattle.inst_json.specs.LineFields.{FoundValue, LineFields, fields_of}
 use Rattle.inst_json.specs.Refusals.{◌>>=◌}
 use Rattle.inst_json.specs.Fields.{text_in, whole_in, code_in, reason_in, count_in}
 use Rattle.inst_json.specs.Checks.{participant_of}
 use Rattle.inst_json.specs.Lines.{json_of}
 use Rattle.inst_books.specs.declared.fault.BookFault.{BookFault}
 use Rattle.inst_books.specs.declared.fault.BookFault.TheVariants.{BadLine, Memory}
-
--- The value of a line under a name.
-abbrev pub field : Data → List ℕ → FoundValue
-field line name = value_found (get name line)
 
 -- An identifier.
 unfoldable pub identifier_in : FoundValue → Result (List ℕ) Fault
@@ -43,66 +37,66 @@ unfoldable pub participant_in : HubSettings → FoundValue → Result ℕ Fault
 participant_in s field = code_in field >>= participant_of s
 
 -- The outcome of a transfer.
-abbrev pub outcome_named : Data → List ℕ → Result Outcome Fault
+abbrev pub outcome_named : LineFields → List ℕ → Result Outcome Fault
 outcome_named line name =
     if same_text name (codes "accepted") then Ok Accepted else
     (if same_text name (codes "timed_out") then Ok TimedOut else
     (if same_text name (codes "rejected") then
-    (reason_in (field line (codes "reason")) >>= λ reason. Ok (Rejected reason))
+    (reason_in line.reason >>= λ reason. Ok (Rejected reason))
     else Err BadField))
 
 -- The outcome of a line.
-unfoldable pub outcome_in : Data → Result Outcome Fault
-outcome_in line = text_in (field line (codes "outcome")) >>= outcome_named line
+unfoldable pub outcome_in : LineFields → Result Outcome Fault
+outcome_in line = text_in line.outcome >>= outcome_named line
 
 -- A funding.
-unfoldable pub funded_in : Data → Result Event Fault
+unfoldable pub funded_in : LineFields → Result Event Fault
 funded_in line = do
-  reference ← identifier_in (field line (codes "ref"))
-  cents ← amount_in (field line (codes "cents"))
+  reference ← identifier_in line.reference
+  cents ← amount_in line.cents
   Ok (Funded (record { reference = reference; cents = cents }))
 
 -- A defunding.
-unfoldable pub defunded_in : Data → Result Event Fault
+unfoldable pub defunded_in : LineFields → Result Event Fault
 defunded_in line = do
-  reference ← identifier_in (field line (codes "ref"))
-  cents ← amount_in (field line (codes "cents"))
+  reference ← identifier_in line.reference
+  cents ← amount_in line.cents
   Ok (Defunded (record { reference = reference; cents = cents }))
 
 -- A taken submission.
-unfoldable pub taken_in : HubSettings → Data → Result Event Fault
+unfoldable pub taken_in : HubSettings → LineFields → Result Event Fault
 taken_in s line = do
-  id ← identifier_in (field line (codes "id"))
-  to ← participant_in s (field line (codes "to"))
-  cents ← amount_in (field line (codes "cents"))
-  stamp ← moment_in s (field line (codes "stamp"))
+  id ← identifier_in line.id
+  to ← participant_in s line.to
+  cents ← amount_in line.cents
+  stamp ← moment_in s line.stamp
   Ok (Taken id to cents stamp)
 
 -- A forwarded transfer.
-unfoldable pub forwarded_in : HubSettings → Data → Result Event Fault
+unfoldable pub forwarded_in : HubSettings → LineFields → Result Event Fault
 forwarded_in s line = do
-  from ← participant_in s (field line (codes "from"))
-  id ← identifier_in (field line (codes "id"))
-  cents ← amount_in (field line (codes "cents"))
-  deadline ← moment_in s (field line (codes "deadline"))
+  from ← participant_in s line.from
+  id ← identifier_in line.id
+  cents ← amount_in line.cents
+  deadline ← moment_in s line.deadline
   Ok (Forwarded from id cents deadline)
 
 -- A booked outcome.
-unfoldable pub booked_in : HubSettings → Data → Result Event Fault
+unfoldable pub booked_in : HubSettings → LineFields → Result Event Fault
 booked_in s line = do
-  from ← participant_in s (field line (codes "from"))
-  id ← identifier_in (field line (codes "id"))
+  from ← participant_in s line.from
+  id ← identifier_in line.id
   outcome ← outcome_in line
   Ok (Booked from id outcome)
 
 -- A fetch.
-unfoldable pub fetched_in : Data → Result Event Fault
+unfoldable pub fetched_in : LineFields → Result Event Fault
 fetched_in line = do
-  count ← count_in (field line (codes "count"))
+  count ← count_in line.count
   Ok (Fetched count)
 
 -- The event of this name.
-abbrev pub event_named : HubSettings → Data → List ℕ → Result Event Fault
+abbrev pub event_named : HubSettings → LineFields → List ℕ → Result Event Fault
 event_named s line name =
     if same_text name (codes "funded") then funded_in line else
     (if same_text name (codes "defunded") then defunded_in line else
@@ -116,17 +110,19 @@ event_named s line name =
 abbrev pub Entry : Type 0
 Entry = ℕ × Event
 
--- The event of a line's object.
-unfoldable pub entry_in : HubSettings → Data → Result Entry Fault
+-- The event of a line's fields.
+unfoldable pub entry_in : HubSettings → LineFields → Result Entry Fault
 entry_in s line = do
-  who ← participant_in s (field line (codes "book"))
-  name ← text_in (field line (codes "event"))
+  who ← participant_in s line.book
+  name ← text_in line.event
   event ← event_named s line name
   Ok (who, event)
 
 -- The event of a line and its participant, or the fault of the line.
 unfoldable pub entry_of_line : HubSettings → List ℕ → Result Entry Fault
-entry_of_line s line = json_of line >>= entry_in s
+entry_of_line s line = do
+  value ← json_of line
+  entry_in s (fields_of value)
 
 -- Any fault of a line makes it a bad line.
 abbrev pub or_bad_line : {X : Type 0} → Result X Fault → Result X BookFault

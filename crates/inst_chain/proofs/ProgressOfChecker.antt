@@ -6,6 +6,10 @@ use Rattle.inst_log.specs.Layout.{recovered_lines, blocks}
 use Rattle.inst_log.proofs.Lines.{blocks-append}
 use Rattle.inst_chain.specs.Chain.{is_mark, mark_of, front_of, chained_lines, HasNoMark, HaveNoMark, IsChain}
 use Rattle.inst_chain.specs.Checking.{Digests, Counts, EndsMarked, HasGoneThrough, IsWrongAt}
+use Rattle.sha2.specs.Hashers.{Holds256}
+use Rattle.sha2.specs.declared.Sha256.{Sha256}
+use Rattle.inst_chain.specs.Verifying.{SealedBy}
+use Rattle.inst_chain.specs.declared.marker.Marker.{Marker}
 use Rattle.inst_chain.specs.declared.prefix.Prefix.{Prefix}
 use Rattle.inst_chain.specs.declared.checker.Checker.{Checker}
 use Rattle.inst_chain.proofs.Digests.{mark_is_mark}
@@ -17,6 +21,25 @@ last_same lines before line m same = elim (where_it_is lines (line ∷ []) befor
   | inl found ↦ absurd (omega (arith, ap length found.then, length-append found.more (line ∷ [])))
   | inr found ↦ (alone line found.more m [] found.here).0
 ]
+
+-- the lines of a log whose marks and end are right
+pub sealed_stands : (new : Checker) (log : List ℕ) (marker : Marker) → SealedBy log marker → new.marker.hasher ≡ marker.hasher → new.sealed ≡ true → new.right ≡ new.came → Counts new.came (recovered_lines log)
+    → HasGoneThrough new (recovered_lines log)
+sealed_stands new log marker s same sealed all counts =
+    let older = s.sealed.chain.batches in
+    let split = s.sealed.chain.split in
+    record {
+      older = older;
+      part = [];
+      unmarked = s.sealed.chain.unmarked;
+      plain = tt;
+      split = split ∙ sym (append-nil (chained_lines older));
+      digests = subst (Digests new.marker) (sym (append-nil (front_of older))) (subst (λ (h : Sha256). Holds256 h (front_of older)) (sym same) s.digests);
+      whole = λ _. (refl, s.sealed.chain.some);
+      open_end = λ unsealed. absurd (cc (sealed, unsealed));
+      came = counts;
+      right = subst (λ (p : Prefix). Counts p (chained_lines older)) (sym all) (subst (Counts new.came) split counts);
+    }
 
 -- a line that is no mark
 pub plain_stands : (old new : Checker) (lines : Lines) (line : List ℕ) → is_mark line ≡ false → new.sealed ≡ false → new.right ≡ old.right

@@ -1,11 +1,13 @@
 //! Checking the lines of a log one after the other.
-ghost use Rattle.std.specs.Prelude.{◌≡◌, ◌++◌, [], ◌∷◌, List, ℕ, true, false, IfErr, OnOk};
+ghost use Rattle.std.specs.Prelude.{◌≡◌, ◌++◌, [], ◌∷◌, List, ℕ, true, false, IfErr, IfOk, OnOk};
 ghost use Rattle.inst_chain.specs.Chain.{is_mark, mark_of, front_of};
+ghost use Rattle.inst_chain.specs.Verifying.{SealedBy};
 ghost use Rattle.inst_log.specs.Layout.{recovered_lines, blocks};
 
 use crate::marker::{Marker, is_mark};
 use crate::prefix::Prefix;
 use inst_log::first_line;
+use std::alloc::AllocError;
 
 /// Checks the marks of a log's lines as they arrive.
 #[derive(Drop)]
@@ -31,6 +33,25 @@ impl Checker {
             came: Prefix::new(),
             right: Prefix::new(),
         }
+    }
+
+    /// Returns a checker after the lines of a log whose marks and end are right. `marker` makes the
+    /// log's next mark.
+    ///
+    /// # Errors
+    ///
+    /// [`AllocError`] if the marker can't be copied.
+    pub(crate) fn after(log: &[u8], marker: &Marker) -> Result<Checker, AllocError>
+        requires { SealedBy log.now marker.now }
+        ensures { IfOk result (λ checker. HasGoneThrough checker (recovered_lines log.now)) }
+    {
+        let all = Prefix::of(log);
+        Ok(Checker {
+            marker: marker.clone()?,
+            sealed: true,
+            came: all,
+            right: all,
+        })
     }
 
     /// Takes the next line, without its newline. Returns `false` if it is a wrong mark; drop the

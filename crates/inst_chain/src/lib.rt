@@ -18,4 +18,4 @@ pub use laws::{no_line_is_a_mark, one_digest_one_log};
 pub use marker::{MARK_LEN, Marker, has_digest, has_mark, is_mark, mark_lines};
 pub use prefix::Prefix;
 pub use summary::{Summary, summarize};
-pub use verifying::{Verified, verify};
+pub use verifying::{Verified, verify, verify_known};

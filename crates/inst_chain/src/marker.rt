@@ -17,7 +17,7 @@ use std::alloc::AllocError;
 pub const MARK_LEN: usize = DIGEST_LEN + 3;
 
 /// Makes the marks of a log.
-#[derive(Drop)]
+#[derive(Clone, Drop)]
 pub struct Marker {
     hasher: Sha256,
 }

@@ -1,5 +1,8 @@
 //! A prefix of a log's lines, by its length.
 ghost use Rattle.std.specs.Prelude.{◌≡◌, ◌++◌, [], ◌∷◌, List, ℕ};
+ghost use Rattle.inst_log.specs.Layout.{recovered_lines};
+
+use inst_log::{count_lines, whole_lines};
 
 /// The length of a prefix of a log's lines.
 #[derive(Clone, Copy, Debug, PartialEq, Eq)]
@@ -18,6 +21,16 @@ impl Prefix {
         ensures { Counts result [] }
     {
         Prefix { lines: 0, bytes: 0 }
+    }
+
+    /// Returns the prefix that is all lines of a log.
+    pub(crate) fn of(log: &[u8]) -> Prefix
+        ensures { Counts result (recovered_lines log.now) }
+    {
+        Prefix {
+            lines: count_lines(log) as u64,
+            bytes: whole_lines(log).len() as u64,
+        }
     }
 
     /// Adds one line, given without its newline.

@@ -47,7 +47,7 @@ broken_value ts old ls fields k is none (p, n, ms, may, behind, enough, so_far, 
     no_members ts (punctuate p old) n ms so_far (members_fail (value 126) n k (punctuate p old) (punctuate fresh ls) (ap read_key split) none)
 
 pub broken_behind : {Behind : Type 0} (ts : List Token) (old ls : List Lexeme) (fields : List Field) (k : List ℕ) (t : Token) (d : Data) (field : Field)
-    → old ≡ token (tok.string k) ∷ colon ∷ token t ∷ ls → IsScalar t d → NoComma ls → length fields ≡ 15 → data_of field ≡ Some d
+    → old ≡ token (tok.string k) ∷ colon ∷ token t ∷ ls → IsScalar t d → NoComma ls → length fields ≡ 19 → data_of field ≡ Some d
     → Reading Behind ts old fields → whole (value 127 ts) ≡ None
 broken_behind ts old ls fields k t d field is scalar none len seen reading =
     let left = member_read_on ts old ls fields k t d field is scalar none.0 len seen reading in
@@ -86,7 +86,7 @@ something_left comma ls j = comma_left ls j
 something_left colon ls j = refl
 
 pub broken_end : {Behind : Type 0} (ts : List Token) (old : List Lexeme) (l : Lexeme) (ls : List Lexeme) (fields : List Field) (k : List ℕ) (t : Token) (d : Data) (field : Field)
-    → old ≡ token (tok.string k) ∷ colon ∷ token t ∷ token tok.end_object ∷ l ∷ ls → IsScalar t d → length fields ≡ 15 → data_of field ≡ Some d
+    → old ≡ token (tok.string k) ∷ colon ∷ token t ∷ token tok.end_object ∷ l ∷ ls → IsScalar t d → length fields ≡ 19 → data_of field ≡ Some d
     → Reading Behind ts old fields → whole (value 127 ts) ≡ None
 unfolding punctuate
 broken_end ts old l ls fields k t d field is scalar len seen reading =

@@ -38,7 +38,7 @@ IsScalar-number s n e = record {
 
 -- ---- names
 
-pub place_of-name : (i : ℕ) → i < 15 → name_index (get_or names i []) ≡ i
+pub place_of-name : (i : ℕ) → i < 19 → name_index (get_or names i []) ≡ i
 place_of-name zero h = refl
 place_of-name (suc zero) h = refl
 place_of-name (suc (suc zero)) h = refl
@@ -54,7 +54,11 @@ place_of-name (suc (suc (suc (suc (suc (suc (suc (suc (suc (suc (suc zero)))))))
 place_of-name (suc (suc (suc (suc (suc (suc (suc (suc (suc (suc (suc (suc zero)))))))))))) h = refl
 place_of-name (suc (suc (suc (suc (suc (suc (suc (suc (suc (suc (suc (suc (suc zero))))))))))))) h = refl
 place_of-name (suc (suc (suc (suc (suc (suc (suc (suc (suc (suc (suc (suc (suc (suc zero)))))))))))))) h = refl
-place_of-name (suc (suc (suc (suc (suc (suc (suc (suc (suc (suc (suc (suc (suc (suc (suc i))))))))))))))) h = absurd (omega arith)
+place_of-name (suc (suc (suc (suc (suc (suc (suc (suc (suc (suc (suc (suc (suc (suc (suc zero))))))))))))))) h = refl
+place_of-name (suc (suc (suc (suc (suc (suc (suc (suc (suc (suc (suc (suc (suc (suc (suc (suc zero)))))))))))))))) h = refl
+place_of-name (suc (suc (suc (suc (suc (suc (suc (suc (suc (suc (suc (suc (suc (suc (suc (suc (suc zero))))))))))))))))) h = refl
+place_of-name (suc (suc (suc (suc (suc (suc (suc (suc (suc (suc (suc (suc (suc (suc (suc (suc (suc (suc zero)))))))))))))))))) h = refl
+place_of-name (suc (suc (suc (suc (suc (suc (suc (suc (suc (suc (suc (suc (suc (suc (suc (suc (suc (suc (suc i))))))))))))))))))) h = absurd (omega arith)
 
 found_from : (p : List ℕ → Bool) (x : List ℕ) (xs : List (List ℕ)) (b : Bool) → p x ≡ b → cond (not b) (1 + position_or_len p xs) 0 < suc (length xs)
     → (position_or_len p xs < length xs → p (get_or xs (position_or_len p xs) []) ≡ true) → p (get_or (x ∷ xs) (cond (not b) (1 + position_or_len p xs) 0) []) ≡ true
@@ -69,13 +73,13 @@ found_at p (x ∷ xs) h = found_from p x xs (p x) refl h (found_at p xs)
 
 -- ---- the fields after one more member
 
-pub tells_put : (fields : List Field) (ms : Members) (k : List ℕ) (d : Data) (field : Field) → length fields ≡ 15 → data_of field ≡ Some d → TellsMembers fields ms
+pub tells_put : (fields : List Field) (ms : Members) (k : List ℕ) (d : Data) (field : Field) → length fields ≡ 19 → data_of field ≡ Some d → TellsMembers fields ms
     → TellsMembers (set fields (name_index k) field) (put k d ms)
 tells_put fields ms k d field len is tells i h = by_place (cases_eq i (name_index k))
   where
     by_place : (i ≡ name_index k) ⊎ (i ≡ name_index k → ⊥) → get_member (get_or names i []) (put k d ms) ≡ data_of (get_or (set fields (name_index k) field) i Missing)
     by_place (inl e) =
-        let at : name_index k < 15 = omega (arith, e) in
+        let at : name_index k < 19 = omega (arith, e) in
         let same_name : k ≡ get_or names i [] = (bytes_eq-Decides k _).0 (found_at (bytes_eq k) names at) ∙ ap (λ j. get_or names j []) (sym e) in
         ap (λ q. get_member q (put k d ms)) (sym same_name) ∙ get_member-put k d ms ∙ sym is
         ∙ ap data_of (sym (ap (λ j. get_or (set fields (name_index k) field) j Missing) e ∙ get_or-set_same fields (name_index k) field Missing (omega arith)))
@@ -120,13 +124,13 @@ reading_begins ts ls fields is none first =
       λ behind. absurd (first behind),
       omega arith,
       ap (λ vs. converted of_json (value 127 vs)) is ∙ ap (converted of_json) (value-begin_object 127 us (omega arith)) ∙ converted-object (members (value 126) (length us) us),
-      λ i h. ap data_of (sym (ap (λ fs. get_or fs i Missing) none ∙ none_at i 15)),
+      λ i h. ap data_of (sym (ap (λ fs. get_or fs i Missing) none ∙ none_at i 19)),
     )
 
 -- one member, behind which ls are left
 module _ (ts : List Token) (old ls : List Lexeme) (fields : List Field) (k : List ℕ) (t : Token) (d : Data) (field : Field)
     (is : old ≡ token (tok.string k) ∷ colon ∷ token t ∷ ls) (scalar : IsScalar t d) (no_colon : begins_colon ls ≡ false)
-    (len : length fields ≡ 15) (seen : data_of field ≡ Some d) where
+    (len : length fields ≡ 19) (seen : data_of field ≡ Some d) where
   -- the members so far, and those that are left
   abbrev pub Left : Type 0
   Left = (n : ℕ) × (ms : Members) × (length (punctuate after_value ls) ≤ n)
@@ -147,7 +151,7 @@ module _ (ts : List Token) (old ls : List Lexeme) (fields : List Field) (k : Lis
       )
 
 pub reading_goes_on : {Before Behind : Type 0} (ts : List Token) (old ls : List Lexeme) (fields : List Field) (k : List ℕ) (t : Token) (d : Data) (field : Field)
-    → old ≡ token (tok.string k) ∷ colon ∷ token t ∷ comma ∷ ls → IsScalar t d → length fields ≡ 15 → data_of field ≡ Some d
+    → old ≡ token (tok.string k) ∷ colon ∷ token t ∷ comma ∷ ls → IsScalar t d → length fields ≡ 19 → data_of field ≡ Some d
     → Reading Before ts old fields → Reading Behind ts ls (set fields (name_index k) field)
 unfolding punctuate
 reading_goes_on ts old ls fields k t d field is scalar len seen reading =
@@ -155,7 +159,7 @@ reading_goes_on ts old ls fields k t d field is scalar len seen reading =
     (after_comma, left.0, left.1, refl, λ behind. refl, left.2, left.3, left.4)
 
 pub reading_ends : {Behind : Type 0} (ts : List Token) (old : List Lexeme) (fields : List Field) (k : List ℕ) (t : Token) (d : Data) (field : Field)
-    → old ≡ token (tok.string k) ∷ colon ∷ token t ∷ token tok.end_object ∷ [] → IsScalar t d → length fields ≡ 15 → data_of field ≡ Some d
+    → old ≡ token (tok.string k) ∷ colon ∷ token t ∷ token tok.end_object ∷ [] → IsScalar t d → length fields ≡ 19 → data_of field ≡ Some d
     → Reading Behind ts old fields → (e : Data) × (whole (value 127 ts) ≡ Some e) × TellsObject (set fields (name_index k) field) e
 unfolding punctuate
 reading_ends ts old fields k t d field is scalar len seen reading =

@@ -31,6 +31,10 @@ pub record LineFields : Type 0 where
   pub count : FoundValue
   pub step : FoundValue
   pub place : FoundValue
+  pub book : FoundValue
+  pub event : FoundValue
+  pub deadline : FoundValue
+  pub outcome : FoundValue
 
 -- A text if there is one, else a whole number, else something else.
 abbrev pub text_or_whole : Option (List ℕ) → Option ℕ → FoundValue
@@ -61,6 +65,10 @@ fields_of d = record {
   count = value_found (get (codes "count") d);
   step = value_found (get (codes "step") d);
   place = value_found (get (codes "place") d);
+  book = value_found (get (codes "book") d);
+  event = value_found (get (codes "event") d);
+  deadline = value_found (get (codes "deadline") d);
+  outcome = value_found (get (codes "outcome") d);
 }
 
 -- The value of a scanned field.
@@ -88,6 +96,10 @@ fields_told line = record {
   count = field_value line.count;
   step = field_value line.step;
   place = field_value line.place;
+  book = field_value line.book;
+  event = field_value line.event;
+  deadline = field_value line.deadline;
+  outcome = field_value line.outcome;
 }
 
 -- The fields in the order of their names.
@@ -95,8 +107,9 @@ abbrev pub fields_in_order : Fields → List Field
 fields_in_order line =
     line.cmd ∷ line.who ∷ line.at ∷ line.reference ∷ line.id ∷ line.to ∷ line.from ∷ line.cents
     ∷ line.stamp
-    ∷ line.reason ∷ line.max ∷ line.skip ∷ line.count ∷ line.step ∷ line.place ∷ []
+    ∷ line.reason ∷ line.max ∷ line.skip ∷ line.count ∷ line.step ∷ line.place ∷ line.book
+    ∷ line.event ∷ line.deadline ∷ line.outcome ∷ []
 
 -- The fields of a line that has none.
 abbrev pub no_fields : List Field
-no_fields = replicate 15 field.Missing
+no_fields = replicate 19 field.Missing

@@ -21,7 +21,7 @@ mod verb;
 mod write;
 
 pub use checks::participant;
-pub use line::field_at;
+pub use line::{fields_of, scan_line};
 pub use name::Name;
 pub use read::{LineReader, read_command, read_step};
 pub use refusal::Refusal;

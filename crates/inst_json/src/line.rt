@@ -16,7 +16,7 @@ use serde_json::Value;
 ///
 /// Requires fields that are all missing.
 #[inline(always)]
-pub(crate) fn scan_line<'a>(line: &'a [u8], fields: &mut Fields<'a>) -> Form
+pub fn scan_line<'a>(line: &'a [u8], fields: &mut Fields<'a>) -> Form
     requires { fields_in_order fields.old ≡ no_fields }
     ensures plain { result ≡ Plain
         → (d : Data) × (json_of line.now ≡ Ok d) × (fields_told fields.new ≡ fields_of d) }
@@ -26,7 +26,7 @@ pub(crate) fn scan_line<'a>(line: &'a [u8], fields: &mut Fields<'a>) -> Form
 }
 
 /// Returns member `name` of `value`; `Field::Missing` if there is none or `value` isn't an object.
-pub fn field_at<'v>(value: &'v Value, name: &str) -> Field<'v>
+fn field_at<'v>(value: &'v Value, name: &str) -> Field<'v>
     ensures { field_value result ≡ value_found (get name.now (view value.now)) }
 {
     let Some(member) = value.get(name) else {
@@ -43,7 +43,7 @@ pub fn field_at<'v>(value: &'v Value, name: &str) -> Field<'v>
 
 /// Returns the fields of a JSON value that lines know.
 #[inline(never)]
-pub(crate) fn fields_of(value: &Value) -> Fields<'_>
+pub fn fields_of(value: &Value) -> Fields<'_>
     ensures { fields_told result ≡ fields_of (view value.now) }
 {
     Fields {
@@ -62,5 +62,9 @@ pub(crate) fn fields_of(value: &Value) -> Fields<'_>
         count: field_at(value, "count"),
         step: field_at(value, "step"),
         place: field_at(value, "place"),
+        book: field_at(value, "book"),
+        event: field_at(value, "event"),
+        deadline: field_at(value, "deadline"),
+        outcome: field_at(value, "outcome"),
     }
 }

@@ -107,21 +107,6 @@ module _ (version : Version) (s : HubSettings) (journals : List History) (text :
     pub all_found : length (recovered_lines (take end (take (length text - begin) (drop begin text)))) ≡ count
     all_found = ap (λ (l : List ℕ). length (recovered_lines l)) books_found ∙ ap length (lines_back books (all_lines (books_text s (all_events journals)))) ∙ sym counted
 
-    size : begin + end ≡ length (blocks (has.line ∷ books))
-    size = omega (arith, first, mid, length-append has.line (newline ∷ []), length-append has.line (newline ∷ blocks books))
-
-    whole : text ≡ blocks (has.line ∷ books) ++ blocks later
-    whole = has.whole ∙ ap blocks split ∙ blocks-append (has.line ∷ books) later
-
-    front : take (begin + end) text ≡ blocks (has.line ∷ books)
-    front = ap (take (begin + end)) whole ∙ ap (λ (n : ℕ). take n (blocks (has.line ∷ books) ++ blocks later)) size ∙ take-append_seam (blocks (has.line ∷ books)) (blocks later)
-
-    pub mark_behind : version ≡ Two → text ≡ take (begin + end) text ++ (mark_of (take (begin + end) text) ++ newline ∷ blocks has.rest)
-    mark_behind is =
-        whole
-        ∙ ap (λ (v : Version). blocks (has.line ∷ books) ++ blocks (marks v (has.line ∷ books) ++ has.rest)) is
-        ∙ ap (λ (l : List ℕ). l ++ (mark_of l ++ newline ∷ blocks has.rest)) (sym front)
-
 -- ---- journals with the same events
 
 same_books : (a b : List History) → all_events a ≡ all_events b → books_of a ≡ books_of b

@@ -174,7 +174,14 @@ impl<D: Disk + Drop> LoggedHub<D> {
         let alloc = *self.batch.allocator();
         let recorder = &mut self.recorder;
         let header = self.header.as_slice();
-        let found = examine(alloc, self.version, &mut recorder.log.disk, wanted)?;
+        let found = examine(
+            alloc,
+            self.version,
+            header,
+            &self.marker,
+            &mut recorder.log.disk,
+            wanted,
+        )?;
         let LogFindings { extent, marker } = found;
         let start = recorder.log.inspect(alloc, header, &extent)?;
         start_again(recorder, header, start, told, writer)?;

@@ -9,8 +9,8 @@ names =
     codes "cmd" ∷ codes "who" ∷ codes "at" ∷ codes "ref" ∷ codes "id" ∷ codes "to" ∷ codes "from"
     ∷ codes "cents"
     ∷ codes "stamp" ∷ codes "reason" ∷ codes "max" ∷ codes "skip" ∷ codes "count" ∷ codes "step"
-    ∷ codes "place" ∷ []
+    ∷ codes "place" ∷ codes "book" ∷ codes "event" ∷ codes "deadline" ∷ codes "outcome" ∷ []
 
--- The index of a name, or 15.
+-- The index of a name, or 19.
 abbrev pub name_index : List ℕ → ℕ
 name_index name = position_or_len (bytes_eq name) names

@@ -33,6 +33,10 @@ pub struct Fields<'a> {
     pub count: Field<'a>,
     pub step: Field<'a>,
     pub place: Field<'a>,
+    pub book: Field<'a>,
+    pub event: Field<'a>,
+    pub deadline: Field<'a>,
+    pub outcome: Field<'a>,
 }
 
 impl<'a> Fields<'a> {
@@ -57,6 +61,10 @@ impl<'a> Fields<'a> {
             count: Field::Missing,
             step: Field::Missing,
             place: Field::Missing,
+            book: Field::Missing,
+            event: Field::Missing,
+            deadline: Field::Missing,
+            outcome: Field::Missing,
         }
     }
 
@@ -82,6 +90,10 @@ impl<'a> Fields<'a> {
             "count" => self.count = field,
             "step" => self.step = field,
             "place" => self.place = field,
+            "book" => self.book = field,
+            "event" => self.event = field,
+            "deadline" => self.deadline = field,
+            "outcome" => self.outcome = field,
             _ => {}
         }
     }

@@ -1,10 +1,12 @@
 //! Examining a log before anything is written to it.
 ghost use Rattle.std.specs.Prelude.{IsTrue};
+ghost use Rattle.inst_log.specs.Layout.{IsBatch};
+ghost use Rattle.inst_logged.specs.Marking.{BeginsWithMarker, IsFirstMark};
 ghost use Rattle.inst_logged.specs.declared.version.Version.TheVariants as version;
 ghost use Rattle.inst_logged.specs.inner.Finding.{IsExamined};
 
 use crate::{LoggedError, Version};
-use inst_chain::{Digest, Marker, Verified, verify};
+use inst_chain::{Digest, Marker, Verified, verify_known};
 use inst_log::{Extent, survey};
 use sqlite_disk::Disk;
 use std::alloc::Global;
@@ -18,7 +20,8 @@ pub(crate) struct LogFindings {
     pub(crate) marker: Option<Marker>,
 }
 
-/// Reads the log on this disk and verifies its marks, if it has any.
+/// Reads the log on this disk and verifies its marks, if it has any. `header` and `marker` are the
+/// first lines that the log should have, as a batch, and the marker for what follows.
 ///
 /// # Errors
 ///
@@ -26,15 +29,19 @@ pub(crate) struct LogFindings {
 pub(crate) fn examine<D: Disk>(
     alloc: Global,
     version: Version,
+    header: &[u8],
+    marker: &Marker,
     disk: &mut D,
     wanted: Option<Digest>,
 ) -> Result<LogFindings, LoggedError>
     requires usable { IsTrue (D.Disk.is_usable disk.old) }
+    requires batch { IsBatch header.now }
+    requires begins { BeginsWithMarker version header.now marker.now }
     ensures { IsExamined D.Disk version wanted disk.old disk.new result }
 {
     match version {
         Version::One => examine_unmarked(alloc, disk, wanted),
-        Version::Two => examine_marked(alloc, disk, wanted),
+        Version::Two => examine_marked(alloc, header, marker, disk, wanted),
     }
 }
 
@@ -57,16 +64,20 @@ fn examine_unmarked<D: Disk>(
     })
 }
 
-/// Reads a log with marks, and verifies them.
+/// Reads a log with marks, and verifies them. Computes no digest of the header again.
 fn examine_marked<D: Disk>(
     alloc: Global,
+    header: &[u8],
+    marker: &Marker,
     disk: &mut D,
     wanted: Option<Digest>,
 ) -> Result<LogFindings, LoggedError>
     requires usable { IsTrue (D.Disk.is_usable disk.old) }
+    requires batch { IsBatch header.now }
+    requires begins { IsFirstMark header.now marker.now }
     ensures { IsExamined D.Disk version.Two wanted disk.old disk.new result }
 {
-    let verified = verify(alloc, disk, wanted)?;
+    let verified = verify_known(alloc, disk, header, marker, wanted)?;
     if !verified.has_wanted {
         return Err(LoggedError::OtherDigest);
     }

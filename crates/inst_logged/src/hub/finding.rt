@@ -13,6 +13,7 @@ ghost use Rattle.inst_logged.specs.Logged.{IsUnbegun, HasBegun};
 ghost use Rattle.inst_logged.specs.Refused.{IsRefused};
 ghost use Rattle.inst_log.specs.Disks.{HasKeptFaith, IsOnlyRead};
 ghost use Rattle.inst_logged.specs.inner.Books.{HasBooks, FindsBooks};
+ghost use Rattle.inst_logged.specs.declared.error.LoggedError.TheVariants.{Books};
 ghost use Rattle.inst_logged.specs.declared.version.Version.TheVariants.{Two};
 
 use super::NewHub;
@@ -39,9 +40,9 @@ impl NewHub {
     ///
     /// - `Log(NoLog)` if the first line is JSON that has neither `log` nor `version`, so the file
     ///   can't be a log.
-    /// - `Damaged` if the mark after the books is missing or wrong.
     /// - `Books` if the lines after the settings aren't books from which a hub of these settings
-    ///   can open.
+    ///   can open; `Damaged` instead if the mark after them is missing or wrong. The mark of other
+    ///   books is verified when the log is opened.
     /// - `Log(Disk)` if the disk fails, `Log(Memory)` if an allocation fails.
     pub fn of_log<D: Disk>(
         alloc: Global,
@@ -110,8 +111,12 @@ fn books_on<D: Disk>(
     journals_in(alloc, version, settings, &text, count)
 }
 
-/// Returns the journals of the `count` lines of books after the first line of this text, which
-/// their mark must follow; none if the text has fewer lines.
+/// Returns the journals of the `count` lines of books after the first line of this text; none if
+/// the text has fewer lines.
+///
+/// # Errors
+///
+/// `Books`, or `Damaged` if the mark of the lines doesn't follow them in a log with marks.
 fn journals_in(
     alloc: Global,
     version: Version,
@@ -133,10 +138,24 @@ fn journals_in(
     if (count_lines(&books[..end]) as u64) < count {
         return Ok(None);
     }
-    if version == Version::Two && !has_mark_at(text, begin + end) {
-        return Err(LoggedError::Damaged(Prefix { lines: 0, bytes: 0 }));
+    match journals_of(alloc, settings, &books[..end]) {
+        Ok(journals) => Ok(Some(journals)),
+        Err(LoggedError::Books) => Err(bad_books(version, text, begin + end)),
+        Err(error) => Err(error),
     }
-    Ok(Some(journals_of(alloc, settings, &books[..end])?))
+}
+
+/// Returns the error for a text that isn't valid books: `Damaged` if the log has marks and the mark
+/// of the first `end` bytes doesn't follow them, else `Books`.
+fn bad_books(version: Version, text: &[u8], end: usize) -> LoggedError
+    requires { end ≤ length text.now }
+    ensures { (rest : List ℕ) →
+        text.now ≡ take end text.now ++ (mark_of (take end text.now) ++ rest) → result ≡ Books }
+{
+    if version == Version::Two && !has_mark_at(text, end) {
+        return LoggedError::Damaged(Prefix { lines: 0, bytes: 0 });
+    }
+    LoggedError::Books
 }
 
 /// Returns `true` if the mark of the first `end` bytes follows them.

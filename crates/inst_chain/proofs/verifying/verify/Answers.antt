@@ -1,73 +1,17 @@
-use Rattle.std.proofs.Common.{[], ◌++◌, List, ℕ, refl, ◌∙◌, sym, ap, subst, arith}
-use Rattle.std.proofs.lemmas.Result.{IfOk-weaker, IfErr-weaker, err_from_is_err_and}
-use Rattle.sqlite_disk.specs.Disk.{MoreFaults}
-use Rattle.inst_log.specs.Layout.{recovered_lines}
+use Rattle.std.proofs.Common.{[], List, ℕ, refl, sym, subst}
+use Rattle.std.proofs.lemmas.Result.{err_from_is_err_and}
 use Rattle.inst_log.specs.Pieces.{IsReading}
-use Rattle.inst_log.proofs.Pieces.{file_lines, all_cut, through}
-use Rattle.inst_chain.specs.Chain.{has_wanted}
-use Rattle.inst_chain.specs.Checking.{IsWrongAt}
-use Rattle.inst_chain.proofs.PlaceOfDamage.{wrong_mark, damaged_err, log_failed, wanted_none, checked}
+use Rattle.inst_chain.proofs.PlaceOfDamage.{log_failed, wanted_none}
 use Rattle.inst_chain.proofs.verifying.verify.Goals as goal
 
-pub loop-wanted-init : goal.loop-wanted-init
-loop-wanted-init g c = record {
-  reading = λ clean. (
-    [],
-    c.in_ok-lines.ensures.reading clean [] (g.D.Disk.seen c.args.disk.now) refl refl refl,
-    c.new-checker.ensures,
-    wanted_none c.args.wanted c.is_none-has_wanted.result c.is_none-has_wanted.ensures,
-  );
-  fits = c.in_ok-lines.ensures.fits;
-  read = c.new.ensures.read;
-  calm = c.in_ok-lines.ensures.cause;
+pub verify_rest-requires-clause-started : goal.verify_rest-requires-clause-started
+verify_rest-requires-clause-started g c = λ clean. record {
+  done = [];
+  reading = subst (λ (f : List ℕ). IsReading f c.in_ok-lines.lines []) (sym c.new.ensures.read.left.same) (c.in_ok-lines.ensures.reading clean [] (g.D.Disk.seen c.args.disk.now) refl refl refl);
+  stands = c.new-2.ensures;
+  is_wanted = wanted_none c.args.wanted c.is_none.result c.is_none.ensures;
 }
-
-pub returns-in-Err-clause-cause : goal.returns-in-Err-clause-cause
-returns-in-Err-clause-cause g c clean =
-    let i = c.loop-wanted.invariant in
-    let file = g.D.Disk.seen c.args.disk.now in
-    let piece = c.in_ok-piece.piece.items in
-    let before = i.reading (c.next.ensures.read.clean clean) in
-    let reading = subst (λ (f : List ℕ). IsReading f c.next.new.self (before.0 ++ recovered_lines piece)) i.read.left.same
-    (c.in_ok-piece.ensures.lines.reading clean before.0 (subst (λ (f : List ℕ). IsReading f c.loop-wanted.lines before.0) (sym i.read.left.same) before.1)) in
-    wrong_mark file c.loop-wanted.checker before.0 _ piece c.in-Err.right before.2
-    (subst (λ (l : List ℕ). IsWrongAt c.loop-wanted.checker l c.in-Err.right) c.deref.ensures.value c.in-Err.ensures.wrong)
-    (file_lines file c.next.new.self.cutter (before.0 ++ recovered_lines piece) reading.cut)
-    (omega (arith, reading.len, c.in_ok-piece.ensures.lines.len, i.fits))
-
-pub returns-clause-found : goal.returns-clause-found
-returns-clause-found g c =
-    let i = c.loop-wanted.invariant in
-    let file = g.D.Disk.seen c.args.disk.now in
-    IfOk-weaker c.end.result _ _ (λ verified finds clean.
-    finds file (checked file c.loop-wanted.lines c.loop-wanted.checker (i.reading clean).0 (i.reading clean).1 (i.reading clean).2 (sym c.has_more.ensures ∙ c.loop-wanted-test.false) i.fits)) c.end.ensures.found
-
-pub returns-clause-wanted : goal.returns-clause-wanted
-returns-clause-wanted g c =
-    let i = c.loop-wanted.invariant in
-    let file = g.D.Disk.seen c.args.disk.now in
-    IfOk-weaker c.end.result _ _ (λ verified is clean.
-    let r = i.reading clean in
-    let all = all_cut file c.loop-wanted.lines.cutter r.0 r.1.cut (through file c.loop-wanted.lines r.0 r.1 (sym c.has_more.ensures ∙ c.loop-wanted-test.false)) in
-    is ∙ r.3 ∙ ap (has_wanted c.args.wanted) (sym all)) c.end.ensures.wanted
-
-pub returns-clause-cause : goal.returns-clause-cause
-returns-clause-cause g c =
-    let i = c.loop-wanted.invariant in
-    let file = g.D.Disk.seen c.args.disk.now in
-    damaged_err file _ _ _ c.end.result i.calm c.end.ensures.only (λ clean.
-    IfErr-weaker c.end.result _ _ (λ error damaged.
-    damaged file (checked file c.loop-wanted.lines c.loop-wanted.checker (i.reading clean).0 (i.reading clean).1 (i.reading clean).2 (sym c.has_more.ensures ∙ c.loop-wanted-test.false) i.fits)) c.end.ensures.damaged)
 
 pub returns-in_err-lines-clause-cause : goal.returns-in_err-lines-clause-cause
 returns-in_err-lines-clause-cause g c =
     log_failed (g.D.Disk.seen c.args.disk.now) _ _ _ _ _ c.from_residual.result _ (err_from_is_err_and c.from_residual.result c.from_residual.ensures.1) (λ failed clean. failed) c.in_err-lines.ensures.cause
-
-pub returns-in_err-piece-clause-cause : goal.returns-in_err-piece-clause-cause
-returns-in_err-piece-clause-cause g c =
-    let i = c.loop-wanted.invariant in
-    let new = g.D.Disk.faults c.next.new.disk in
-    log_failed (g.D.Disk.seen c.args.disk.now) _ _ _ _ _ c.from_residual-in_err-piece.result _ (err_from_is_err_and c.from_residual-in_err-piece.result c.from_residual-in_err-piece.ensures.1)
-    (λ failed clean.
-    let before = i.reading (c.next.ensures.read.clean clean) in
-    subst (λ (n : ℕ). MoreFaults n new) i.calm (failed clean before.0 (subst (λ (f : List ℕ). IsReading f c.loop-wanted.lines before.0) (sym i.read.left.same) before.1))) c.in_err-piece.ensures.cause

@@ -1,6 +1,7 @@
-use Rattle.std.proofs.Common.{inl, inr, refl, ◌∙◌, sym, subst}
+use Rattle.std.proofs.Common.{List, ℕ, inl, inr, refl, ◌∙◌, sym, subst}
 use Rattle.std.proofs.lemmas.Result.{err_from_is_err_and}
-use Rattle.inst_log.specs.Layout.{EndsWell}
+use Rattle.inst_log.specs.Layout.{EndsWell, IsBatch}
+use Rattle.inst_logged.specs.Marking.{BeginsWithMarker}
 use Rattle.inst_logged.specs.declared.error.LoggedError.TheVariants.{Log}
 use Rattle.inst_log.specs.Disks.{HasSameFile}
 use Rattle.inst_logged.proofs.CausesOfRefusal.{cause_of_none}
@@ -8,6 +9,16 @@ use Rattle.inst_logged.proofs.CausesOfRefusalByCall.{passed, starts_as, unopened
 use Rattle.inst_logged.proofs.FailuresOfLoggedHub.{failed_so, more_faults, unopened_fails}
 use Rattle.inst_logged.proofs.MarksStayRight.{verified_intact, opening_intact, opened_found, opened_none}
 use Rattle.inst_logged.proofs.hub.LoggedHub.reopen.Goals as goal
+
+-- the header is the first lines of a log, and their marker
+
+pub examine-requires-clause-batch : goal.examine-requires-clause-batch
+examine-requires-clause-batch g c = subst IsBatch (sym c.as_slice-header.ensures.value) c.requires.ready.unbegun.batch
+
+pub examine-requires-clause-begins : goal.examine-requires-clause-begins
+examine-requires-clause-begins g c =
+    let self = c.args.self.now in
+    subst (λ (l : List ℕ). BeginsWithMarker self.version l self.marker) (sym c.as_slice-header.ensures.value) c.requires.ready.unbegun.begins
 
 -- it ended before it was opened
 

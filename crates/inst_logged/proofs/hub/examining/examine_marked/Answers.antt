@@ -1,4 +1,4 @@
-use Rattle.std.proofs.Common.{refl}
+use Rattle.std.proofs.Common.{[], refl}
 use Rattle.std.proofs.lemmas.Result.{err_from_is_err_and}
 use Rattle.inst_logged.specs.declared.version.Version.TheVariants.{Two}
 use Rattle.inst_logged.proofs.CausesOfRefusalByCall.{chain_cause, no_ok, passed}
@@ -15,5 +15,8 @@ returns-in_err-verified g c =
           (λ clean header told. chain_cause Two header told c.args.wanted file refl _ _ c.in_err-verified.field-0.0 clean c.in_err-verified.ensures.cause);
       failure = fails_passed _ _ c.from_residual.result _ failed
           (λ clean. chain_fails file _ _ ⊥ ⊥ c.in_err-verified.field-0.0 clean c.in_err-verified.ensures.cause);
-      read = c.verify.ensures.read;
+      read = c.verify_known.ensures.read;
     }
+
+pub verify_known-requires-clause-sealed : goal.verify_known-requires-clause-sealed
+verify_known-requires-clause-sealed g c = c.requires.begins.sealed c.args.header.now refl (record { rest = []; split = c.requires.batch.whole })

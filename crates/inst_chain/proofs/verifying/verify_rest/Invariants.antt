@@ -3,7 +3,7 @@ use Rattle.inst_log.specs.Disks.{HasKeptFaith, IsOnlyRead}
 use Rattle.inst_log.specs.Pieces.{IsReading}
 use Rattle.inst_chain.specs.Chain.{has_wanted}
 use Rattle.inst_chain.specs.Checking.{HasGoneThrough}
-use Rattle.inst_chain.proofs.verifying.verify.Given as goal
+use Rattle.inst_chain.proofs.verifying.verify_rest.Given as goal
 
 abbrev pub invariant-loop-wanted : goal.invariant-loop-wanted
 invariant-loop-wanted g l =
