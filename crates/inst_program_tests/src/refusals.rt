@@ -84,7 +84,10 @@ const UNFIT: &'static [(&'static str, &'static str)] = &[
     ("--base 1", "base"),
     ("--positions --base 1000", "base"),
     ("--positions --base 4611686018427387905", "base"),
-    ("--positions --participants AAAADEFF,CCCCITMM", "participants"),
+    (
+        "--positions --participants AAAADEFF,CCCCITMM",
+        "participants",
+    ),
     ("--positions --places 0", "places"),
     ("--positions --limit 100 --margin 100", "margin"),
     ("--positions --ceiling 9999 --fundings 3", "fundings"),
