@@ -179,6 +179,13 @@ module _ {B : Type 0} (settings : B → HubSettings) (knows : B → Fact → Typ
       let same : u ≡ v = same_terms truth.0 u v (truth.2 (HasTerms u) has) (truth.2 (HasTerms v) l.known.terms) in
       subst (λ (q : ℕ). q < participants s) (ap (λ (x : Terms). x.to) (sym same)) (taken_fits s k.owner (J k.owner) o.0 l.to l.cents l.stamp (sound_at k.owner) l.taken).0
 
+  -- an originator's places are opened in order
+  pub opened_before : (k : Place) (index : ℕ) → k.owner < participants s → index < k.index → knows b (about k Opened) → knows b (about (place_at k.owner index) Opened)
+  opened_before k index below less kn =
+      let h = here k.owner below in
+      let x = taken_below (at k.owner h.arrivals) index (omega (arith, less, h.is.lawful.only_taken k.index kn)) in
+      (h.is.lawful.taken_known index x.id x.at.to x.at.cents x.at.stamp x.at.there).opened
+
   -- a transfer that was taken and is live lies somewhere
   taken_lies : (from : ℕ) (id : List ℕ) (to cents stamp : ℕ) → Here from → Contains (J from) (Taken id to cents stamp) → booked from id (carried (J from)) ≡ None → (index : ℕ) × Lies from id index
   taken_lies from id to cents stamp h taken none =

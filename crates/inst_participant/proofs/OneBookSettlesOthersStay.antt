@@ -17,7 +17,7 @@ use Rattle.inst_model.specs.Opening.{Opening, IsOpening}
 use Rattle.inst_slot.specs.Book.{events_of, Book, place_at}
 use Rattle.inst_participant.specs.Together.{histories, IsMemberBook, HasSettledAll}
 use Rattle.inst_participant.specs.InTheBooks.{IsInTheBooks}
-use Rattle.inst_participant.proofs.BooksOverOneBoardFit.{addressed, are_closed, in_the_books}
+use Rattle.inst_participant.proofs.BooksOverOneBoardFit.{addressed, opened_before, are_closed, in_the_books}
 use Rattle.inst_participant.specs.Settling.{IsReadyToSettle, IsLater}
 use Rattle.inst_participant.specs.Parts.{AreParts, IsSettledAt, AreLaterParts}
 use Rattle.inst_participant.proofs.SettlementPlaceByPlace.{told_nothing, told_on}
@@ -38,6 +38,9 @@ module _ {B : Type 0} (settings : B → HubSettings) (knows : B → Fact → Typ
     pub member : IsMemberBook settings knows has_role b (settings b) O i x
     pub ready : IsReadyToSettle settings knows has_role b x
 
+  owner_of : (b : B) (k : Place) → knows b (about k Opened) → k.owner < participants (settings b)
+  owner_of b k opened = ltb-true k.owner (participants (settings b)) (and_parts (nat_lt k.owner (participants (settings b))) (nat_lt k.index (settings b).places) (places b k Opened opened)).0
+
   pub at : (b : B) (O : Opening) (books : List Book) (p i : ℕ) (x : Book) → AreParts settings knows has_role b O books → p < participants (settings b) → i ≡ p → x ≡ get_or books i x → At b O books p i x
   at b O books p i x parts number same here =
       let below : i < length books = omega (arith, same, number, parts.together.one_each) in
@@ -54,10 +57,8 @@ module _ {B : Type 0} (settings : B → HubSettings) (knows : B → Fact → Typ
           adopted = m.adopted;
           all = record {
             role = parts.roles;
-            addressed = λ k t opened has.
-                let place = places b k Opened opened in
-                let owner = ltb-true k.owner (participants (settings b)) (and_parts (nat_lt k.owner (participants (settings b))) (nat_lt k.index (settings b).places) place).0 in
-                parts.roles t.to (addressed settings knows has_role b (settings b) O parts.opening books parts.together k t owner opened has);
+            addressed = λ k t opened has. parts.roles t.to (addressed settings knows has_role b (settings b) O parts.opening books parts.together k t (owner_of b k opened) opened has);
+            in_order = λ k index less opened. opened_before settings knows has_role b (settings b) O parts.opening books parts.together k index (owner_of b k opened) less opened;
           };
         };
       }
@@ -170,7 +171,6 @@ module _ {B : Type 0} (settings : B → HubSettings) (knows : B → Fact → Typ
       → (k : Place) → knows d (about k Opened) → IsInTheBooks knows d (histories books) k
   told_then d b O n xs books l parts most done k kn =
       let kn_b = (l.known (about k Opened)).1 kn in
-      let owner = ltb-true k.owner (participants (settings b)) (and_parts (nat_lt k.owner (participants (settings b))) (nat_lt k.index (settings b).places) (places b k Opened kn_b)).0 in
       let i = in_the_books settings knows has_role b (settings b) O parts.opening books parts.together
-      (λ p book there. done p (omega (arith, slice_get_within books p book there, parts.together.one_each, most)) book there) k owner kn_b in
+      (λ p book there. done p (omega (arith, slice_get_within books p book there, parts.together.one_each, most)) book there) k (owner_of b k kn_b) kn_b in
       record { used = i.used; terms = λ t has. i.terms t ((l.known (about k (HasTerms t))).1 has); outcome = λ o ended. i.outcome o ((l.known (about k (Decided o))).1 ended) }

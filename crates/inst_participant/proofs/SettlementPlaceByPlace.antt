@@ -2,7 +2,7 @@
 use Rattle.std.proofs.Common.{◌≡◌, ◌≢◌, ℕ, zero, suc, ◌+◌, ◌<◌, ◌≤◌, arith, Bool, true, false, not, ◌&&◌, ◌||◌, ◌==◌, cond, List, [], ◌∷◌, ◌++◌, append-nil, append_assoc, inl, inr, ◌⊎◌, ⊎_elim, refl, sym, ap, ◌∙◌, subst, Option, Some, None, is_none, is_some, count_by}
 use Rattle.std.specs.Prelude.{slice_get, Contains, ◌↔◌, Result, Ok, Err, IfOk, nat_lt}
 use Rattle.std.specs.List.{AllByRecursion}
-use Rattle.std.proofs.lemmas.Bool.{and_parts, ltb-true, eq-eqb, or_left, cases_Bool, cases_eq}
+use Rattle.std.proofs.lemmas.Bool.{and_parts, ltb-true, eq-eqb, or_left, cases_Bool, cases_eq, cases_lt}
 use Rattle.std.proofs.lemmas.List.Elements.{Contains-append_cases}
 use Rattle.std.proofs.lemmas.List.Folds.{list_any-append}
 use Rattle.inst_settings.specs.Settings.{HubSettings, participants}
@@ -31,6 +31,7 @@ use Rattle.inst_slot.specs.LawfulBoard.{LiesAt, IsLawfulBoard, KeepsOthers, AllA
 use Rattle.inst_slot.specs.Telling.{delivery, with_delivery, is_party, resolution, with_event, Keeps}
 use Rattle.inst_slot.proofs.LiveTransfersAfterEvent.{live_taken_still, newly_booked}
 use Rattle.inst_slot.proofs.BoardStaysLawful.{lying}
+use Rattle.inst_slot.proofs.EffectOfLookAndDecision.{looked_on}
 use Rattle.inst_slot.proofs.ResolutionFitsBooks.{itself_forwards, teaches}
 use Rattle.inst_slot.proofs.DeliveryFitsBooks.{delivers}
 use Rattle.inst_model.proofs.TextsTestsAndFirstThings.{same_transfer_refl}
@@ -173,6 +174,7 @@ module _ {B : Type 0} (settings : B → HubSettings) (knows : B → Fact → Typ
   all_still b c holder known all = record {
     role = λ p below. (stays_roles b c p holder).0 (all.role p (subst (λ (s : HubSettings). p < participants s) (stays_settings b c holder) below));
     addressed = λ k t o h. (stays_roles b c t.to holder).0 (all.addressed k t ((known (about k Opened)).0 o) ((known (about k (HasTerms t))).0 h));
+    in_order = λ k index less o. (known (about (place_at k.owner index) Opened)).1 (all.in_order k index less ((known (about k Opened)).0 o));
   }
 
   module _ (b c : B) (k : Place) (look : Look) (looks : Looks margin knows has_role stood b k look c) (owner : k.owner < participants (settings b)) (all : HasAll settings knows has_role b) (holder : stays b c) where
@@ -386,6 +388,20 @@ module _ {B : Type 0} (settings : B → HubSettings) (knows : B → Fact → Typ
     all = all_still b c l.stays_on l.known r.all;
   }
 
+  -- after a look alone, at which the book stays
+  module _ (b c : B) (k : Place) (look : Look) (looks : Looks margin knows has_role stood b k look c) (fits : margin ≡ (settings b).margin) (x : Book) (r : IsReadyToSettle settings knows has_role b x) (owner : k.owner < participants (settings b)) (holder : stays b c) where
+    keeps : (book : Book) → IsLawfulBoard settings knows has_role b book → IsLawfulBoard settings knows has_role c book
+    keeps book was = looked_on settings knows has_role margin stood b c k look looks book (stays_settings b c holder) fits (stays_roles b c book.who holder).0 was
+
+    pub looked_later : IsLater settings knows has_role stays b x c x
+    looked_later = same_later b c k look looks owner r.all holder x (λ book ne was. keeps book was) x refl
+
+    pub looked_ready : IsReadyToSettle settings knows has_role c x
+    looked_ready = ready_on b c x x r looked_later (keeps x r.lawful) r.adopted
+
+    pub owner_still : k.owner < participants (settings c)
+    owner_still = subst (λ (s : HubSettings). k.owner < participants s) (sym (stays_settings b c holder)) owner
+
   -- what was done stays done
   own_kept : (d b c : B) (w x y : Book) (n : ℕ) → IsLater settings knows has_role stays d w b x → IsLater settings knows has_role stays b x c y → OwnBelow knows d n x → OwnBelow knows d n y
   own_kept d b c w x y n before l done index id to cents stamp o below there kn =
@@ -471,10 +487,17 @@ module _ {B : Type 0} (settings : B → HubSettings) (knows : B → Fact → Typ
     | inr ended ↦ inr ended
   ]
 
-  come_from : (d b : B) (w x y : Book) (k : Place) → IsLater settings knows has_role stays d w b x → HasArrived knows b k y → HasArrived knows d k y
+  pub come_from : (d b : B) (w x y : Book) (k : Place) → IsLater settings knows has_role stays d w b x → HasArrived knows b k y → HasArrived knows d k y
   come_from d b w x y k before done t mine opened has = elim (done t mine ((before.known (about k Opened)).1 opened) ((before.known (about k (HasTerms t))).1 has)) [
     | inl there ↦ inl there
     | inr ended ↦ inr (ended.0, (before.known (about k (Decided ended.0))).0 ended.1)
+  ]
+
+  -- nothing has to come from behind a place that isn't opened
+  pub come_all : (d b : B) (w x y : Book) (owner n : ℕ) → HasAll settings knows has_role d → IsLater settings knows has_role stays d w b x → (knows b (about (place_at owner n) Opened) → ⊥) → ComeBelow knows d owner (n + 1) y → HaveCome knows d owner y
+  come_all d b w x y owner n all before none done index t mine opened has = elim (cases_lt index (n + 1)) [
+    | inl below ↦ done index below t mine opened has
+    | inr past ↦ absurd (none ((before.known (about (place_at owner n) Opened)).1 (all.in_order (place_at owner index) n (omega (arith, past)) opened)))
   ]
 
   pub come_more : (d b c : B) (w x y : Book) (owner n : ℕ) → IsLater settings knows has_role stays d w b x → IsLater settings knows has_role stays b x c y → HasArrived knows b (place_at owner n) y → ComeBelow knows d owner n x → ComeBelow knows d owner (n + 1) y

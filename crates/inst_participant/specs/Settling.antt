@@ -17,12 +17,14 @@ use Rattle.inst_slot.specs.Book.{Book, place_at}
 use Rattle.inst_slot.specs.LawfulBoard.{IsLawfulBoard, KeepsOthers, AllAreAdopted}
 
 -- The board has the roles of all participants, and what it knows to be opened is addressed to one
--- of them.
+-- of them. The places of an originator were opened in order.
 pub record HasAll {B : Type 0} (settings : B → HubSettings) (knows : B → Fact →
     Type 0) (has_role : B → ℕ → Type 0) (b : B) : Type 0 where
   pub role : (p : ℕ) → p < participants (settings b) → has_role b p
   pub addressed : (k : Place) (t : Terms) → knows b (about k Opened) →
       knows b (about k (HasTerms t)) → has_role b t.to
+  pub in_order : (k : Place) (index : ℕ) → index < k.index → knows b (about k Opened) →
+      knows b (about (place_at k.owner index) Opened)
 
 -- The book of a participant over such a board, which is lawful for it.
 pub record IsReadyToSettle {B : Type 0} (settings : B → HubSettings) (knows : B → Fact →

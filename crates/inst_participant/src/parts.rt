@@ -46,7 +46,8 @@ impl Parts {
     /// is pending for it. Returns how many events this stored, at most 2^32 - 1.
     ///
     /// Its own transfers come first, by place, then the forwarded ones, in order of arrival, then
-    /// the deliveries, by originator and place. Visits the places of all originators.
+    /// the deliveries, by originator and place. Visits the participant's places and the used ones
+    /// of the others.
     ///
     /// # Errors
     ///

@@ -1,6 +1,8 @@
 //! Settling one participant over a board that has all roles.
-ghost use Rattle.std.specs.Prelude.{◌≡◌, ◌≢◌, ℕ, ◌<◌, IfOk};
+ghost use Rattle.std.specs.Prelude.{◌≡◌, ◌≢◌, ℕ, ◌<◌, false, IfOk};
 ghost use Rattle.inst_settings.specs.Settings.{participants};
+ghost use Rattle.inst_board.specs.declared.about.About.TheVariants.{Opened};
+ghost use Rattle.inst_board.specs.Standing.{about};
 ghost use Rattle.inst_journal.specs.Sound.{IsSound};
 ghost use Rattle.inst_participant.specs.Sweeping.{new_events};
 ghost use Rattle.inst_participant.specs.Together.{HasSettledAll};
@@ -8,7 +10,7 @@ ghost use Rattle.inst_participant.specs.Settling.{IsReadyToSettle, IsLater};
 ghost use Rattle.inst_participant.specs.inner.Settling.{IsBookedAt, HasArrived, OwnAreBooked};
 ghost use Rattle.inst_participant.specs.inner.Settling.{ArrivedAreBooked, HaveCome};
 
-use inst_board::Board;
+use inst_board::{Board, Look};
 use inst_command::Place;
 use inst_slot::Slot;
 use std::alloc::AllocError;
@@ -62,17 +64,29 @@ fn learn_at<B: Board>(slot: &mut Slot, board: &mut B, place: Place) -> Result<()
     Ok(())
 }
 
-/// Delivers the transfer of the place if it is pending, for the participant and new.
-fn deliver_at<B: Board>(slot: &mut Slot, board: &mut B, place: Place) -> Result<(), AllocError>
+/// Delivers the transfer of the place if it is pending, for the participant and new. Returns `true`
+/// if the place is used.
+fn deliver_at<B: Board>(slot: &mut Slot, board: &mut B, place: Place) -> Result<bool, AllocError>
     requires ready { IsReadyToSettle B.settings B.knows B.has_role board.old slot.old }
     requires owner { place.owner < participants (B.settings board.old) }
     ensures ready { IsReadyToSettle B.settings B.knows B.has_role board.new slot.new }
     ensures later { IsLater B.settings B.knows B.has_role B.stays board.old slot.old board.new
         slot.new }
     ensures come { IfOk result (λ _. HasArrived B.knows board.old place slot.new) }
+    ensures unused { IfOk result (λ used.
+        used ≡ false → ¬ B.knows board.old (about place Opened)) }
 {
-    slot.deliver(board, place)?;
-    Ok(())
+    match board.look(place) {
+        Look::Unused => Ok(false),
+        Look::Decided(..) => Ok(true),
+        Look::Pending(terms, _) => {
+            if terms.to != slot.who() {
+                return Ok(true);
+            }
+            slot.deliver(board, place)?;
+            Ok(true)
+        }
+    }
 }
 
 /// Books the decided outcomes of the participant's own live transfers.
@@ -126,7 +140,8 @@ fn deliver_all<B: Board>(slot: &mut Slot, board: &mut B) -> Result<(), AllocErro
     Ok(())
 }
 
-/// Delivers what is pending for the participant from one other originator.
+/// Delivers what is pending for the participant from one other originator, up to its first unused
+/// place.
 fn deliver_from<B: Board>(slot: &mut Slot, board: &mut B, owner: u8) -> Result<(), AllocError>
     requires ready { IsReadyToSettle B.settings B.knows B.has_role board.old slot.old }
     requires owner { owner < participants (B.settings board.old) }
@@ -137,7 +152,9 @@ fn deliver_from<B: Board>(slot: &mut Slot, board: &mut B, owner: u8) -> Result<(
 {
     let places = slot.settings().places();
     for index in 0..places {
-        deliver_at(slot, board, Place { owner, index })?;
+        if !deliver_at(slot, board, Place { owner, index })? {
+            return Ok(());
+        }
     }
     Ok(())
 }
