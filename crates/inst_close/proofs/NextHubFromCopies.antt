@@ -1,7 +1,8 @@
 -- The hub that was opened from copies of the books is the next one.
-use Rattle.std.proofs.Common.{◌≡◌, ℕ, arith, length, List, [], ◌∷◌, ◌++◌, inl, inr, sym, ap, ◌∙◌, subst, ltb-false}
+use Rattle.std.proofs.Common.{◌≡◌, ℕ, ◌+◌, ◌-◌, arith, length, length-append, List, [], ◌∷◌, ◌++◌, inl, inr, sym, ap, ◌∙◌, subst, ltb-false}
 use Rattle.std.specs.Prelude.{nat_lt, Result, Ok, Err, IfOk}
 use Rattle.std.proofs.lemmas.Bool.{cases_Bool, ltb-true}
+use mathlib.Core.List.{IsPrefix}
 use Rattle.inst_base.specs.declared.fault.Fault.{Fault}
 use Rattle.inst_base.specs.declared.fault.Fault.TheVariants.{BadSettings}
 use Rattle.inst_settings.specs.Settings.{HubSettings, participants}
@@ -44,6 +45,20 @@ pub can_open_as : (closed : ClosedHub) (codes : List (List ℕ)) (s : HubSetting
 can_open_as closed codes s n journals copies s_is n_is journals_are is_closed few made =
     let can = can_open_wider closed.settings codes closed.books copies is_closed few (subst (λ (m : ℕ). AreCopiesAnd closed.books m copies) n_is made) in
     subst (λ (t : HubSettings). CanOpenFrom t journals) (sym s_is) (subst (λ (l : List History). CanOpenFrom (widened closed.settings codes) l) (sym journals_are) can)
+
+-- a hub can open from the copies exactly if it can from the books
+pub books_can : (s : HubSettings) (books : List Book) (n : ℕ) (journals : List History) → AreCopiesAnd books n journals → CanOpenFrom s journals → BooksCanOpen s (histories books)
+books_can s books n journals copies can = subst (λ (J : ℕ → List Event). BooksCanOpen s J) (λ k p. copies.same p k) can.books
+
+pub copies_can : (s : HubSettings) (books : List Book) (n : ℕ) (journals : List History) → AreCopiesAnd books n journals → length books + n ≡ participants s → BooksCanOpen s (histories books) → CanOpenFrom s journals
+copies_can s books n journals copies many can = record {
+  one_each = copies.one_each ∙ many;
+  books = subst (λ (J : ℕ → List Event). BooksCanOpen s J) (λ k p. sym (copies.same p) k) can;
+}
+
+-- as many more as join
+pub all_there : (old s : HubSettings) (books : List Book) (n : ℕ) → length books ≡ participants old → IsPrefix old.codes s.codes → n ≡ participants s - participants old → length books + n ≡ participants s
+all_there old s books n one_each codes is = omega (arith, one_each, is, length-append old.codes codes.0, ap length codes.1)
 
 pub next_is : (books : List Book) (journals : List History) (s : HubSettings) (h : Hub) → CanOpenFrom s journals → ((p : ℕ) → books_of journals p ≡ histories books p)
     → h.settings ≡ s → HasOpenedHub (FromBooks (books_of journals)) h → IsNextOf books h

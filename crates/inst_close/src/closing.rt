@@ -53,8 +53,8 @@ impl fmt::Debug for CloseFault {
 /// for it; nothing else is added to the books. They extend all that the tellers have seen, and have
 /// all that these knew of places. Takes no clock reading, and settling the books decides nothing.
 ///
-/// Requires an opened hub with all its tellers, and so waits for no lock. Cost: participants² ×
-/// places visits.
+/// Requires an opened hub with all its tellers, and so waits for no lock. Cost: participants ×
+/// places visits, and for each participant one to each live transfer of the others.
 ///
 /// # Errors
 ///

@@ -35,8 +35,8 @@ impl Books {
     }
 
     /// Returns such steps of a hub that was opened from the books `before`, as by
-    /// [`open_next`](Books::open_next) or [`open_wider`](Books::open_wider). Participants that
-    /// joined have empty books there.
+    /// [`open_next`](Books::open_next), [`open_wider`](Books::open_wider) or
+    /// [`open_under`](Books::open_under). Participants that joined have empty books there.
     ///
     /// Also returns `None` if no hub of these settings can be opened from `before`.
     ///

@@ -1,7 +1,8 @@
 //! Settings with more participants.
-ghost use Rattle.std.specs.Prelude.{◌≡◌, ◌⊎◌, ◌++◌, Err, IfOk, IfErr};
+ghost use Rattle.std.specs.Prelude.{◌≡◌, ◌⊎◌, ◌↔◌, ◌++◌, Err, IfOk, IfErr, IsTrue};
 ghost use Rattle.inst_settings.specs.Lawful.{IsSettings};
 ghost use Rattle.inst_participant.specs.Wider.{widened};
+ghost use Rattle.inst_close.specs.NextOpening.{KeepsBaseAndCodes};
 
 use inst_base::{Code, Fault};
 use inst_settings::Settings;
@@ -29,4 +30,12 @@ pub(crate) fn widened(alloc: Global, settings: &Settings, more: &[Code]) -> Resu
     ensures only { IfErr result (λ e. (e ≡ Fault.Memory) ⊎ (e ≡ Fault.BadSettings)) }
 {
     Settings::check(codes_with(alloc, settings, more)?, settings.numbers())
+}
+
+/// Returns `true` if the new settings have the base of the old ones, and codes that begin with
+/// their codes.
+pub(crate) fn keeps_base_and_codes(old: &Settings, new: &Settings) -> bool
+    ensures { IsTrue result ↔ KeepsBaseAndCodes old.now new.now }
+{
+    new.base() == old.base() && new.codes().starts_with(old.codes())
 }

@@ -14,6 +14,7 @@ use inst_close::{Books, close};
 use inst_command::State;
 use inst_fixtures::settings;
 use inst_hub::{Hub, Teller, Ticket};
+use inst_settings::{HubParameters, Settings};
 use std::alloc::Global;
 use std::process::Abort;
 use std::sync::Wait;
@@ -190,5 +191,103 @@ fn refuses(rt: &impl Abort, alloc: Global, books: &Books) {
 fn no_code_joins_twice(rt: HostRuntime) -> Result<(), Fault> {
     let (books, _) = first_books(&rt, rt.alloc())?;
     refuses(&rt, rt.alloc(), &books);
+    Ok(())
+}
+
+/// Returns the settings of the books with these numbers and one participant more.
+fn changed(alloc: Global, books: &Books, numbers: HubParameters) -> Result<Settings, Fault> {
+    let mut codes = books.settings().codes().to_vec(alloc)?;
+    codes.push(Code::new("DDDDESMM")?)?;
+    Settings::check(codes, numbers)
+}
+
+/// Opens the next hub, with one teller, under these settings.
+fn opened_under(
+    alloc: Global,
+    books: &Books,
+    settings: Settings,
+) -> Result<(Hub, Vec<Teller>), Fault>
+    ensures { IfOk result (λ r. AreOf r.0 r.1.items) }
+{
+    books.open_under(alloc, settings, 1)
+}
+
+/// Participant 0 has three pending transfers, one of them from the first opening; participant 1
+/// confirms one of the new ones. The participant that joined has no money.
+const UNDER_CHANGES: [ScriptLine<'static>; 5] = [
+    ScriptLine(
+        0,
+        Deed::Submit("T3", 1_000, 2_000),
+        2_000,
+        ExpectedCall::Taken(true),
+    ),
+    ScriptLine(
+        0,
+        Deed::Submit("T4", 2_000, 2_000),
+        2_000,
+        ExpectedCall::Taken(true),
+    ),
+    ScriptLine(
+        1,
+        Deed::Confirm("T3"),
+        3_000,
+        ExpectedCall::State(ACCEPTED, true),
+    ),
+    ScriptLine(
+        0,
+        Deed::Position,
+        3_000,
+        ExpectedCall::Money(29_000, 7_000, 22_000),
+    ),
+    ScriptLine(3, Deed::Position, 3_000, ExpectedCall::Money(0, 0, 0)),
+];
+
+/// The next hub opens under three places, a margin and a ceiling, and a transfer is confirmed.
+#[test]
+fn opens_under_changed_settings(rt: HostRuntime) -> Result<(), Fault> {
+    let (books, _) = first_books(&rt, rt.alloc())?;
+    let numbers = HubParameters {
+        places: 3,
+        margin: 500,
+        ceiling: 50_000,
+        ..books.settings().numbers()
+    };
+    let settings = changed(rt.alloc(), &books, numbers)?;
+    played(
+        &rt,
+        opened_under(rt.alloc(), &books, settings)?,
+        &UNDER_CHANGES,
+    )
+}
+
+/// Returns the fault of an opening under these numbers.
+fn refused_under(
+    alloc: Global,
+    books: &Books,
+    numbers: HubParameters,
+) -> Result<Option<Fault>, Fault> {
+    let settings = changed(alloc, books, numbers)?;
+    Ok(opened_under(alloc, books, settings).err())
+}
+
+/// A ceiling below an amount of the books and another base are refused.
+#[test]
+fn the_books_refuse_changes(rt: HostRuntime) -> Result<(), Fault> {
+    let (books, _) = first_books(&rt, rt.alloc())?;
+    let numbers = books.settings().numbers();
+    let low = HubParameters {
+        ceiling: 49_999,
+        ..numbers
+    };
+    let moved = HubParameters { base: 1, ..numbers };
+    let refused = Some(Fault::BadSettings);
+    same(
+        &rt,
+        [
+            refused_under(rt.alloc(), &books, low)?,
+            refused_under(rt.alloc(), &books, moved)?,
+        ],
+        [refused, refused],
+    );
     Ok(())
 }
