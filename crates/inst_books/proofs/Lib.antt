@@ -12,3 +12,4 @@ pub mod ComparisonOfNumbers
 pub mod BooksCloseWhereSidesAgree
 pub mod ReplayedJournals
 pub mod CarriedPositions
+pub mod OldSubmissions

@@ -1,8 +1,8 @@
 -- Positions that are carried into a new chain of logs, whose books have fundings alone. A choice of
 -- this hub.
 use Rattle.std.specs.Prelude.{◌≡◌, ℕ, ◌+◌, ◌<◌, nat_lt, Bool, true, false, List}
-use Rattle.std.specs.Prelude.{Option, None, Some}
-use Rattle.std.specs.List.{list_all}
+use Rattle.std.specs.Prelude.{Option, None, Some, Ok}
+use Rattle.std.specs.List.{Contains, list_all}
 use Rattle.inst_settings.specs.Codes.{index_of}
 use Rattle.inst_settings.specs.Settings.{HubSettings}
 use Rattle.inst_journal.specs.declared.event.Event.{Event}
@@ -10,6 +10,10 @@ use Rattle.inst_journal.specs.declared.event.Event.TheVariants.{Funded, Taken}
 use Rattle.inst_journal.specs.History.{History}
 use Rattle.inst_journal.specs.Money.{position, reserved}
 use Rattle.inst_world.specs.NextOpening.{books_of}
+use Rattle.inst_command.specs.declared.ask.Ask.{Ask}
+use Rattle.inst_json.specs.Commands.{submit_of}
+use Rattle.inst_json.specs.Fields.{whole_in}
+use Rattle.inst_json.specs.LineFields.{LineFields}
 
 -- True if the event is a funding.
 abbrev pub is_fund : Event → Bool
@@ -48,3 +52,13 @@ is_before_base old new _ = true
 pub record IsBaseAfter (old : ℕ) (journals : List History) (new : ℕ) : Type 0 where
   pub least : old < new + 1
   pub stamps : (p : ℕ) → list_all (is_before_base old new) (books_of journals p) ≡ true
+
+-- A hub whose base is after the time stamps of these books takes none of their submissions again: no
+-- line with such a time stamp is a submission, at any clock reading.
+abbrev pub NoOldSubmissionIsTaken : Type 0
+NoOldSubmissionIsTaken =
+    (old : ℕ) (journals : List History) (s : HubSettings) → IsBaseAfter old journals s.base
+    → (p : ℕ) (id : List ℕ) (to cents stamp : ℕ)
+    → Contains (books_of journals p) (Taken id to cents stamp)
+    → (asker : _) (line : LineFields) → whole_in line.stamp ≡ Ok (old + stamp)
+    → (ask : Ask) → ¬ (submit_of s asker line ≡ Ok ask)

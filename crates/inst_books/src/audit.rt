@@ -1,5 +1,6 @@
 //! Checking if a hub may open from journals.
 ghost use Rattle.std.specs.Prelude.{◌≡◌, ◌↔◌, ℕ, ◌≤◌, [], length, IfOk, IfSome, IsSome, IsTrue};
+ghost use Rattle.inst_journal.specs.Sound.{IsSound};
 ghost use Rattle.inst_world.specs.NextOpening.{books_of, CanOpenFrom};
 ghost use Rattle.inst_books.specs.inner.Replaying.{CanBeBook, AreAllKept};
 
@@ -12,13 +13,14 @@ use inst_ledger::Ledger;
 use inst_settings::Settings;
 use std::alloc::{AllocError, Global};
 
-/// Replays a history; returns `true` if it can be a book. One that can't is replayed up to its
-/// first wrong event.
+/// Replays a history; returns `true` if its participant can have it. One that it can't is replayed up
+/// to its first wrong event.
 fn keep_all(replay: &mut Replay, journal: &Journal) -> Result<bool, AllocError>
     requires blank { replay.old.events ≡ [] }
-    ensures can { IfOk result (λ can. IsTrue can ↔
-        CanBeBook replay.old.settings replay.old.who journal.now.events) }
-    ensures same { IfOk result (λ can. IsTrue can → replay.new.events ≡ journal.now.events) }
+    ensures sound { IfOk result (λ sound. IsTrue sound ↔
+        IsSound replay.old.settings replay.old.who journal.now.events) }
+    ensures same { IfOk result (λ sound. IsTrue sound →
+        replay.new.events ≡ journal.now.events) }
 {
     mention::<Outcome>();
     for event in journal.events() {
@@ -27,11 +29,27 @@ fn keep_all(replay: &mut Replay, journal: &Journal) -> Result<bool, AllocError>
         }
         replay.keep(*event)?;
     }
-    Ok(replay.may_open())
+    Ok(true)
+}
+
+/// Returns the replayed history of participant `who`; `None` if it can't have this journal.
+pub(crate) fn replayed(
+    alloc: Global,
+    settings: &Settings,
+    who: u8,
+    journal: &Journal,
+) -> Result<Option<Replay>, AllocError>
+    ensures sound { IfOk result (λ kept. IsSome kept ↔
+        IsSound settings.now who journal.now.events) }
+    ensures same { IfOk result (λ kept. IfSome kept (λ replay. replay.events ≡ journal.now.events)) }
+{
+    let mut replay = Replay::open(alloc, settings, who)?;
+    let is_sound = keep_all(&mut replay, journal)?;
+    Ok(is_sound.then_some(replay))
 }
 
 /// Returns the replayed ledger of participant `who`; `None` if the journal can't be its book.
-pub(crate) fn replayed(
+fn replayed_book(
     alloc: Global,
     settings: &Settings,
     who: u8,
@@ -41,9 +59,10 @@ pub(crate) fn replayed(
         CanBeBook settings.now who journal.now.events) }
     ensures same { IfOk result (λ kept. IfSome kept (λ l. l.book.events ≡ journal.now.events)) }
 {
-    let mut replay = Replay::open(alloc, settings, who)?;
-    let can = keep_all(&mut replay, journal)?;
-    Ok(can.then_some(replay.into_ledger()))
+    match replayed(alloc, settings, who, journal)? {
+        Some(replay) if replay.may_open() => Ok(Some(replay.into_ledger())),
+        _ => Ok(None),
+    }
 }
 
 /// Returns the replayed ledgers of all participants; `None` if one of the journals can't be a book.
@@ -60,7 +79,7 @@ fn all_replayed(
 {
     let mut ledgers = Vec::new(alloc);
     for (who, journal) in journals.iter().enumerate() {
-        match replayed(alloc, settings, who as u8, journal)? {
+        match replayed_book(alloc, settings, who as u8, journal)? {
             Some(ledger) => ledgers.push(ledger)?,
             None => return Ok(None),
         }

@@ -1,8 +1,9 @@
-//! Laws of books as text: functions without a body, whose contract is the law.
+//! Laws of books as text, and of a new chain: functions without a body, whose contract is the law.
 ghost use Rattle.inst_books.specs.Laws.{AnEventReadsBack, AnEventIsAPlainLine, ALineTellsItsEvent};
 ghost use Rattle.inst_books.specs.Laws.{ASoundHistoryCanBeWritten, BooksReadBack};
 ghost use Rattle.inst_books.specs.Laws.{BooksArePlainLines, ATextTellsWhatItsLinesSay};
 ghost use Rattle.inst_books.specs.Laws.{ATextTellsItsBooks};
+ghost use Rattle.inst_books.specs.Positions.{NoOldSubmissionIsTaken};
 
 /// The line of an event is read as the event, in the same book.
 pub fn an_event_reads_back()
@@ -43,4 +44,10 @@ pub fn a_text_tells_what_its_lines_say()
 /// Books with the same text are the same.
 pub fn a_text_tells_its_books()
     ensures { ATextTellsItsBooks }
+{}
+
+/// A hub whose base is after the time stamps of other books takes none of their submissions again, at
+/// any clock reading.
+pub fn no_old_submission_is_taken()
+    ensures { NoOldSubmissionIsTaken }
 {}

@@ -6,11 +6,11 @@ ghost use Rattle.inst_settings.specs.Codes.{index_of};
 ghost use Rattle.inst_settings.specs.Settings.{participants};
 ghost use Rattle.inst_journal.specs.History.{History};
 ghost use Rattle.inst_journal.specs.Money.{position, reserved};
-ghost use Rattle.inst_world.specs.NextOpening.{books_of, CanOpenFrom};
+ghost use Rattle.inst_journal.specs.Sound.{IsSound};
+ghost use Rattle.inst_world.specs.NextOpening.{books_of, AreClosedBooks, CanOpenFrom};
 ghost use Rattle.inst_books.specs.Positions.{CarriesPositions, IsBaseAfter, IsFundedWith};
 ghost use Rattle.inst_books.specs.Positions.{is_before_base, position_of};
 ghost use Rattle.inst_books.specs.inner.Carrying.{AreAllPositions, AreFunded};
-ghost use Rattle.inst_books.specs.inner.Replaying.{CanBeBook};
 
 use crate::audit::{can_open, replayed};
 use inst_base::{Cents, Code, Ident, mention};
@@ -53,8 +53,8 @@ impl From<AllocError> for CarryFault {
 /// `old`. Its fundings have the references `NAME 1`, `NAME 2` and so on, and each is at most the new
 /// ceiling.
 ///
-/// Requires books from which a hub can open (`CanOpenFrom`), and a name of at most 30 characters of
-/// an identifier. Replays the books once.
+/// Requires the books of a closed hub (`AreClosedBooks`), also after the last opening that they can
+/// have, and a name of at most 30 characters of an identifier. Replays the books once.
 ///
 /// # Errors
 ///
@@ -69,7 +69,7 @@ pub fn carry_positions(
     new: &Settings,
     name: &str,
 ) -> Result<Vec<Journal>, CarryFault>
-    requires { CanOpenFrom old.now books.now }
+    requires { AreClosedBooks old.now books.now }
     ensures carried { IfOk result (λ next.
         CarriesPositions old.now books.now new.now next.items) }
     ensures can { IfOk result (λ next. CanOpenFrom new.now next.items) }
@@ -93,7 +93,7 @@ fn settled_positions(
     settings: &Settings,
     books: &[Journal],
 ) -> Result<Vec<u64>, CarryFault>
-    requires { CanOpenFrom settings.now books.now }
+    requires { AreClosedBooks settings.now books.now }
     ensures { IfOk result (λ positions. AreAllPositions books.now positions.items) }
 {
     let mut positions = Vec::new(alloc);
@@ -116,13 +116,14 @@ fn settled_position(
     who: u8,
     journal: &Journal,
 ) -> Result<u64, CarryFault>
-    requires { CanBeBook settings.now who journal.now.events }
+    requires { IsSound settings.now who journal.now.events }
     ensures { IfOk result (λ cents. (cents ≡ position journal.now.events)
         × (reserved journal.now.events ≡ 0)) }
 {
-    let Some(ledger) = replayed(alloc, settings, who, journal)? else {
+    let Some(replay) = replayed(alloc, settings, who, journal)? else {
         unreachable!()
     };
+    let ledger = replay.into_ledger();
     if ledger.reserved() > 0 {
         return Err(CarryFault::Pending(who));
     }
@@ -275,8 +276,8 @@ pub struct PendingTransfer {
     pub deadline: u64,
 }
 
-/// Returns the first pending transfer of the originator `who`, or `None` if there is none or the
-/// journal isn't its book. Replays the journal.
+/// Returns the first pending transfer of the originator `who`, or `None` if there is none or it
+/// can't have this journal. Replays the journal.
 ///
 /// # Errors
 ///
@@ -288,7 +289,7 @@ pub fn first_pending(
     journal: &Journal,
 ) -> Result<Option<PendingTransfer>, AllocError> {
     match replayed(alloc, settings, who, journal)? {
-        Some(ledger) => Ok(pending_in(&ledger, settings)),
+        Some(replay) => Ok(pending_in(&replay.into_ledger(), settings)),
         None => Ok(None),
     }
 }

@@ -1,4 +1,4 @@
--- A world that was closed: its journals can open.
+-- A world that was closed: its journals are closed books.
 use Rattle.std.proofs.Common.{◌≡◌, ℕ, ◌++◌, List, subst, arith}
 use Rattle.inst_settings.specs.Settings.{HubSettings}
 use Rattle.inst_command.specs.declared.step.Step.{Step}
@@ -11,18 +11,17 @@ use Rattle.inst_model.specs.Opening.{Opening, IsOpening}
 use Rattle.inst_model.proofs.BooksAfterClosing.{closing_closes}
 use Rattle.inst_model.proofs.ClosingExists.{there_is_a_closing}
 use Rattle.inst_world.specs.HasRun.{World, HasRun, world_settings}
-use Rattle.inst_world.specs.NextOpening.{AreJournalsOf, CanOpenFrom, HasClosed, books_of}
-use Rattle.inst_world.proofs.JournalsOpenWhereBooksCan.{by_number, few_can_open}
+use Rattle.inst_world.specs.NextOpening.{AreClosedBooks, AreJournalsOf, HasClosed, books_of}
+use Rattle.inst_world.proofs.JournalsOpenWhereBooksCan.{by_number, closed_books}
 
 -- the journals are those of a world whatever it has run
 abbrev pub AreItsJournals : World → List History → Type 0
 AreItsJournals world journals = (O : Opening) (L : List Step) → HasRun O L world → AreJournalsOf (world_settings world) (history (world_settings world) O L) journals
 
-pub closed_can : (world : World) (journals : List History) → HasClosed world → AreItsJournals world journals → ((p : ℕ) → HasOpeningsLeft (books_of journals p))
-    → CanOpenFrom (world_settings world) journals
-closed_can world journals (O, L, steps, run) are few =
+pub its_closed_books : (world : World) (journals : List History) → HasClosed world → AreItsJournals world journals → AreClosedBooks (world_settings world) journals
+its_closed_books world journals (O, L, steps, run) are =
     let s : HubSettings = world_settings world in
-    few_can_open s (history s O (closing s ++ L)) journals (closing_closes s O run.opening L (closing s) steps (there_is_a_closing s)) (are O (closing s ++ L) run) few
+    closed_books s (history s O (closing s ++ L)) journals (closing_closes s O run.opening L (closing s) steps (there_is_a_closing s)) (are O (closing s ++ L) run)
 
 -- where the books were opened from seldom enough their copies were
 pub few_copied : (s : HubSettings) (world : World) (journals : List History) (O : Opening) (L : List Step) → world_settings world ≡ s → IsOpening s O → IsInterleaving s L

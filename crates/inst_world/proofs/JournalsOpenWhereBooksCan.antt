@@ -13,7 +13,7 @@ use Rattle.inst_journal.specs.Sound.{IsSound}
 use Rattle.inst_model.specs.Closing.{AreClosed}
 use Rattle.inst_model.specs.Fit.{BooksFit, BooksAreClosed}
 use Rattle.inst_model.specs.Opening.{BooksCanOpen}
-use Rattle.inst_world.specs.NextOpening.{kept_by, books_of, CanOpenFrom, AreJournalsOf}
+use Rattle.inst_world.specs.NextOpening.{kept_by, books_of, AreClosedBooks, CanOpenFrom, AreJournalsOf}
 use Rattle.inst_world.proofs.PromisesFollowFromLaws.{fitting}
 
 module _ (s : HubSettings) (J : ℕ → List Event) (journals : List History) (can : AreClosed s J) (are : AreJournalsOf s J journals) where
@@ -76,21 +76,23 @@ module _ (s : HubSettings) (J : ℕ → List Event) (journals : List History) (c
         (λ p o told. nobody from o (back from (Booked from id o) (holder from (Taken id to cents stamp) held) (can.closed.originator_booked from id to cents stamp p o sent told))));
   }
 
-  -- where none was opened from too often
-  pub few_can_open : ((p : ℕ) → HasOpeningsLeft (books_of journals p)) → CanOpenFrom s journals
-  few_can_open few = record {
+  pub closed_books : AreClosedBooks s journals
+  closed_books = record {
     one_each = are.one_each;
-    books = record {
-      sound = λ p. by_number (λ K. IsSound s p K) p (can.sound p) tt;
-      closed = closed;
-      few = few;
-    };
+    closed = record { sound = λ p. by_number (λ K. IsSound s p K) p (can.sound p) tt; closed = closed };
   }
+
+-- where none was opened from too often
+pub few_can_open : (s : HubSettings) (journals : List History) → AreClosedBooks s journals → ((p : ℕ) → HasOpeningsLeft (books_of journals p)) → CanOpenFrom s journals
+few_can_open s journals books few = record {
+  one_each = books.one_each;
+  books = record { sound = books.closed.sound; closed = books.closed.closed; few = few };
+}
 
 pub can_open_from : (s : HubSettings) (J : ℕ → List Event) (journals : List History) → BooksCanOpen s J → AreJournalsOf s J journals → CanOpenFrom s journals
 can_open_from s J journals can are =
     let closed : AreClosed s J = record { sound = can.sound; closed = can.closed } in
-    few_can_open s J journals closed are (λ p. by_number s J journals closed are (λ K. HasOpeningsLeft K) p (can.few p) (omega arith))
+    few_can_open s journals (closed_books s J journals closed are) (λ p. by_number s J journals closed are (λ K. HasOpeningsLeft K) p (can.few p) (omega arith))
 
 -- so far none of the journals was opened from too often, nor this one
 pub one_more_few : (journals : List History) (n : ℕ) (journal : History) → n < length journals → journal ≡ get_or journals n journal → HasOpeningsLeft journal.events

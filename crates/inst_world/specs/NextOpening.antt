@@ -7,7 +7,7 @@ use Rattle.inst_settings.specs.Settings.{HubSettings, participants, is_participa
 use Rattle.inst_journal.specs.declared.event.Event.{Event}
 use Rattle.inst_journal.specs.History.{History}
 use Rattle.inst_command.specs.declared.step.Step.{Step}
-use Rattle.inst_model.specs.Closing.{closing, is_telling}
+use Rattle.inst_model.specs.Closing.{AreClosed, closing, is_telling}
 use Rattle.inst_model.specs.Hub.{history}
 use Rattle.inst_model.specs.Interleaving.{IsInterleaving}
 use Rattle.inst_model.specs.Opening.{Opening, BooksCanOpen}
@@ -31,6 +31,12 @@ opening_from journals = FromBooks (books_of journals)
 pub record CanOpenFrom (s : HubSettings) (journals : List History) : Type 0 where
   pub one_each : length journals ≡ participants s
   pub books : BooksCanOpen s (books_of journals)
+
+-- The journals are the closed books of a hub with these settings, one for each participant. A hub
+-- can open from them if each has an opening left.
+pub record AreClosedBooks (s : HubSettings) (journals : List History) : Type 0 where
+  pub one_each : length journals ≡ participants s
+  pub closed : AreClosed s (books_of journals)
 
 -- The journals are the participants' books, one for each in order.
 pub record AreJournalsOf (s : HubSettings) (J : ℕ →

@@ -9,4 +9,4 @@ mod world;
 
 pub use trace::{Answers, Trace};
 pub use two_runs::run_both;
-pub use world::World;
+pub use world::{World, have_openings_left};

@@ -24,6 +24,7 @@ mod next_opening;
 mod stepping;
 
 use crate::trace::Trace;
+pub use closing::have_openings_left;
 use inst_base::{Ident, Moment};
 use inst_board::{Board, Look, PlainBoard};
 use inst_command::{Answer, Items, Lines, Place, Step};

@@ -10,6 +10,7 @@ ghost use Rattle.inst_model.specs.Opening.{Opening};
 ghost use Rattle.inst_model.specs.Transfer.{at_place};
 ghost use Rattle.inst_world.specs.HasRun.{HasRun, HasRunSomething};
 ghost use Rattle.inst_world.specs.NextOpening.{books_of, AreJournalsOf, CanOpenFrom, AreCarried};
+ghost use Rattle.inst_world.specs.NextOpening.{AreClosedBooks};
 ghost use Rattle.inst_world.specs.NextOpening.{HasClosed, HasOnlyTold};
 ghost use Rattle.inst_world.specs.inner.Closing.{HasAllBeneficiaries, HasBeneficiaries};
 
@@ -18,8 +19,9 @@ use inst_command::{Place, Step};
 use inst_journal::Journal;
 use std::alloc::{AllocError, Global};
 
-/// Returns `true` if each journal can be opened from once more. Scans the events of each.
-fn have_openings_left(journals: &[Journal]) -> bool
+/// Returns `true` if each journal can be opened from once more: it has fewer than 500 openings. Scans
+/// the events of each.
+pub fn have_openings_left(journals: &[Journal]) -> bool
     ensures few { result ≡ true → (p : ℕ) → HasOpeningsLeft (books_of journals.now p) }
     ensures many { result ≡ false → ¬ ((p : ℕ) → HasOpeningsLeft (books_of journals.now p)) }
 {
@@ -165,15 +167,37 @@ impl World {
         Ok(journals)
     }
 
-    /// Closes the hub as [`close`](World::close) does, and copies its books for the next opening.
+    /// Closes the hub as [`close`](World::close) does, and copies its books.
     ///
-    /// Returns `None` if a participant's history can't be opened from once more, which is after 500
-    /// openings. Cost: that of `close`, and linear in the events.
+    /// Cost: that of `close`, and linear in the events.
     ///
     /// # Errors
     ///
     /// [`AllocError`], as for [`close`](World::close), or if the copies can't be allocated; the hub
     /// is then closed.
+    pub fn close_books(&mut self, alloc: Global) -> Result<Vec<Journal>, AllocError>
+        ensures books { IfOk result (λ journals. (O : Opening) (L : List Step) → HasRun O L self.old →
+            AreCarried self.old.board.settings O L journals.items) }
+        ensures closed { IfOk result (λ journals.
+            AreClosedBooks self.old.board.settings journals.items) }
+        ensures ran { OnOk result ((O : Opening) (L : List Step) → HasRun O L self.old →
+            HasRun O (closing self.old.board.settings ++ L) self.new) }
+        ensures told { HasOnlyTold self.old self.new }
+        ensures settings { self.new.board.settings ≡ self.old.board.settings }
+    {
+        self.close()?;
+        self.journals(alloc)
+    }
+
+    /// Closes the hub and copies its books as [`close_books`](World::close_books) does, for the next
+    /// opening.
+    ///
+    /// Returns `None` if a participant's history can't be opened from once more, which is after 500
+    /// openings.
+    ///
+    /// # Errors
+    ///
+    /// As for [`close_books`](World::close_books).
     pub fn carry(&mut self, alloc: Global) -> Result<Option<Vec<Journal>>, AllocError>
         ensures books { IfOk result (λ books.
             IfSome books (λ journals. (O : Opening) (L : List Step) → HasRun O L self.old →
@@ -190,8 +214,7 @@ impl World {
         ensures told { HasOnlyTold self.old self.new }
         ensures settings { self.new.board.settings ≡ self.old.board.settings }
     {
-        self.close()?;
-        let journals = self.journals(alloc)?;
+        let journals = self.close_books(alloc)?;
         if !have_openings_left(&journals) {
             return Ok(None);
         }

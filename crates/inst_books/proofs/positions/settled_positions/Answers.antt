@@ -1,6 +1,4 @@
-use Rattle.std.proofs.Common.{◌≡◌, ◌∙◌, ◌<◌, List, [], ◌∷◌, length, length-append, sym, ap, subst, arith}
-use Rattle.inst_journal.specs.declared.event.Event.{Event}
-use Rattle.inst_journal.specs.Opened.{HasOpeningsLeft}
+use Rattle.std.proofs.Common.{◌≡◌, ◌∙◌, ◌<◌, [], ◌∷◌, length, length-append, sym, ap, subst, arith}
 use Rattle.inst_journal.specs.Sound.{IsSound}
 use Rattle.inst_world.specs.NextOpening.{books_of}
 use Rattle.inst_world.proofs.BoardOfReopenedHub.{book_at}
@@ -14,10 +12,7 @@ settled_position-requires c =
     let who = c.loop-who.who in
     let within : c.from.result < length books = omega (arith, c.from.ensures, c.loop-who-test.true, c.participants-who-end.ensures.value, c.requires.one_each) in
     let here : books_of books who ≡ c.index-books-from.result.events = book_at books c.from.result who c.index-books-from.result within c.from.ensures c.index-books-from.is in
-    record {
-      sound = subst (IsSound c.args.settings.now who) here (c.requires.books.sound who);
-      few = subst (λ (J : List Event). HasOpeningsLeft J) here (c.requires.books.few who);
-    }
+    subst (IsSound c.args.settings.now who) here (c.requires.closed.sound who)
 
 pub loop-who-preserved : goal.loop-who-preserved
 loop-who-preserved c =
