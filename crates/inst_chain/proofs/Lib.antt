@@ -5,3 +5,4 @@ pub mod BatchBehindChain
 pub mod LinesWithoutMarks
 mod SummaryOfLines
 mod PlaceOfDamage
+pub mod DigestsAreHexadecimal

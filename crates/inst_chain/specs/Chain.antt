@@ -2,7 +2,8 @@
 -- from the mark before it, that one included; the first mark's digest covers the file from its
 -- beginning. So each digest stands for all bytes before it. A choice of this hub.
 use Rattle.std.specs.Prelude.{◌≡◌, ◌≢◌, ◌⊎◌, ◌<◌, ℕ, Bool, true, false, List, [], ◌∷◌, ◌++◌, length}
-use Rattle.std.specs.Prelude.{◌==◌, ◌&&◌, ◌||◌, not, bytes_eq, if◌then◌else◌, Option, None, Some}
+use Rattle.std.specs.Prelude.{◌==◌, ◌&&◌, ◌||◌, not, bytes_eq, nat_le, if◌then◌else◌, Option, None, Some}
+use Rattle.std.specs.List.{list_all}
 use Rattle.inst_base.specs.Newline.{newline}
 use Rattle.inst_log.specs.Layout.{gate, recovered_lines, blocks, IsShut}
 use Rattle.inst_log.specs.Escape.{escape}
@@ -95,6 +96,18 @@ kept_said settings file = said (lines_after_settings settings file)
 -- The mark whose digest has these characters.
 abbrev pub mark_with : List ℕ → List ℕ
 mark_with text = gate ∷ escape ∷ gate ∷ text
+
+-- A lower-case hexadecimal digit, `0-9 a-f`.
+abbrev pub is_digest_character : ℕ → Bool
+is_digest_character c = (nat_le 48 c && nat_le c 57) || (nat_le 97 c && nat_le c 102)
+
+-- The text of a digest: 64 lower-case hexadecimal digits.
+abbrev pub is_digest : List ℕ → Bool
+is_digest text = length text == 64 && list_all is_digest_character text
+
+-- The digest has such a text.
+abbrev pub IsHexadecimal : Digest → Type 0
+IsHexadecimal digest = is_digest digest.text ≡ true
 
 -- One of the lines is a mark.
 abbrev pub has_mark : List (List ℕ) → Bool

@@ -12,7 +12,7 @@ mod summary;
 mod verifying;
 
 pub use checker::Checker;
-pub use digest::{DIGEST_LEN, Digest};
+pub use digest::{DIGEST_LEN, Digest, is_digest};
 pub use error::ChainError;
 pub use laws::{no_line_is_a_mark, one_digest_one_log};
 pub use marker::{MARK_LEN, Marker, has_digest, has_mark, is_mark, mark_lines};

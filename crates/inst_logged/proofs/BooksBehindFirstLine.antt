@@ -1,5 +1,5 @@
 -- What follows the first line of a log, found again.
-use Rattle.std.proofs.Common.{◌≡◌, ◌∙◌, inl, inr, Option, Some, None, Result, Ok, Err, MatchResult, IsErrAnd, option_map, slice_get, ◌≤◌, ◌+◌, ◌-◌, ℕ, zero, suc, true, List, [], ◌∷◌, ◌++◌, length, length-append, take, drop, append_assoc, refl, sym, ap, subst, arith}
+use Rattle.std.proofs.Common.{◌≡◌, ◌∙◌, inl, inr, Option, Some, None, IfSome, Result, Ok, Err, MatchResult, IsErrAnd, option_map, slice_get, ◌≤◌, ◌+◌, ◌-◌, ℕ, zero, suc, true, List, [], ◌∷◌, ◌++◌, length, length-append, take, drop, append_assoc, refl, sym, ap, ap₂, subst, arith}
 use Rattle.std.specs.Prelude.{bytes_eq}
 use Rattle.std.specs.List.{list_all}
 use Rattle.std.proofs.Math.Seq.{take-append_seam, take-append-add, drop-append_seam}
@@ -25,13 +25,15 @@ use Rattle.inst_log.specs.Escape.{raw_of}
 use Rattle.inst_log.specs.Opening.{lines_after_settings, Begins}
 use Rattle.inst_log.proofs.Lines.{IsLine, AllLines, AllLines-append, all_lines, blocks-append, recovered_at_rest}
 use Rattle.inst_log.proofs.Pieces.{lines_back}
-use Rattle.inst_chain.specs.Chain.{mark_of, front_of}
+use Rattle.inst_chain.specs.Chain.{mark_of, front_of, IsHexadecimal}
+use Rattle.inst_chain.specs.declared.digest.Digest.{Digest}
 use Rattle.inst_chain.specs.Summing.{HasFirst}
 use Rattle.inst_chain.proofs.Chains.{covered}
 use Rattle.inst_lines.specs.declared.mode.Mode.{Mode}
 use Rattle.inst_logged.specs.declared.version.Version.{Version}
 use Rattle.inst_logged.specs.declared.version.Version.TheVariants.{One, Two}
-use Rattle.inst_logged.specs.Header.{lines_and_mark, header_line, header, header_from, lines_of_books, CanBeginFrom, AreFirstLines}
+use Rattle.inst_logged.specs.declared.header.Origin.{Origin}
+use Rattle.inst_logged.specs.Header.{lines_and_mark, header_line, first_origin, origin_from, header, header_from, lines_of_books, CanBeginFrom, AreFirstLines}
 use Rattle.inst_logged.specs.LogHeader.{IsHeaderLine}
 use Rattle.inst_logged.specs.Finding.{Unrefused}
 use Rattle.inst_logged.specs.declared.error.LoggedError.{LoggedError}
@@ -185,33 +187,33 @@ all_take zero lines all = tt
 all_take (suc n) [] all = tt
 all_take (suc n) (line ∷ lines) all = (all.0, all_take n lines all.1)
 
-header_is_line : (version : Version) (mode : Mode) (s : HubSettings) (books : Option ℕ) → list_all is_code s.codes ≡ true → IsLine (header_line version mode s books)
-header_is_line version mode s books formed = (refl, (quiet (header_line version mode s books) (line_printed version mode s books formed)).1)
+header_is_line : (version : Version) (mode : Mode) (s : HubSettings) (origin : Origin) → list_all is_code s.codes ≡ true → IfSome origin.previous IsHexadecimal → IsLine (header_line version mode s origin)
+header_is_line version mode s origin formed hex = (refl, (quiet (header_line version mode s origin) (line_printed version mode s origin formed hex)).1)
 
 marks_are_lines : (version : Version) (lines : Lines) → AllLines lines → AllLines (lines_and_mark version lines)
 marks_are_lines One lines all = all
 marks_are_lines Two lines all =
     AllLines-append lines (mark_of (blocks lines) ∷ []) all (subst AllLines (covered (lines ∷ []) [] tt) (all_lines (front_of (lines ∷ []) ++ [])))
 
-pub lines_from_books : (version : Version) (mode : Mode) (s : HubSettings) (journals : List History) → list_all is_code s.codes ≡ true
-    → recovered_lines (header_from version mode s journals) ≡ lines_and_mark version (header_line version mode s (Some (length (lines_of_books s journals))) ∷ lines_of_books s journals)
+lines_from_books : (version : Version) (mode : Mode) (s : HubSettings) (journals : List History) (previous : Option Digest) → list_all is_code s.codes ≡ true → IfSome previous IsHexadecimal
+    → recovered_lines (header_from version mode s journals previous) ≡ lines_and_mark version (header_line version mode s (origin_from s journals previous) ∷ lines_of_books s journals)
 unfolding header_from
-lines_from_books version mode s journals formed =
-    let lines : Lines = header_line version mode s (Some (length (lines_of_books s journals))) ∷ lines_of_books s journals in
-    recovered_at_rest (lines_and_mark version lines) (marks_are_lines version lines (header_is_line version mode s (Some (length (lines_of_books s journals))) formed, all_lines (books_text s (all_events journals))))
+lines_from_books version mode s journals previous formed hex =
+    let lines : Lines = header_line version mode s (origin_from s journals previous) ∷ lines_of_books s journals in
+    recovered_at_rest (lines_and_mark version lines) (marks_are_lines version lines (header_is_line version mode s (origin_from s journals previous) formed hex, all_lines (books_text s (all_events journals))))
 
 pub lines_of_header : (version : Version) (mode : Mode) (s : HubSettings) → list_all is_code s.codes ≡ true
-    → recovered_lines (header version mode s) ≡ lines_and_mark version (header_line version mode s None ∷ [])
+    → recovered_lines (header version mode s) ≡ lines_and_mark version (header_line version mode s first_origin ∷ [])
 unfolding header
 lines_of_header version mode s formed =
-    let lines : Lines = header_line version mode s None ∷ [] in
-    recovered_at_rest (lines_and_mark version lines) (marks_are_lines version lines (header_is_line version mode s None formed, tt))
+    let lines : Lines = header_line version mode s first_origin ∷ [] in
+    recovered_at_rest (lines_and_mark version lines) (marks_are_lines version lines (header_is_line version mode s first_origin formed tt, tt))
 
 marked_long : (version : Version) (lines : Lines) → length (lines_and_mark version lines) ≤ length lines + 1
 marked_long One lines = omega arith
 marked_long Two lines = omega (arith, length-append lines (mark_of (blocks lines) ∷ []))
 
-pub has_books : (version : Version) (s : HubSettings) (journals : List History) (line : List ℕ) (kept : Lines) (file text : List ℕ) (k : ℕ) → length (lines_of_books s journals) + 2 ≤ k
+has_books : (version : Version) (s : HubSettings) (journals : List History) (line : List ℕ) (kept : Lines) (file text : List ℕ) (k : ℕ) → length (lines_of_books s journals) + 2 ≤ k
     → recovered_lines file ≡ lines_and_mark version (line ∷ lines_of_books s journals) ++ kept → text ≡ blocks (take k (recovered_lines file)) → HasBooks version s journals text
 has_books version s journals line kept file text k long begins is =
     let first = lines_and_mark version (line ∷ lines_of_books s journals) in
@@ -224,6 +226,36 @@ has_books version s journals line kept file text k long begins is =
       lines = lines ∙ ap (take k) begins ∙ ap (λ (n : ℕ). take n (first ++ kept)) split ∙ take-append-add first kept (k - length first);
     }
 
+-- what was read of a log of these books
+pub text_has_books : (version : Version) (mode : Mode) (s : HubSettings) (journals : List History) (previous : Option Digest) (start file text : List ℕ) (k : ℕ) → CanBeginFrom s journals
+    → IsHeaderLine version mode s (origin_from s journals previous) start → Begins (header_from version mode s journals previous) file → length (lines_of_books s journals) + 2 ≤ k
+    → text ≡ blocks (take k (recovered_lines file)) → HasBooks version s journals text
+text_has_books version mode s journals previous start file text k can line begins long is =
+    let header = header_from version mode s journals previous in
+    let lines = begins ∙ ap (λ (ls : Lines). ls ++ lines_after_settings header file) (lines_from_books version mode s journals previous can.books.codes line.digest) in
+    has_books version s journals (header_line version mode s (origin_from s journals previous)) (lines_after_settings header file) file text k long lines is
+
+-- a line that has books isn't that of a hub that opened for the first time
+pub books_said : (found : Origin) (count : ℕ) → found.books ≡ Some count → found ≡ first_origin → ⊥
+books_said found count is same =
+    let no : ◌≡◌ {A = Option ℕ} (Some count) None = sym is ∙ ap (λ (o : Origin). o.books) same in
+    cc no
+
+-- how many lines of books follow
+pub count_said : (s : HubSettings) (journals : List History) (previous : Option Digest) (found : Origin) (count : ℕ) → found.books ≡ Some count → found ≡ origin_from s journals previous
+    → count ≡ length (lines_of_books s journals)
+count_said s journals previous found count is same =
+    let both : Some count ≡ Some (length (lines_of_books s journals)) = sym is ∙ ap (λ (o : Origin). o.books) same in
+    cc both
+
+-- books that were read, with the digest of the first line
+pub books_same : {V : Type 0} (events_of : V → List (List Event)) (read : Option V) (one : V) (events : List (List Event)) (other previous : Option Digest) → option_map events_of read ≡ Some events
+    → read ≡ Some one → other ≡ previous → ◌≡◌ {A = Option (List (List Event) × Option Digest)} (Some (events_of one, other)) (Some (events, previous))
+books_same events_of read one events other previous seen is same =
+    let there : Some (events_of one) ≡ Some events = ap (option_map events_of) (sym is) ∙ seen in
+    let events_same : events_of one ≡ events = cc there in
+    ap₂ (λ (es : List (List Event)) (p : Option Digest). Some (es, p)) events_same same
+
 -- ---- the first line that was read
 
 -- the first line of a log that opened for the first time, or from these journals
@@ -233,20 +265,22 @@ first_read One header file line others is begins = ap (λ (ls : Lines). blocks (
 first_read Two header file line others is begins = ap (λ (ls : Lines). blocks (take 1 ls)) (begins ∙ ap (λ (ls : Lines). ls ++ lines_after_settings header file) is)
 
 pub first_of_header : (version : Version) (mode : Mode) (s : HubSettings) (file text : List ℕ) → AreOfAHub s → Begins (header version mode s) file
-    → text ≡ blocks (take 1 (recovered_lines file)) → IsHeaderLine version mode s None text
+    → text ≡ blocks (take 1 (recovered_lines file)) → IsHeaderLine version mode s first_origin text
 first_of_header version mode s file text of begins is = record {
   settings = of;
   word = tt;
-  line = inr (is ∙ first_read version (header version mode s) file (header_line version mode s None) [] (lines_of_header version mode s of.codes_formed) begins);
+  digest = tt;
+  line = inr (is ∙ first_read version (header version mode s) file (header_line version mode s first_origin) [] (lines_of_header version mode s of.codes_formed) begins);
 }
 
-pub first_of_books : (version : Version) (mode : Mode) (s : HubSettings) (journals : List History) (file text : List ℕ) → CanBeginFrom s journals → Begins (header_from version mode s journals) file
-    → text ≡ blocks (take 1 (recovered_lines file)) → IsHeaderLine version mode s (Some (length (lines_of_books s journals))) text
-first_of_books version mode s journals file text can begins is = record {
+pub first_of_books : (version : Version) (mode : Mode) (s : HubSettings) (journals : List History) (previous : Option Digest) (file text : List ℕ) → CanBeginFrom s journals → IfSome previous IsHexadecimal
+    → Begins (header_from version mode s journals previous) file → text ≡ blocks (take 1 (recovered_lines file)) → IsHeaderLine version mode s (origin_from s journals previous) text
+first_of_books version mode s journals previous file text can hex begins is = record {
   settings = record { lawful = can.books.settings; codes_formed = can.books.codes };
   word = omega (arith, can.few);
-  line = inr (is ∙ first_read version (header_from version mode s journals) file (header_line version mode s (Some (length (lines_of_books s journals)))) (lines_of_books s journals)
-      (lines_from_books version mode s journals can.books.codes) begins);
+  digest = hex;
+  line = inr (is ∙ first_read version (header_from version mode s journals previous) file (header_line version mode s (origin_from s journals previous)) (lines_of_books s journals)
+      (lines_from_books version mode s journals previous can.books.codes hex) begins);
 }
 
 -- the first line of a log, without its newline
@@ -256,31 +290,33 @@ first_alone One header file line others found is begins has = first_is (sym has.
 first_alone Two header file line others found is begins has = first_is (sym has.split ∙ begins ∙ ap (λ (ls : Lines). ls ++ lines_after_settings header file) is)
 
 pub header_of_first : (version : Version) (mode : Mode) (s : HubSettings) (header file found : List ℕ) → AreFirstLines version mode s header → Begins header file → HasFirst (recovered_lines file) found
-    → (books : Option ℕ) × IsHeaderLine version mode s books found
+    → (origin : Origin) × IsHeaderLine version mode s origin found
 header_of_first version mode s h file found (inl (of, same)) begins has = (
-  None,
+  first_origin,
   record {
     settings = of;
     word = tt;
-    line = inl (first_alone version (header version mode s) file (header_line version mode s None) [] found (lines_of_header version mode s of.codes_formed) (subst (λ (l : List ℕ). Begins l file) same begins) has);
+    digest = tt;
+    line = inl (first_alone version (header version mode s) file (header_line version mode s first_origin) [] found (lines_of_header version mode s of.codes_formed) (subst (λ (l : List ℕ). Begins l file) same begins) has);
   },
 )
-header_of_first version mode s h file found (inr (journals, can, same)) begins has = (
-  Some (length (lines_of_books s journals)),
+header_of_first version mode s h file found (inr (journals, previous, can, hex, same)) begins has = (
+  origin_from s journals previous,
   record {
     settings = record { lawful = can.books.settings; codes_formed = can.books.codes };
     word = omega (arith, can.few);
-    line = inl (first_alone version (header_from version mode s journals) file (header_line version mode s (Some (length (lines_of_books s journals)))) (lines_of_books s journals) found
-        (lines_from_books version mode s journals can.books.codes) (subst (λ (l : List ℕ). Begins l file) same begins) has);
+    digest = hex;
+    line = inl (first_alone version (header_from version mode s journals previous) file (header_line version mode s (origin_from s journals previous)) (lines_of_books s journals) found
+        (lines_from_books version mode s journals previous can.books.codes hex) (subst (λ (l : List ℕ). Begins l file) same begins) has);
   },
 )
 
 -- and with it, as it is read
 pub header_of_text : (version : Version) (mode : Mode) (s : HubSettings) (header file text : List ℕ) → AreFirstLines version mode s header → Begins header file → text ≡ blocks (take 1 (recovered_lines file))
-    → (books : Option ℕ) × IsHeaderLine version mode s books text
-header_of_text version mode s h file text (inl (of, same)) begins is = (None, first_of_header version mode s file text of (subst (λ (l : List ℕ). Begins l file) same begins) is)
-header_of_text version mode s h file text (inr (journals, can, same)) begins is =
-    (Some (length (lines_of_books s journals)), first_of_books version mode s journals file text can (subst (λ (l : List ℕ). Begins l file) same begins) is)
+    → (origin : Origin) × IsHeaderLine version mode s origin text
+header_of_text version mode s h file text (inl (of, same)) begins is = (first_origin, first_of_header version mode s file text of (subst (λ (l : List ℕ). Begins l file) same begins) is)
+header_of_text version mode s h file text (inr (journals, previous, can, hex, same)) begins is =
+    (origin_from s journals previous, first_of_books version mode s journals previous file text can hex (subst (λ (l : List ℕ). Begins l file) same begins) is)
 
 -- a log has a line
 begins_some : (version : Version) (header file : List ℕ) (line : List ℕ) (others : Lines) → recovered_lines header ≡ lines_and_mark version (line ∷ others) → Begins header file → recovered_lines file ≡ [] → ⊥
@@ -290,57 +326,55 @@ begins_some Two header file line others is begins none = cc (sym none ∙ begins
 pub log_has_a_line : (version : Version) (mode : Mode) (s : HubSettings) (header file : List ℕ) → AreFirstLines version mode s header → Begins header file → recovered_lines file ≡ [] → ⊥
 log_has_a_line version mode s h file (inl (of, same)) begins =
     begins_some version (header version mode s) file _ [] (lines_of_header version mode s of.codes_formed) (subst (λ (l : List ℕ). Begins l file) same begins)
-log_has_a_line version mode s h file (inr (journals, can, same)) begins =
-    begins_some version (header_from version mode s journals) file _ (lines_of_books s journals) (lines_from_books version mode s journals can.books.codes) (subst (λ (l : List ℕ). Begins l file) same begins)
+log_has_a_line version mode s h file (inr (journals, previous, can, hex, same)) begins =
+    begins_some version (header_from version mode s journals previous) file _ (lines_of_books s journals) (lines_from_books version mode s journals previous can.books.codes hex) (subst (λ (l : List ℕ). Begins l file) same begins)
 
 -- some line is the first, so that its version is found
-module _ (mode : Mode) (s : HubSettings) (first file text : List ℕ) (found : Option Version) (back : (version : Version) (mode : Mode) (s : HubSettings) (books : Option ℕ) → IsHeaderLine version mode s books text → found ≡ Some version)
+module _ (mode : Mode) (s : HubSettings) (first file text : List ℕ) (found : Option Version) (back : (version : Version) (mode : Mode) (s : HubSettings) (origin : Origin) → IsHeaderLine version mode s origin text → found ≡ Some version)
     (version : Version) (are : AreFirstLines version mode s first) (begins : Begins first file) (is : text ≡ blocks (take 1 (recovered_lines file))) where
   pub version_there : found ≡ Some version
-  version_there = at are
-    where
-      at : AreFirstLines version mode s first → found ≡ Some version
-      at (inl (of, same)) = back version mode s None (first_of_header version mode s file text of (subst (λ (l : List ℕ). Begins l file) same begins) is)
-      at (inr (journals, can, same)) =
-          back version mode s (Some (length (lines_of_books s journals))) (first_of_books version mode s journals file text can (subst (λ (l : List ℕ). Begins l file) same begins) is)
+  version_there = let (origin, line) = header_of_text version mode s first file text are begins is in back version mode s origin line
 
   pub version_same : (v : Version) → found ≡ Some v → v ≡ version
   version_same v some = let both : Some v ≡ Some version = sym some ∙ version_there in cc both
 
-from_events : (version : Version) (mode : Mode) (s : HubSettings) (a b : List History) → all_events a ≡ all_events b → header_from version mode s a ≡ header_from version mode s b
+from_events : (version : Version) (mode : Mode) (s : HubSettings) (previous : Option Digest) (a b : List History) → all_events a ≡ all_events b → header_from version mode s a previous ≡ header_from version mode s b previous
 unfolding header_from
-from_events version mode s a b same =
-    ap (λ (ess : List (List Event)). at_rest (lines_and_mark version (raw_of (header_line version mode s (Some (length (recovered_lines (books_text s ess))))) ∷ recovered_lines (books_text s ess)))) same
+from_events version mode s previous a b same =
+    ap (λ (ess : List (List Event)).
+    let books = recovered_lines (books_text s ess) in
+    at_rest (lines_and_mark version (raw_of (header_line version mode s (record { books = Some (length books); previous = previous })) ∷ books))) same
 
 -- what was found of the books
-module _ {V : Type 0} (events_of : V → List (List Event)) (version : Version) (mode : Mode) (s : HubSettings) (first file text : List ℕ) (result : Result (Option V) LoggedError)
-    (finds : FindsBooks events_of version mode s text file result) (are : AreFirstLines version mode s first) (begins : Begins first file) (is : text ≡ blocks (take 1 (recovered_lines file))) where
+module _ {V : Type 0} (books_in : V → List (List Event) × Option Digest) (version : Version) (mode : Mode) (s : HubSettings) (first file text : List ℕ) (result : Result (Option V) LoggedError)
+    (finds : FindsBooks books_in version mode s text file result) (are : AreFirstLines version mode s first) (begins : Begins first file) (is : text ≡ blocks (take 1 (recovered_lines file))) where
   pub books_unrefused : (e : LoggedError) → result ≡ Err e → ¬ IsRefused e
   books_unrefused e failed = at are
     where
       at : AreFirstLines version mode s first → ¬ IsRefused e
       at (inl (of, same)) = unrefused_is _ result e (finds.none (first_of_header version mode s file text of (subst (λ (l : List ℕ). Begins l file) same begins) is)) failed
-      at (inr (journals, can, same)) =
+      at (inr (journals, previous, can, hex, same)) =
           let here = subst (λ (l : List ℕ). Begins l file) same begins in
-          unrefused_is _ result e (finds.some journals can (first_of_books version mode s journals file text can here is) here) failed
+          unrefused_is _ result e (finds.some journals previous can (first_of_books version mode s journals previous file text can hex here is) here) failed
 
   pub none_found : result ≡ Ok None → header version mode s ≡ first
   none_found none = at are
     where
       at : AreFirstLines version mode s first → header version mode s ≡ first
       at (inl (of, same)) = sym same
-      at (inr (journals, can, same)) =
+      at (inr (journals, previous, can, hex, same)) =
           let here = subst (λ (l : List ℕ). Begins l file) same begins in
-          absurd (cc (unrefused_ok _ result None (finds.some journals can (first_of_books version mode s journals file text can here is) here) none))
+          absurd (cc (unrefused_ok _ result None (finds.some journals previous can (first_of_books version mode s journals previous file text can hex here is) here) none))
 
-  pub some_found : (found : V) → result ≡ Ok (Some found) → (again : List History) → events_of found ≡ all_events again → header_from version mode s again ≡ first
+  pub some_found : (found : V) → result ≡ Ok (Some found) → (again : List History) → (books_in found).0 ≡ all_events again → header_from version mode s again (books_in found).1 ≡ first
   some_found found some again same_events = at are
     where
-      at : AreFirstLines version mode s first → header_from version mode s again ≡ first
+      at : AreFirstLines version mode s first → header_from version mode s again (books_in found).1 ≡ first
       at (inl (of, same)) = absurd (cc (unrefused_ok _ result (Some found) (finds.none (first_of_header version mode s file text of (subst (λ (l : List ℕ). Begins l file) same begins) is)) some))
-      at (inr (journals, can, same)) =
+      at (inr (journals, previous, can, hex, same)) =
           let here = subst (λ (l : List ℕ). Begins l file) same begins in
-          let events : ◌≡◌ {A = Option (List (List Event))} (Some (events_of found)) (Some (all_events journals)) =
-          unrefused_ok _ result (Some found) (finds.some journals can (first_of_books version mode s journals file text can here is) here) some in
-          let are_same : events_of found ≡ all_events journals = cc events in
-          from_events version mode s again journals (sym same_events ∙ are_same) ∙ sym same
+          let both : ◌≡◌ {A = Option (List (List Event) × Option Digest)} (Some (books_in found)) (Some (all_events journals, previous)) =
+          unrefused_ok _ result (Some found) (finds.some journals previous can (first_of_books version mode s journals previous file text can hex here is) here) some in
+          let are_same : books_in found ≡ (all_events journals, previous) = cc both in
+          from_events version mode s (books_in found).1 again journals (sym same_events ∙ ap (λ (b : List (List Event) × Option Digest). b.0) are_same)
+          ∙ ap (λ (b : List (List Event) × Option Digest). header_from version mode s journals b.1) are_same ∙ sym same

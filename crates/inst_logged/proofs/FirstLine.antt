@@ -1,5 +1,5 @@
 -- The first line of a log reads back.
-use Rattle.std.proofs.Common.{◌≡◌, ◌⊎◌, inl, inr, ◌-◌, take, drop, MatchOption, true≢false, subst, length-append, ◌<◌, ◌^◌, ◌==◌, ℕ, zero, suc, ◌+◌, ◌/◌, ◌%◌, Bool, true, false, cond, ◌||◌, not, List, [], ◌∷◌, ◌++◌, length, map, codes, decimal, Option, Some, None, IfSome, option_map, Result, Ok, Err, ok_or, append_assoc, refl, sym, ◌∙◌, ap, arith}
+use Rattle.std.proofs.Common.{◌≡◌, ◌⊎◌, inl, inr, ◌-◌, take, drop, MatchOption, true≢false, subst, length-append, ◌<◌, ◌≤◌, ◌^◌, ◌==◌, ℕ, zero, suc, ◌+◌, ◌/◌, ◌%◌, Bool, true, false, cond, ◌||◌, not, List, [], ◌∷◌, ◌++◌, length, map, codes, decimal, Option, Some, None, IfSome, option_map, Result, Ok, Err, ok_or, append_assoc, refl, sym, ◌∙◌, ap, arith}
 use Rattle.std.specs.Prelude.{bytes_eq, unwrap_or}
 use Rattle.std.specs.List.{list_all}
 use Rattle.std.proofs.Math.Seq.{take-append_seam, drop-append_seam}
@@ -16,8 +16,8 @@ use Rattle.json.specs.Tree as tree
 use Rattle.json.specs.Print.{escape, escape_byte}
 use Rattle.json.proofs.Printed.Decimals.{IsNumber-decimal}
 use Rattle.serde_json.specs.Data.{Data, object, array, string}
-use Rattle.serde_json.specs.Read.{read, of_items}
-use Rattle.serde_json.specs.Written.{compact_text, items_text, items_outline}
+use Rattle.serde_json.specs.Read.{read, of_json, of_items}
+use Rattle.serde_json.specs.Written.{compact_text, items_text, outline, items_outline, members_outline}
 use Rattle.serde_json.proofs.Numbers.{number_of-decimal}
 use Rattle.serde_json.proofs.OnLiterals.{serde_json_on_literals}
 use Rattle.inst_base.specs.declared.fault.Fault.{Fault}
@@ -29,19 +29,22 @@ use Rattle.inst_settings.specs.Lawful.{AreOfAHub}
 use Rattle.inst_json.specs.Lines.{json_of}
 use Rattle.inst_json.specs.Replies.{items, members, whole}
 use Rattle.inst_json.proofs.LineAsJson.{json_of-value}
-use Rattle.inst_json.proofs.TextsWithoutEscapes.{escape-code}
+use Rattle.inst_json.proofs.TextsWithoutEscapes.{escape-code, escape_plain, each_weaker}
 use Rattle.inst_json.proofs.ReplyReadsBack.{ReadsBack, from_parts}
 use Rattle.inst_base.specs.Newline.{newline, NoNewline}
-use Rattle.inst_json.specs.Members.{is_printable}
+use Rattle.inst_json.specs.Members.{is_printable, is_plain_character}
+use Rattle.inst_chain.specs.Chain.{IsHexadecimal, is_digest_character}
+use Rattle.inst_chain.specs.declared.digest.Digest.{Digest}
 use Rattle.inst_books.proofs.EventLineIsPrintable.{Printable, joined}
 use Rattle.inst_books.proofs.WrittenEventReadsBack.{quiet}
 use Rattle.inst_lines.specs.declared.mode.Mode.{Mode}
 use Rattle.inst_lines.specs.declared.mode.Mode.TheVariants.{Run, Play}
 use Rattle.inst_logged.specs.declared.version.Version.{Version}
 use Rattle.inst_logged.specs.declared.version.Version.TheVariants.{One, Two}
+use Rattle.inst_logged.specs.declared.header.Origin.{Origin}
 use Rattle.inst_logged.specs.LogHeader.{IsHeaderLine}
-use Rattle.inst_logged.specs.Header.{header_line, version_word, header_field, books_field, mode_field, participants_field, mode_word, quoted_codes, comma_if, quoted}
-use Rattle.inst_logged.specs.inner.LogHeader.{HeaderSays, version_number}
+use Rattle.inst_logged.specs.Header.{header_line, version_word, header_field, books_field, previous_field, mode_field, participants_field, mode_word, quoted_codes, comma_if, quoted}
+use Rattle.inst_logged.specs.inner.LogHeader.{HeaderSays, SaysSettings, version_number}
 
 -- ---- the line as an object
 
@@ -52,8 +55,12 @@ abbrev books_row : Option ℕ → List Row → List Row
 books_row None rows = rows
 books_row (Some count) rows = (codes "books", whole count) ∷ rows
 
-abbrev header_data : Version → Mode → HubSettings → Option ℕ → Data
-header_data version mode s books = object (members (
+abbrev previous_row : Option Digest → List Row → List Row
+previous_row None rows = rows
+previous_row (Some digest) rows = (codes "previous", string digest.text) ∷ rows
+
+abbrev header_data : Version → Mode → HubSettings → Option ℕ → Option Digest → Data
+header_data version mode s books previous = object (members (
     (codes "ahead", whole s.ahead)
     ∷ (codes "base", whole s.base)
     ∷ books_row books (
@@ -64,21 +71,22 @@ header_data version mode s books = object (members (
     ∷ (codes "margin", whole s.margin)
     ∷ (codes "participants", array (items (map string s.codes)))
     ∷ (codes "places", whole s.places)
-    ∷ (codes "version", whole (version_number version)) ∷ [])))
+    ∷ previous_row previous ((codes "version", whole (version_number version)) ∷ []))))
 
-header_says : (version : Version) (mode : Mode) (s : HubSettings) (books : Option ℕ) → HeaderSays version mode s books (header_data version mode s books)
-header_says version mode s None = record {
-  version_is = refl;
-  mode_is = refl;
-  books_are = refl;
-  settings = record { participants = refl; places = refl; fundings = refl; limit = refl; margin = refl; ahead = refl; ceiling = refl; base = refl };
-}
-header_says version mode s (Some count) = record {
-  version_is = refl;
-  mode_is = refl;
-  books_are = refl;
-  settings = record { participants = refl; places = refl; fundings = refl; limit = refl; margin = refl; ahead = refl; ceiling = refl; base = refl };
-}
+-- ---- its members
+
+module _ (version : Version) (mode : Mode) (s : HubSettings) where
+  settings_said : (books : Option ℕ) (previous : Option Digest) → SaysSettings s (header_data version mode s books previous)
+  settings_said None None = record { participants = refl; places = refl; fundings = refl; limit = refl; margin = refl; ahead = refl; ceiling = refl; base = refl }
+  settings_said None (Some digest) = record { participants = refl; places = refl; fundings = refl; limit = refl; margin = refl; ahead = refl; ceiling = refl; base = refl }
+  settings_said (Some count) None = record { participants = refl; places = refl; fundings = refl; limit = refl; margin = refl; ahead = refl; ceiling = refl; base = refl }
+  settings_said (Some count) (Some digest) = record { participants = refl; places = refl; fundings = refl; limit = refl; margin = refl; ahead = refl; ceiling = refl; base = refl }
+
+  header_says : (books : Option ℕ) (previous : Option Digest) → IfSome previous IsHexadecimal → HeaderSays version mode s (record { books = books; previous = previous }) (header_data version mode s books previous)
+  header_says None None formed = record { version_is = refl; mode_is = refl; origin_is = record { lines = refl; text = refl; digest = formed }; settings = settings_said None None }
+  header_says None (Some digest) formed = record { version_is = refl; mode_is = refl; origin_is = record { lines = refl; text = refl; digest = formed }; settings = settings_said None (Some digest) }
+  header_says (Some count) None formed = record { version_is = refl; mode_is = refl; origin_is = record { lines = refl; text = refl; digest = formed }; settings = settings_said (Some count) None }
+  header_says (Some count) (Some digest) formed = record { version_is = refl; mode_is = refl; origin_is = record { lines = refl; text = refl; digest = formed }; settings = settings_said (Some count) (Some digest) }
 
 -- ---- its text
 
@@ -103,27 +111,40 @@ unfolding digits
 version_text One = refl
 version_text Two = refl
 
--- eleven pieces, one behind the other
-flat : (a b c d e f g h i j k : List ℕ) → a ++ b ++ c ++ d ++ e ++ f ++ g ++ h ++ i ++ j ++ k ≡ a ++ (b ++ (c ++ (d ++ (e ++ (f ++ (g ++ (h ++ (i ++ (j ++ k)))))))))
-flat a b c d e f g h i j k = simp append_assoc
+plain_digit : (x : ℕ) → is_digest_character x ≡ true → is_plain_character x ≡ true
+plain_digit x h = grind (arith, nat_tests)
+
+digits_of : (digest : Digest) → IsHexadecimal digest → list_all is_digest_character digest.text ≡ true
+digits_of digest formed = (and_parts (length digest.text == 64) (list_all is_digest_character digest.text) formed).1
+
+-- a digest stands in quotes as it is
+digest_plain : (digest : Digest) → IsHexadecimal digest → escape digest.text ≡ digest.text
+digest_plain digest formed = escape_plain digest.text (each_weaker is_digest_character is_plain_character plain_digit digest.text (digits_of digest formed))
+
+-- twelve pieces, one after the other
+flat : (a b c d e f g h i j k l : List ℕ) → a ++ b ++ c ++ d ++ e ++ f ++ g ++ h ++ i ++ j ++ k ++ l ≡ a ++ (b ++ (c ++ (d ++ (e ++ (f ++ (g ++ (h ++ (i ++ (j ++ (k ++ l))))))))))
+flat a b c d e f g h i j k l = simp append_assoc
 
 module _ (version : Version) (mode : Mode) (s : HubSettings) (formed : list_all is_code s.codes ≡ true) where
-  abbrev after_codes : List ℕ
-  after_codes = codes ",\"places\":" ++ (decimal s.places ++ 44 ∷ version_word version)
+  abbrev after_codes : Option Digest → List ℕ
+  after_codes previous = codes ",\"places\":" ++ (decimal s.places ++ (previous_field previous ++ 44 ∷ version_word version))
 
-  codes_text : (quoted_codes false s.codes ++ 93 ∷ []) ++ after_codes ≡ items_text false (items (map string s.codes)) ++ after_codes
-  codes_text = append_assoc (quoted_codes false s.codes) (93 ∷ []) after_codes ∙ listed_text false s.codes after_codes formed
+  codes_text : (previous : Option Digest) → (quoted_codes false s.codes ++ 93 ∷ []) ++ after_codes previous ≡ items_text false (items (map string s.codes)) ++ after_codes previous
+  codes_text previous = append_assoc (quoted_codes false s.codes) (93 ∷ []) (after_codes previous) ∙ listed_text false s.codes (after_codes previous) formed
 
-  line_is : (books : Option ℕ) → header_line version mode s books ≡ compact_text (header_data version mode s books)
+  pieces : (books : Option ℕ) (previous : Option Digest) → header_line version mode s (record { books = books; previous = previous }) ≡ header_field (codes "{\"ahead\":") s.ahead
+      ++ (header_field (codes ",\"base\":") s.base ++ (books_field books ++ (header_field (codes ",\"ceiling\":") s.ceiling ++ (header_field (codes ",\"fundings\":") s.fundings ++ (header_field (codes ",\"limit\":") s.limit
+      ++ (mode_field mode ++ (header_field (codes ",\"margin\":") s.margin ++ (participants_field s.codes ++ (header_field (codes ",\"places\":") s.places ++ (previous_field previous ++ 44 ∷ version_word version))))))))))
+  pieces books previous =
+      flat (header_field (codes "{\"ahead\":") s.ahead) (header_field (codes ",\"base\":") s.base) (books_field books) (header_field (codes ",\"ceiling\":") s.ceiling) (header_field (codes ",\"fundings\":") s.fundings)
+      (header_field (codes ",\"limit\":") s.limit) (mode_field mode) (header_field (codes ",\"margin\":") s.margin) (participants_field s.codes) (header_field (codes ",\"places\":") s.places) (previous_field previous) (44 ∷ version_word version)
+
+  line_is : (books : Option ℕ) (previous : Option Digest) → IfSome previous IsHexadecimal → header_line version mode s (record { books = books; previous = previous }) ≡ compact_text (header_data version mode s books previous)
   unfolding serde_json_on_literals
-  line_is None =
-      flat (header_field (codes "{\"ahead\":") s.ahead) (header_field (codes ",\"base\":") s.base) [] (header_field (codes ",\"ceiling\":") s.ceiling) (header_field (codes ",\"fundings\":") s.fundings)
-      (header_field (codes ",\"limit\":") s.limit) (mode_field mode) (header_field (codes ",\"margin\":") s.margin) (participants_field s.codes) (header_field (codes ",\"places\":") s.places) (44 ∷ version_word version)
-      ∙ rw (codes_text, version_text version, mode_plain mode) refl
-  line_is (Some count) =
-      flat (header_field (codes "{\"ahead\":") s.ahead) (header_field (codes ",\"base\":") s.base) (header_field (codes ",\"books\":") count) (header_field (codes ",\"ceiling\":") s.ceiling) (header_field (codes ",\"fundings\":") s.fundings)
-      (header_field (codes ",\"limit\":") s.limit) (mode_field mode) (header_field (codes ",\"margin\":") s.margin) (participants_field s.codes) (header_field (codes ",\"places\":") s.places) (44 ∷ version_word version)
-      ∙ rw (codes_text, version_text version, mode_plain mode) refl
+  line_is None None hex = pieces None None ∙ rw (codes_text None, version_text version, mode_plain mode) refl
+  line_is None (Some digest) hex = pieces None (Some digest) ∙ rw (codes_text (Some digest), version_text version, mode_plain mode, digest_plain digest hex) refl
+  line_is (Some count) None hex = pieces (Some count) None ∙ rw (codes_text None, version_text version, mode_plain mode) refl
+  line_is (Some count) (Some digest) hex = pieces (Some count) (Some digest) ∙ rw (codes_text (Some digest), version_text version, mode_plain mode, digest_plain digest hex) refl
 
 -- ---- it reads back
 
@@ -171,85 +192,79 @@ module _ (version : Version) (mode : Mode) (s : HubSettings) (of : AreOfAHub s) 
   told : IsSmall (version_number version)
   told = version_small version
 
-  data_reads : (books : Option ℕ) → IfSome books IsSmall → ReadsBack (header_data version mode s books)
+  last_numbers : (previous : Option Digest) → tree.MembersHaveNumbers (members_outline (members (previous_row previous ((codes "version", whole (version_number version)) ∷ []))))
+  last_numbers None = (IsNumber-decimal (version_number version) told, tt)
+  last_numbers (Some digest) = (tt, (IsNumber-decimal (version_number version) told, tt))
+
+  data_numbers : (books : Option ℕ) (previous : Option Digest) → IfSome books IsSmall → tree.HasNumbers (outline (header_data version mode s books previous))
+  data_numbers None previous small = (IsNumber-decimal s.ahead ahead, (IsNumber-decimal s.base base, (IsNumber-decimal s.ceiling ceiling, (IsNumber-decimal s.fundings fundings, (IsNumber-decimal s.limit limit, (tt, (IsNumber-decimal s.margin margin, (texts_numbers s.codes, (IsNumber-decimal s.places places, last_numbers previous)))))))))
+  data_numbers (Some count) previous small = (IsNumber-decimal s.ahead ahead, (IsNumber-decimal s.base base, (IsNumber-decimal count small, (IsNumber-decimal s.ceiling ceiling, (IsNumber-decimal s.fundings fundings, (IsNumber-decimal s.limit limit, (tt, (IsNumber-decimal s.margin margin, (texts_numbers s.codes, (IsNumber-decimal s.places places, last_numbers previous))))))))))
+
+  data_again : (books : Option ℕ) (previous : Option Digest) → IfSome books IsSmall → of_json (outline (header_data version mode s books previous)) ≡ Some (header_data version mode s books previous)
   unfolding serde_json_on_literals
-  data_reads None small =
-      record {
-        numbers = (
-          IsNumber-decimal s.ahead ahead,
-          (
-            IsNumber-decimal s.base base,
-            (
-              IsNumber-decimal s.ceiling ceiling,
-              (
-                IsNumber-decimal s.fundings fundings,
-                (
-                  IsNumber-decimal s.limit limit,
-                  (tt, (IsNumber-decimal s.margin margin, (texts_numbers s.codes, (IsNumber-decimal s.places places, (IsNumber-decimal (version_number version) told, tt))))),
-                ),
-              ),
-            ),
-          ),
-        );
-        again = rw (
-          number_of-decimal s.ahead ahead,
-          number_of-decimal s.base base,
-          number_of-decimal s.ceiling ceiling,
-          number_of-decimal s.fundings fundings,
-          number_of-decimal s.limit limit,
-          number_of-decimal s.margin margin,
-          texts_again s.codes,
-          number_of-decimal s.places places,
-          number_of-decimal (version_number version) told,
-        ) refl;
-        shallow = omega (arith, texts_depth s.codes);
-      }
-  data_reads (Some count) small =
-      record {
-        numbers = (
-          IsNumber-decimal s.ahead ahead,
-          (
-            IsNumber-decimal s.base base,
-            (
-              IsNumber-decimal count small,
-              (
-                IsNumber-decimal s.ceiling ceiling,
-                (
-                  IsNumber-decimal s.fundings fundings,
-                  (
-                    IsNumber-decimal s.limit limit,
-                    (tt, (IsNumber-decimal s.margin margin, (texts_numbers s.codes, (IsNumber-decimal s.places places, (IsNumber-decimal (version_number version) told, tt))))),
-                  ),
-                ),
-              ),
-            ),
-          ),
-        );
-        again = rw (
-          number_of-decimal s.ahead ahead,
-          number_of-decimal s.base base,
-          number_of-decimal count small,
-          number_of-decimal s.ceiling ceiling,
-          number_of-decimal s.fundings fundings,
-          number_of-decimal s.limit limit,
-          number_of-decimal s.margin margin,
-          texts_again s.codes,
-          number_of-decimal s.places places,
-          number_of-decimal (version_number version) told,
-        ) refl;
-        shallow = omega (arith, texts_depth s.codes);
-      }
+  data_again None None small = rw (
+    number_of-decimal s.ahead ahead,
+    number_of-decimal s.base base,
+    number_of-decimal s.ceiling ceiling,
+    number_of-decimal s.fundings fundings,
+    number_of-decimal s.limit limit,
+    number_of-decimal s.margin margin,
+    texts_again s.codes,
+    number_of-decimal s.places places,
+    number_of-decimal (version_number version) told,
+  ) refl
+  data_again None (Some digest) small = rw (
+    number_of-decimal s.ahead ahead,
+    number_of-decimal s.base base,
+    number_of-decimal s.ceiling ceiling,
+    number_of-decimal s.fundings fundings,
+    number_of-decimal s.limit limit,
+    number_of-decimal s.margin margin,
+    texts_again s.codes,
+    number_of-decimal s.places places,
+    number_of-decimal (version_number version) told,
+  ) refl
+  data_again (Some count) None small = rw (
+    number_of-decimal s.ahead ahead,
+    number_of-decimal s.base base,
+    number_of-decimal count small,
+    number_of-decimal s.ceiling ceiling,
+    number_of-decimal s.fundings fundings,
+    number_of-decimal s.limit limit,
+    number_of-decimal s.margin margin,
+    texts_again s.codes,
+    number_of-decimal s.places places,
+    number_of-decimal (version_number version) told,
+  ) refl
+  data_again (Some count) (Some digest) small = rw (
+    number_of-decimal s.ahead ahead,
+    number_of-decimal s.base base,
+    number_of-decimal count small,
+    number_of-decimal s.ceiling ceiling,
+    number_of-decimal s.fundings fundings,
+    number_of-decimal s.limit limit,
+    number_of-decimal s.margin margin,
+    texts_again s.codes,
+    number_of-decimal s.places places,
+    number_of-decimal (version_number version) told,
+  ) refl
+
+  data_shallow : (books : Option ℕ) (previous : Option Digest) → tree.depth (outline (header_data version mode s books previous)) ≤ 3
+  data_shallow None None = omega (arith, texts_depth s.codes)
+  data_shallow None (Some digest) = omega (arith, texts_depth s.codes)
+  data_shallow (Some count) None = omega (arith, texts_depth s.codes)
+  data_shallow (Some count) (Some digest) = omega (arith, texts_depth s.codes)
+
+  data_reads : (books : Option ℕ) (previous : Option Digest) → IfSome books IsSmall → ReadsBack (header_data version mode s books previous)
+  data_reads books previous small = record { numbers = data_numbers books previous small; again = data_again books previous small; shallow = data_shallow books previous }
 
 -- ---- its bytes
 
-each : (text : List ℕ) → list_all is_code_character text ≡ true → Printable text
-each [] h = refl
-each (x ∷ text) h =
-    let parts = and_parts (is_code_character x) (list_all is_code_character text) h in
-    rw (one x parts.0, each text parts.1) refl
-  where
-    one : (x : ℕ) → is_code_character x ≡ true → is_printable x ≡ true
-    one x h = grind (arith, nat_tests)
+printed_character : (x : ℕ) → is_code_character x ≡ true → is_printable x ≡ true
+printed_character x h = grind (arith, nat_tests)
+
+printed_digit : (x : ℕ) → is_digest_character x ≡ true → is_printable x ≡ true
+printed_digit x h = grind (arith, nat_tests)
 
 digit : (d : ℕ) → d < 10 → is_printable (digit_glyph false d) ≡ true
 digit d h = grind (arith, nat_tests)
@@ -271,6 +286,11 @@ printed_books : (books : Option ℕ) → Printable (books_field books)
 printed_books None = refl
 printed_books (Some count) = printed (codes ",\"books\":") count refl
 
+printed_previous : (previous : Option Digest) → IfSome previous IsHexadecimal → Printable (previous_field previous)
+printed_previous None formed = refl
+printed_previous (Some digest) formed =
+    joined (codes ",\"previous\":\"") (digest.text ++ 34 ∷ []) refl (joined digest.text (34 ∷ []) (each_weaker is_digest_character is_printable printed_digit digest.text (digits_of digest formed)) refl)
+
 printed_mode : (mode : Mode) → Printable (mode_field mode)
 printed_mode Run = refl
 printed_mode Play = refl
@@ -287,18 +307,18 @@ printed_codes : (later : Bool) (cs : List (List ℕ)) → list_all is_code cs �
 printed_codes later [] formed = refl
 printed_codes later (c ∷ cs) formed =
     let parts = and_parts (is_code c) (list_all is_code cs) formed in
-    let code : Printable c = each c (and_parts (length c == 8 || length c == 11) (list_all is_code_character c) parts.0).1 in
+    let code : Printable c = each_weaker is_code_character is_printable printed_character c (and_parts (length c == 8 || length c == 11) (list_all is_code_character c) parts.0).1 in
     joined (comma_if later ++ quoted c) (quoted_codes true cs) (joined (comma_if later) (quoted c) (printed_comma later) (joined c (34 ∷ []) code refl)) (printed_codes true cs parts.1)
 
 printed_participants : (cs : List (List ℕ)) → list_all is_code cs ≡ true → Printable (participants_field cs)
 printed_participants cs formed =
     joined (codes ",\"participants\":[" ++ quoted_codes false cs) (codes "]") (joined (codes ",\"participants\":[") (quoted_codes false cs) refl (printed_codes false cs formed)) refl
 
-pub line_printed : (version : Version) (mode : Mode) (s : HubSettings) (books : Option ℕ) → list_all is_code s.codes ≡ true → Printable (header_line version mode s books)
-line_printed version mode s books formed =
+pub line_printed : (version : Version) (mode : Mode) (s : HubSettings) (origin : Origin) → list_all is_code s.codes ≡ true → IfSome origin.previous IsHexadecimal → Printable (header_line version mode s origin)
+line_printed version mode s origin formed hex =
     let x1 : List ℕ = header_field (codes "{\"ahead\":") s.ahead in
     let x2 = x1 ++ header_field (codes ",\"base\":") s.base in
-    let x3 = x2 ++ books_field books in
+    let x3 = x2 ++ books_field origin.books in
     let x4 = x3 ++ header_field (codes ",\"ceiling\":") s.ceiling in
     let x5 = x4 ++ header_field (codes ",\"fundings\":") s.fundings in
     let x6 = x5 ++ header_field (codes ",\"limit\":") s.limit in
@@ -306,7 +326,9 @@ line_printed version mode s books formed =
     let x8 = x7 ++ header_field (codes ",\"margin\":") s.margin in
     let x9 = x8 ++ participants_field s.codes in
     let x10 = x9 ++ header_field (codes ",\"places\":") s.places in
-    joined x10 (44 ∷ version_word version) (
+    let x11 = x10 ++ previous_field origin.previous in
+    joined x11 (44 ∷ version_word version) (
+    joined x10 (previous_field origin.previous) (
     joined x9 (header_field (codes ",\"places\":") s.places) (
     joined x8 (participants_field s.codes) (
     joined x7 (header_field (codes ",\"margin\":") s.margin) (
@@ -314,11 +336,11 @@ line_printed version mode s books formed =
     joined x5 (header_field (codes ",\"limit\":") s.limit) (
     joined x4 (header_field (codes ",\"fundings\":") s.fundings) (
     joined x3 (header_field (codes ",\"ceiling\":") s.ceiling) (
-    joined x2 (books_field books) (
+    joined x2 (books_field origin.books) (
     joined x1 (header_field (codes ",\"base\":") s.base)
     (printed (codes "{\"ahead\":") s.ahead refl) (printed (codes ",\"base\":") s.base refl))
-    (printed_books books)) (printed (codes ",\"ceiling\":") s.ceiling refl)) (printed (codes ",\"fundings\":") s.fundings refl)) (printed (codes ",\"limit\":") s.limit refl))
-    (printed_mode mode)) (printed (codes ",\"margin\":") s.margin refl)) (printed_participants s.codes formed)) (printed (codes ",\"places\":") s.places refl)) (printed_version version)
+    (printed_books origin.books)) (printed (codes ",\"ceiling\":") s.ceiling refl)) (printed (codes ",\"fundings\":") s.fundings refl)) (printed (codes ",\"limit\":") s.limit refl))
+    (printed_mode mode)) (printed (codes ",\"margin\":") s.margin refl)) (printed_participants s.codes formed)) (printed (codes ",\"places\":") s.places refl)) (printed_previous origin.previous hex)) (printed_version version)
 
 low : (x : ℕ) → is_printable x ≡ true → x < 128
 low x h = grind (arith, nat_tests)
@@ -327,31 +349,31 @@ abbrev as_json : Option Value → Result Data Fault
 as_json read = ok_or (option_map view read) NotJson
 
 -- what is read of a first line whose newline is gone
-module _ (version : Version) (mode : Mode) (s : HubSettings) (books : Option ℕ) {bytes line : List ℕ} (first : IsHeaderLine version mode s books bytes)
+module _ (version : Version) (mode : Mode) (s : HubSettings) (origin : Origin) {bytes line : List ℕ} (first : IsHeaderLine version mode s origin bytes)
     (bare : (text : List ℕ) → NoNewline text → (bytes ≡ text) ⊎ (bytes ≡ text ++ newline ∷ []) → line ≡ text) where
-  pub bare_line : line ≡ header_line version mode s books
+  pub bare_line : line ≡ header_line version mode s origin
   bare_line =
-      let text = header_line version mode s books in
-      bare text (quiet text (line_printed version mode s books first.settings.codes_formed)) first.line
+      let text = header_line version mode s origin in
+      bare text (quiet text (line_printed version mode s origin first.settings.codes_formed first.digest)) first.line
 
-  its_json : Ok (header_data version mode s books) ≡ json_of line
+  its_json : Ok (header_data version mode s origin.books origin.previous) ≡ json_of line
   its_json =
-      let text = header_line version mode s books in
-      let d = header_data version mode s books in
+      let text = header_line version mode s origin in
+      let d = header_data version mode s origin.books origin.previous in
       let formed = first.settings.codes_formed in
-      let utf8 : IsUtf8 text = IsUtf8-from_ascii text (IsAscii-from_each is_printable low text (line_printed version mode s books formed)) in
-      let again : read text ≡ Some d = ap read (line_is version mode s formed books) ∙ from_parts d (data_reads version mode s first.settings books first.word) in
+      let utf8 : IsUtf8 text = IsUtf8-from_ascii text (IsAscii-from_each is_printable low text (line_printed version mode s origin formed first.digest)) in
+      let again : read text ≡ Some d = ap read (line_is version mode s formed origin.books origin.previous first.digest) ∙ from_parts d (data_reads version mode s first.settings origin.books origin.previous first.word) in
       json_of-value text d utf8 again ∙ ap json_of (sym bare_line)
 
-  pub says : (read : Option Value) (value : Value) → as_json read ≡ json_of line → read ≡ Some value → HeaderSays version mode s books (view value)
+  pub says : (read : Option Value) (value : Value) → as_json read ≡ json_of line → read ≡ Some value → HeaderSays version mode s origin (view value)
   says read value json is =
-      let same : Ok (header_data version mode s books) ≡ Ok (view value) = its_json ∙ sym json ∙ ap as_json is in
-      let here : header_data version mode s books ≡ view value = cc same in
-      subst (HeaderSays version mode s books) here (header_says version mode s books)
+      let same : Ok (header_data version mode s origin.books origin.previous) ≡ Ok (view value) = its_json ∙ sym json ∙ ap as_json is in
+      let here : header_data version mode s origin.books origin.previous ≡ view value = cc same in
+      subst (HeaderSays version mode s origin) here (header_says version mode s origin.books origin.previous first.digest)
 
   pub no_json : (read : Option Value) → as_json read ≡ json_of line → read ≡ None → ⊥
   no_json read json is =
-      let same : Ok (header_data version mode s books) ≡ Err NotJson = its_json ∙ sym json ∙ ap as_json is in
+      let same : Ok (header_data version mode s origin.books origin.previous) ≡ Err NotJson = its_json ∙ sym json ∙ ap as_json is in
       cc same
 
 -- ---- codes that are read one by one

@@ -1,5 +1,5 @@
 -- Different settings have different headers.
-use Rattle.std.proofs.Common.{◌≡◌, ◌≢◌, ◌^◌, ℕ, ◌<◌, Bool, true, false, ◌==◌, ◌||◌, None, List, [], ◌∷◌, ◌++◌, length, length-append, take, drop, get_or, codes, decimal, append_assoc, refl, sym, ◌∙◌, ap, ap₂, arith}
+use Rattle.std.proofs.Common.{◌≡◌, ◌≢◌, ◌^◌, ℕ, ◌<◌, Bool, true, false, ◌==◌, ◌||◌, List, [], ◌∷◌, ◌++◌, length, length-append, take, drop, get_or, codes, decimal, append_assoc, refl, sym, ◌∙◌, ap, ap₂, arith}
 use Rattle.std.specs.List.{list_all, AllByRecursion}
 use Rattle.std.specs.Str.Parse.{AllDigits}
 use Rattle.std.proofs.lemmas.Bool.{and_parts, false≢true}
@@ -16,7 +16,7 @@ use Rattle.inst_chain.specs.Chain.{mark_of}
 use Rattle.inst_chain.proofs.LinesWithoutMarks.{length-mark_of}
 use Rattle.inst_logged.specs.declared.version.Version.{Version}
 use Rattle.inst_logged.specs.declared.version.Version.TheVariants.{One, Two}
-use Rattle.inst_logged.specs.Header.{header, header_line, lines_and_mark, version_word, header_field, mode_field, participants_field, mode_word, quoted_codes, comma_if, quoted, HeadersTellTheirSettings}
+use Rattle.inst_logged.specs.Header.{header, header_line, first_origin, lines_and_mark, version_word, header_field, mode_field, participants_field, mode_word, quoted_codes, comma_if, quoted, HeadersTellTheirSettings}
 
 -- no byte is this one
 abbrev Lacks : ℕ → List ℕ → Type 0
@@ -132,9 +132,9 @@ module _ (version : Version) where
   abbrev after_ahead : Mode → HubSettings → List ℕ
   after_ahead mode u = codes "\"base\":" ++ (decimal u.base ++ 44 ∷ after_base mode u)
 
-  -- eleven pieces, one behind the other
-  flat : (a b c d e f g h i j k : List ℕ) → a ++ b ++ c ++ d ++ e ++ f ++ g ++ h ++ i ++ j ++ k ≡ a ++ (b ++ (c ++ (d ++ (e ++ (f ++ (g ++ (h ++ (i ++ (j ++ k)))))))))
-  flat a b c d e f g h i j k =
+  -- twelve pieces, one after the other
+  flat : (a b c d e f g h i j k l : List ℕ) → a ++ b ++ c ++ d ++ e ++ f ++ g ++ h ++ i ++ j ++ k ++ l ≡ a ++ (b ++ (c ++ (d ++ (e ++ (f ++ (g ++ (h ++ (i ++ (j ++ (k ++ l))))))))))
+  flat a b c d e f g h i j k l =
       let x2 = a ++ b in
       let x3 = x2 ++ c in
       let x4 = x3 ++ d in
@@ -143,7 +143,9 @@ module _ (version : Version) where
       let x7 = x6 ++ g in
       let x8 = x7 ++ h in
       let x9 = x8 ++ i in
-      let y10 = j ++ k in
+      let x10 = x9 ++ j in
+      let y11 = k ++ l in
+      let y10 = j ++ y11 in
       let y9 = i ++ y10 in
       let y8 = h ++ y9 in
       let y7 = g ++ y8 in
@@ -151,13 +153,13 @@ module _ (version : Version) where
       let y5 = e ++ y6 in
       let y4 = d ++ y5 in
       let y3 = c ++ y4 in
-      append_assoc x9 j k ∙ append_assoc x8 i y10 ∙ append_assoc x7 h y9 ∙ append_assoc x6 g y8 ∙ append_assoc x5 f y7 ∙ append_assoc x4 e y6 ∙ append_assoc x3 d y5
+      append_assoc x10 k l ∙ append_assoc x9 j y11 ∙ append_assoc x8 i y10 ∙ append_assoc x7 h y9 ∙ append_assoc x6 g y8 ∙ append_assoc x5 f y7 ∙ append_assoc x4 e y6 ∙ append_assoc x3 d y5
       ∙ append_assoc x2 c y4 ∙ append_assoc a b y3
 
-  line_is : (mode : Mode) (u : HubSettings) → header_line version mode u None ≡ codes "{\"ahead\":" ++ (decimal u.ahead ++ 44 ∷ after_ahead mode u)
+  line_is : (mode : Mode) (u : HubSettings) → header_line version mode u first_origin ≡ codes "{\"ahead\":" ++ (decimal u.ahead ++ 44 ∷ after_ahead mode u)
   line_is mode u =
       flat (header_field (codes "{\"ahead\":") u.ahead) (header_field (codes ",\"base\":") u.base) [] (header_field (codes ",\"ceiling\":") u.ceiling) (header_field (codes ",\"fundings\":") u.fundings)
-      (header_field (codes ",\"limit\":") u.limit) (mode_field mode) (header_field (codes ",\"margin\":") u.margin) (participants_field u.codes) (header_field (codes ",\"places\":") u.places) (44 ∷ version_word version)
+      (header_field (codes ",\"limit\":") u.limit) (mode_field mode) (header_field (codes ",\"margin\":") u.margin) (participants_field u.codes) (header_field (codes ",\"places\":") u.places) [] (44 ∷ version_word version)
 
   module _ (mode other : Mode) (s t : HubSettings) (of : AreOfAHub s) (of' : AreOfAHub t) where
     codes_tell : after_margin s ≡ after_margin t → (s.codes ≡ t.codes) × (s.places ≡ t.places)
@@ -168,7 +170,7 @@ module _ (version : Version) where
         (sym (as_read s) ∙ ap (drop 16) e ∙ as_read t) in
         (both.0, (number_then s.places t.places _ _ (omega (arith, of.lawful.places_most)) (omega (arith, of'.lawful.places_most)) (ap (drop 10) both.1)).0)
 
-    lines_tell : header_line version mode s None ≡ header_line version other t None → (mode ≡ other) × (s ≡ t)
+    lines_tell : header_line version mode s first_origin ≡ header_line version other t first_origin → (mode ≡ other) × (s ≡ t)
     lines_tell e =
         let ahead = number_then s.ahead t.ahead (after_ahead mode s) (after_ahead other t) (omega (arith, of.lawful.ahead_most)) (omega (arith, of'.lawful.ahead_most)) (ap (drop 9) (sym (line_is mode s) ∙ e ∙ line_is other t)) in
         let base = number_then s.base t.base (after_base mode s) (after_base other t) (omega (arith, of.lawful.base_most)) (omega (arith, of'.lawful.base_most)) (ap (drop 7) ahead.1) in
@@ -201,12 +203,12 @@ marked_split line = append_assoc line (10 ∷ (mark_of (line ++ 10 ∷ []) ++ 10
 headers_tell : (version : Version) (mode other : Mode) (s t : HubSettings) → AreOfAHub s → AreOfAHub t → header version mode s ≡ header version other t → (mode ≡ other) × (s ≡ t)
 unfolding header
 headers_tell One mode other s t of of' e =
-    let a = header_line One mode s None in
-    let b = header_line One other t None in
+    let a = header_line One mode s first_origin in
+    let b = header_line One other t first_origin in
     lines_tell One mode other s t of of' (append_cancel_right a b (10 ∷ []) (append_cancel_right (a ++ 10 ∷ []) (b ++ 10 ∷ []) (0 ∷ []) e))
 headers_tell Two mode other s t of of' e =
-    let a = header_line Two mode s None in
-    let b = header_line Two other t None in
+    let a = header_line Two mode s first_origin in
+    let b = header_line Two other t first_origin in
     lines_tell Two mode other s t of of'
     (before_tails a b (mark_tail a) (mark_tail b) (tail_length a ∙ sym (tail_length b)) (sym (marked_split a) ∙ e ∙ marked_split b))
 

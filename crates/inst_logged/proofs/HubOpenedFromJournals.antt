@@ -1,11 +1,8 @@
 -- A hub with a log that opened from journals, and what it has run.
-use Rattle.std.proofs.Common.{◌≡◌, ◌∙◌, ◌++◌, [], ℕ, List, Option, Some, None, IfSome, map, ap, sym, subst}
+use Rattle.std.proofs.Common.{◌≡◌, ◌∙◌, ◌++◌, [], ℕ, List, map, ap, sym, subst}
 use Rattle.inst_settings.specs.Settings.{HubSettings}
 use Rattle.inst_command.specs.declared.step.Step.{Step}
 use Rattle.inst_journal.specs.History.{History}
-use Rattle.inst_journal.specs.Opened.{HasOpeningsLeft}
-use Rattle.inst_model.specs.Closing.{closing}
-use Rattle.inst_model.specs.Hub.{history}
 use Rattle.inst_model.specs.Interleaving.{IsInterleaving}
 use Rattle.inst_model.specs.Opening.{Opening, IsOpening}
 use Rattle.inst_world.specs.Headline.{KeepsTheHeadline}
@@ -46,15 +43,3 @@ pub are_carried : (mode : Mode) (past : HubPast) (runner : Runner) (journals : L
 are_carried mode past runner journals keeps are =
     let (settings, run) = has_run mode past runner keeps in
     subst (λ (s : HubSettings). AreCarried s past.opening past.steps journals) settings (are past.opening past.steps run)
-
--- where it carries none, no opening is left
-pub none_left : (mode : Mode) (past : HubPast) (runner : Runner) → IsRunnerAt mode past runner
-    → ((O : Opening) (L : List Step) → HasRun O L runner.world → ¬ ((p : ℕ) → HasOpeningsLeft (history (world_settings runner.world) O (closing (world_settings runner.world) ++ L) p)))
-    → ¬ ((p : ℕ) → HasOpeningsLeft (history past.settings past.opening (closing past.settings ++ past.steps) p))
-none_left mode past runner keeps none =
-    let (settings, run) = has_run mode past runner keeps in
-    subst (λ (s : HubSettings). ¬ ((p : ℕ) → HasOpeningsLeft (history s past.opening (closing s ++ past.steps) p))) settings (none past.opening past.steps run)
-
-pub some_weaker : {A : Type 0} (o : Option A) (P Q : A → Type 0) → ((x : A) → P x → Q x) → IfSome o P → IfSome o Q
-some_weaker None P Q more is = tt
-some_weaker (Some x) P Q more is = more x is

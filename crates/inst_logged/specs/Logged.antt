@@ -1,6 +1,6 @@
 -- What a run with a log has written and leaves on the disk, and what a crash may leave of it. A
 -- choice of this hub.
-use Rattle.std.specs.Prelude.{◌≡◌, ◌⊎◌, ℕ, List, [], ◌++◌, map, length, take, drop, Option}
+use Rattle.std.specs.Prelude.{◌≡◌, ◌⊎◌, ℕ, List, [], ◌++◌, map, length, take, drop, Option, IfSome}
 use Rattle.std.specs.Io.KnownBytes.{Appends, Consumes, IsAtEnd}
 use Rattle.inst_lines.specs.declared.mode.Mode.{Mode}
 use Rattle.inst_lines.specs.Lines.{lines_of, whole_lines_of}
@@ -13,7 +13,8 @@ use Rattle.inst_lines.specs.Headline.{run_through}
 use Rattle.inst_log.specs.Layout.{IsBatch}
 use Rattle.inst_log.specs.Opening.{lines_after_settings, Begins}
 use Rattle.inst_log.specs.Serving.{Replies, TellsKept}
-use Rattle.inst_chain.specs.Chain.{kept_said}
+use Rattle.inst_chain.specs.Chain.{kept_said, IsHexadecimal}
+use Rattle.inst_chain.specs.declared.digest.Digest.{Digest}
 use Rattle.inst_chain.specs.declared.marker.Marker.{Marker}
 use Rattle.inst_logged.specs.declared.version.Version.{Version}
 use Rattle.inst_logged.specs.Marking.{BeginsWithMarker}
@@ -48,9 +49,9 @@ pub record IsUnbegun (version : Version) (header : List ℕ) (marker : Marker) (
 abbrev pub HasBegun : Version → Mode → HubSettings → List ℕ → LineAnswers → Type 0
 HasBegun version mode s first answers =
     (HasOpened mode (new_past s) answers × (first ≡ header version mode s))
-    ⊎ ((journals : List History) × CanOpenFrom s journals
-    × HasOpened mode (opened_from s journals) answers
-    × (first ≡ header_from version mode s journals))
+    ⊎ ((journals : List History) × (previous : Option Digest) × CanOpenFrom s journals
+    × IfSome previous IsHexadecimal × HasOpened mode (opened_from s journals) answers
+    × (first ≡ header_from version mode s journals previous))
 
 -- The lines of these bytes: those that end there, or all of them at the end of the input.
 abbrev pub AreLinesOf : List ℕ → Option (List ℕ) → List (List ℕ) → Type 0

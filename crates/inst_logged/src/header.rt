@@ -1,16 +1,16 @@
 //! The first lines of a log: its settings, and the books that its hub opened from.
 ghost use Rattle.std.specs.Prelude.{◌≡◌, ◌<◌, ◌++◌, ◌∷◌, length, [], true, false, nat_lt, IfOk};
-ghost use Rattle.std.specs.Prelude.{OnOk, string_bytes};
+ghost use Rattle.std.specs.Prelude.{OnOk, IfSome, string_bytes};
 ghost use Rattle.inst_settings.specs.Settings.{is_participant};
 ghost use Rattle.inst_settings.specs.Lawful.{IsSettings};
 ghost use Rattle.inst_command.specs.LineText.{code_numbered};
 ghost use Rattle.inst_log.specs.Layout.{recovered_lines, at_rest, IsBatch, AreWholeLines};
 ghost use Rattle.inst_log.specs.Escape.{raw_of};
 ghost use Rattle.inst_world.specs.NextOpening.{CanOpenFrom};
-ghost use Rattle.inst_chain.specs.Chain.{HasNoMark};
+ghost use Rattle.inst_chain.specs.Chain.{HasNoMark, IsHexadecimal};
 ghost use Rattle.inst_logged.specs.Marking.{BeginsWithMarker};
 ghost use Rattle.inst_logged.specs.Header.{lines_and_mark, header, header_from, CanBeginFrom};
-ghost use Rattle.inst_logged.specs.Header.{header_line};
+ghost use Rattle.inst_logged.specs.Header.{header_line, first_origin, previous_field};
 ghost use Rattle.inst_logged.specs.Header.{books_field, header_field, mode_field};
 ghost use Rattle.inst_logged.specs.Header.{participants_field, mode_word, version_word};
 ghost use Rattle.inst_logged.specs.Header.{quoted_codes, comma_if, quoted};
@@ -18,7 +18,7 @@ ghost use Rattle.inst_logged.specs.Header.{quoted_codes, comma_if, quoted};
 use crate::Version;
 use inst_base::find_newline;
 use inst_books::append_books;
-use inst_chain::{Marker, has_mark, mark_lines};
+use inst_chain::{Digest, Marker, has_mark, mark_lines};
 use inst_journal::Journal;
 use inst_json::code_text;
 use inst_lines::Mode;
@@ -33,6 +33,36 @@ pub struct Heading {
     pub batch: Vec<u8>,
     /// The marker that makes the next mark.
     pub marker: Marker,
+}
+
+/// The books that a hub opens from.
+#[derive(Clone, Copy)]
+pub struct OpeningBooks<'a> {
+    /// The journals, one for each participant by number.
+    pub journals: &'a [Journal],
+    /// The last digest of the log before, if the log is to carry it.
+    pub previous: Option<Digest>,
+}
+
+/// The members of a log's first line that depend on the books that its hub opened from.
+#[derive(Clone, Copy)]
+pub struct Origin {
+    /// The number of lines of books that follow; `None` if the hub opened for the first time.
+    pub books: Option<u64>,
+    /// The last digest of the log before, if the line has one.
+    pub previous: Option<Digest>,
+}
+
+impl Origin {
+    /// Returns the members of a hub that opens for the first time: none.
+    pub(crate) fn first() -> Origin
+        ensures { result ≡ first_origin }
+    {
+        Origin {
+            books: None,
+            previous: None,
+        }
+    }
 }
 
 /// Returns the first lines of the log of a hub that opens for the first time: one line with the
@@ -53,14 +83,15 @@ pub fn first_batch(
     ensures marker { IfOk result (λ heading.
         BeginsWithMarker version heading.batch.items heading.marker) }
 {
-    let lines = settings_line(alloc, version, mode, settings, None)?;
+    let lines = settings_line(alloc, version, mode, settings, Origin::first())?;
     close_heading(version, lines)
 }
 
-/// Returns the first lines of the log of a hub that opens from these journals, one for each
-/// participant by number: the settings line, and one line for each event of the books.
+/// Returns the first lines of the log of a hub that opens from these books: the settings line, and
+/// one line for each event of the books.
 ///
-/// Requires journals from which a hub with these settings can open (`CanOpenFrom`).
+/// Requires journals from which a hub with these settings can open (`CanOpenFrom`), and a digest of
+/// lower-case hexadecimal digits if there is one ([`Digest::is_hexadecimal`]).
 ///
 /// # Errors
 ///
@@ -70,28 +101,29 @@ pub fn first_batch_from(
     version: Version,
     mode: Mode,
     settings: &Settings,
-    journals: &[Journal],
+    books: OpeningBooks<'_>,
 ) -> Result<Heading, AllocError>
-    requires { CanOpenFrom settings.now journals.now }
+    requires journals { CanOpenFrom settings.now books.journals.now }
+    requires digest { IfSome books.previous IsHexadecimal }
     ensures batch { IfOk result (λ heading. IsBatch heading.batch.items) }
     ensures items { IfOk result (λ heading.
-        heading.batch.items ≡ header_from version mode settings.now journals.now) }
+        heading.batch.items
+        ≡ header_from version mode settings.now books.entry.journals.now books.entry.previous) }
     ensures marker { IfOk result (λ heading.
         BeginsWithMarker version heading.batch.items heading.marker) }
     // Then a start finds the log by these lines.
     ensures again { IfOk result (λ _. IsSettings settings.now →
-        CanBeginFrom settings.now journals.now) }
+        CanBeginFrom settings.now books.entry.journals.now) }
 {
-    let mut books = Vec::new(alloc);
-    append_books(settings, journals, &mut books)?;
-    let mut lines = settings_line(
-        alloc,
-        version,
-        mode,
-        settings,
-        Some(count_lines(&books) as u64),
-    )?;
-    lines.extend_from_slice(whole_lines(&books))?;
+    let OpeningBooks { journals, previous } = books;
+    let mut text = Vec::new(alloc);
+    append_books(settings, journals, &mut text)?;
+    let origin = Origin {
+        books: Some(count_lines(&text) as u64),
+        previous,
+    };
+    let mut lines = settings_line(alloc, version, mode, settings, origin)?;
+    lines.extend_from_slice(whole_lines(&text))?;
     close_heading(version, lines)
 }
 
@@ -143,13 +175,13 @@ fn settings_line(
     version: Version,
     mode: Mode,
     settings: &Settings,
-    books: Option<u64>,
+    origin: Origin,
 ) -> Result<Vec<u8>, AllocError>
     ensures whole { IfOk result (λ batch. AreWholeLines batch.items) }
     ensures lines { IfOk result (λ batch.
-        recovered_lines batch.items ≡ raw_of (header_line version mode settings.now books) ∷ []) }
+        recovered_lines batch.items ≡ raw_of (header_line version mode settings.now origin) ∷ []) }
 {
-    let line = header_line(alloc, version, mode, settings, books)?;
+    let line = header_line(alloc, version, mode, settings, origin)?;
     batch_of(alloc, line.as_bytes())
 }
 
@@ -158,7 +190,7 @@ fn batch_of(alloc: Global, line: &[u8]) -> Result<Vec<u8>, AllocError>
     ensures whole { IfOk result (λ batch. AreWholeLines batch.items) }
     ensures lines { IfOk result (λ batch. recovered_lines batch.items ≡ raw_of line.now ∷ []) }
 {
-    // Never true: no name, number or code has a newline.
+    // Never true: no name, number, code or digest has a newline.
     if find_newline(line).is_some() {
         return Err(AllocError);
     }
@@ -168,19 +200,19 @@ fn batch_of(alloc: Global, line: &[u8]) -> Result<Vec<u8>, AllocError>
 }
 
 /// Returns the settings line, compact JSON with the version, the mode, the settings and, after an
-/// opening from books, the number of their lines.
+/// opening from books, the number of their lines and the last digest of the log before.
 pub(crate) fn header_line(
     alloc: Global,
     version: Version,
     mode: Mode,
     settings: &Settings,
-    books: Option<u64>,
+    origin: Origin,
 ) -> Result<String, AllocError>
     ensures { IfOk result (λ text.
-        string_bytes text ≡ header_line version mode settings.now books) }
+        string_bytes text ≡ header_line version mode settings.now origin) }
 {
     let mut text = String::new(alloc);
-    push_header(&mut text, version, mode, settings, books)?;
+    push_header(&mut text, version, mode, settings, origin)?;
     Ok(text)
 }
 
@@ -190,14 +222,14 @@ fn push_header(
     version: Version,
     mode: Mode,
     settings: &Settings,
-    books: Option<u64>,
+    origin: Origin,
 ) -> Result<(), AllocError>
     requires { string_bytes text.old ≡ [] }
-    ensures { OnOk result (string_bytes text.new ≡ header_line version mode settings.now books) }
+    ensures { OnOk result (string_bytes text.new ≡ header_line version mode settings.now origin) }
 {
     push_field(text, "{\"ahead\":", u64::from(settings.ahead()))?;
     push_field(text, ",\"base\":", settings.base())?;
-    push_books(text, books)?;
+    push_books(text, origin.books)?;
     push_field(text, ",\"ceiling\":", settings.ceiling())?;
     push_field(text, ",\"fundings\":", u64::from(settings.fundings()))?;
     push_field(text, ",\"limit\":", u64::from(settings.limit()))?;
@@ -205,6 +237,7 @@ fn push_header(
     push_field(text, ",\"margin\":", u64::from(settings.margin()))?;
     push_participants(text, settings)?;
     push_field(text, ",\"places\":", u64::from(settings.places()))?;
+    push_previous(text, origin.previous)?;
     text.push_str(",")?;
     text.push_str(version_word(version))
 }
@@ -227,6 +260,23 @@ fn push_books(text: &mut String, books: Option<u64>) -> Result<(), AllocError>
         Some(count) => push_field(text, ",\"books\":", count),
         None => Ok(()),
     }
+}
+
+/// Appends the last digest of the log before, if there is one.
+fn push_previous(text: &mut String, previous: Option<Digest>) -> Result<(), AllocError>
+    ensures { OnOk result
+        (string_bytes text.new ≡ string_bytes text.old ++ previous_field previous) }
+{
+    let Some(digest) = previous else {
+        return Ok(());
+    };
+    // Never true: hexadecimal digits are UTF-8.
+    let Ok(digits) = str::from_utf8(&digest.text) else {
+        return Err(AllocError);
+    };
+    text.push_str(",\"previous\":\"")?;
+    text.push_str(digits)?;
+    text.push_str("\"")
 }
 
 fn push_mode(text: &mut String, mode: Mode) -> Result<(), AllocError>

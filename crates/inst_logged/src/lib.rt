@@ -13,7 +13,7 @@ mod marking;
 mod version;
 
 pub use error::LoggedError;
-pub use header::{Heading, first_batch, first_batch_from};
+pub use header::{Heading, OpeningBooks, Origin, first_batch, first_batch_from};
 pub use hub::{LoggedHub, NewHub};
 pub use laws::{a_refused_log_is_not_taken, headers_tell_their_settings, lines_answer_alike};
 pub use line_answers::LineAnswers;

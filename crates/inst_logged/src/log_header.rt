@@ -1,6 +1,6 @@
 //! Reading the first line of a log.
 ghost use Rattle.std.specs.Prelude.{◌≡◌, ◌⊎◌, ◌<◌, ◌^◌, ◌++◌, [], ◌∷◌, List, ℕ, Option, Some, None};
-ghost use Rattle.std.specs.Prelude.{true, map, codes, IfOk, option_map, ok_or};
+ghost use Rattle.std.specs.Prelude.{true, map, codes, IfOk, IfSome, option_map, ok_or};
 ghost use Rattle.std.specs.List.{list_all};
 ghost use Rattle.serde_json.specs.Data.{string};
 ghost use Rattle.serde_json.specs.View.{view, items_view};
@@ -11,15 +11,19 @@ ghost use Rattle.inst_settings.specs.Lawful.{IsSettings, AreOfAHub, numbers_of};
 ghost use Rattle.inst_base.specs.Newline.{newline, NoNewline};
 ghost use Rattle.inst_json.specs.Replies.{items};
 ghost use Rattle.inst_json.specs.Lines.{json_of};
-ghost use Rattle.inst_logged.specs.Header.{mode_word};
+ghost use Rattle.inst_chain.specs.Chain.{IsHexadecimal};
+ghost use Rattle.inst_chain.specs.declared.digest.Digest.{Digest};
+ghost use Rattle.inst_logged.specs.Header.{mode_word, first_origin};
 ghost use Rattle.inst_logged.specs.LogHeader.{IsHeaderLine, beginning_with};
-ghost use Rattle.inst_logged.specs.inner.LogHeader.{HeaderSays, SaysSettings, number_in};
+ghost use Rattle.inst_logged.specs.inner.LogHeader.{HeaderSays, SaysSettings, SaysOrigin, number_in};
 ghost use Rattle.inst_logged.specs.inner.LogHeader.{header_text, list_in, version_number};
+ghost use Rattle.inst_logged.specs.declared.header.Origin.{Origin};
 ghost use Rattle.inst_logged.specs.declared.version.Version.TheVariants.{Two};
 
 use crate::Version;
-use crate::header::header_line;
+use crate::header::{Origin, header_line};
 use inst_base::Code;
+use inst_chain::Digest;
 use inst_lines::Mode;
 use inst_settings::{HubParameters, Settings};
 use serde_json::Value;
@@ -34,6 +38,8 @@ pub struct LogHeader {
     pub settings: Settings,
     /// The number of lines of books that follow; `None` if the hub opened for the first time.
     pub books: Option<u64>,
+    /// The last digest of the log before, if the line has one.
+    pub previous: Option<Digest>,
 }
 
 /// Returns the contents of a log's first line, given with or without its newline, or `None` if it
@@ -43,9 +49,9 @@ pub struct LogHeader {
 ///
 /// [`AllocError`] if the settings or the line's JSON value can't be allocated.
 pub fn read_beginning(alloc: Global, line: &[u8]) -> Result<Option<LogHeader>, AllocError>
-    ensures { (version : Version) (mode : Mode) (s : HubSettings) (books : Option ℕ) →
-        IsHeaderLine version mode s books line.now
-        → IfOk result (λ beginning. beginning ≡ Some (beginning_with mode s books)) }
+    ensures { (version : Version) (mode : Mode) (s : HubSettings) (origin : Origin) →
+        IsHeaderLine version mode s origin line.now
+        → IfOk result (λ beginning. beginning ≡ Some (beginning_with mode s origin)) }
 {
     match value_of(alloc, without_newline(line))? {
         Some(value) => beginning_in(alloc, &value),
@@ -74,22 +80,49 @@ fn value_of(alloc: Global, line: &[u8]) -> Result<Option<Value>, AllocError>
 
 /// Returns the contents of a first line with this JSON value, or `None` if it can't be one.
 fn beginning_in(alloc: Global, value: &Value) -> Result<Option<LogHeader>, AllocError>
-    ensures { (version : Version) (mode : Mode) (s : HubSettings) (books : Option ℕ) → AreOfAHub s →
-        HeaderSays version mode s books (view value.now)
-        → IfOk result (λ beginning. beginning ≡ Some (beginning_with mode s books)) }
+    ensures { (version : Version) (mode : Mode) (s : HubSettings) (origin : Origin) → AreOfAHub s →
+        HeaderSays version mode s origin (view value.now)
+        → IfOk result (λ beginning. beginning ≡ Some (beginning_with mode s origin)) }
 {
     let Some(mode) = mode_of(value) else {
         return Ok(None);
     };
-    let books = number(value, "books");
+    let Origin { books, previous } = origin_in(value);
     match settings_of(alloc, value)? {
         Some(settings) => Ok(Some(LogHeader {
             mode,
             settings,
             books,
+            previous,
         })),
         None => Ok(None),
     }
+}
+
+/// Returns the members about the books.
+fn origin_in(value: &Value) -> Origin
+    ensures back { (origin : Origin) → SaysOrigin origin (view value.now) → result ≡ origin }
+    ensures digest { IfSome result.previous IsHexadecimal }
+{
+    Origin {
+        books: number(value, "books"),
+        previous: previous_in(value),
+    }
+}
+
+/// Returns the last digest of the log before, or `None` if there is none or it isn't 64 lower-case
+/// hexadecimal digits.
+fn previous_in(value: &Value) -> Option<Digest>
+    ensures back { (previous : Option Digest) → IfSome previous IsHexadecimal →
+        header_text (codes "previous") (view value.now) ≡ option_map (λ digest. digest.text) previous
+        → result ≡ previous }
+    ensures digest { IfSome result IsHexadecimal }
+{
+    let digest = Digest::of(value.get("previous")?.as_str()?)?;
+    if !digest.is_hexadecimal() {
+        return None;
+    }
+    Some(digest)
 }
 
 fn mode_of(value: &Value) -> Option<Mode>
@@ -198,8 +231,8 @@ fn medium(value: &Value, name: &str) -> Option<u32>
 /// [`AllocError`] if the line's JSON value can't be allocated.
 pub fn version_of(alloc: Global, line: &[u8]) -> Result<Option<Version>, AllocError>
     ensures none { line.now ≡ [] → IfOk result (λ version. version ≡ Some Two) }
-    ensures back { (version : Version) (mode : Mode) (s : HubSettings) (books : Option ℕ) →
-        IsHeaderLine version mode s books line.now
+    ensures back { (version : Version) (mode : Mode) (s : HubSettings) (origin : Origin) →
+        IsHeaderLine version mode s origin line.now
         → IfOk result (λ found. found ≡ Some version) }
 {
     if line.is_empty() {
@@ -226,41 +259,41 @@ fn version_in(value: &Value) -> Option<Version>
     }
 }
 
-/// Returns the number of lines of books after the first line of a log, given with its newline.
-/// Returns `None` if the line has other settings, or is of a hub that opened for the first time.
-pub(crate) fn books_behind(
+/// Returns the members about the books in the first line of a log, given with its newline. Returns
+/// none if the line has other settings.
+pub(crate) fn known_origin(
     alloc: Global,
     version: Version,
     mode: Mode,
     settings: &Settings,
     first: &[u8],
-) -> Result<Option<u64>, AllocError>
-    ensures none { first.now ≡ [] → IfOk result (λ count. count ≡ None) }
-    ensures back { (books : Option ℕ) → IsHeaderLine version mode settings.now books first.now →
-        IfOk result (λ count. count ≡ books) }
+) -> Result<Origin, AllocError>
+    ensures none { first.now ≡ [] → IfOk result (λ origin. origin ≡ first_origin) }
+    ensures back { (origin : Origin) → IsHeaderLine version mode settings.now origin first.now →
+        IfOk result (λ found. found ≡ origin) }
+    ensures digest { IfOk result (λ found. IfSome found.previous IsHexadecimal) }
 {
     if first.is_empty() {
-        return Ok(None);
+        return Ok(Origin::first());
     }
     let line = without_newline(first);
-    let Some(count) = books_of(alloc, first)? else {
-        return Ok(None);
-    };
-    let expected = header_line(alloc, version, mode, settings, Some(count))?;
+    let origin = origin_of(alloc, first)?;
+    let expected = header_line(alloc, version, mode, settings, origin)?;
     if expected.as_bytes() != line {
-        return Ok(None);
+        return Ok(Origin::first());
     }
-    Ok(Some(count))
+    Ok(origin)
 }
 
-/// Returns the number of lines of books that a first line has.
-fn books_of(alloc: Global, line: &[u8]) -> Result<Option<u64>, AllocError>
-    ensures { (version : Version) (mode : Mode) (s : HubSettings) (books : Option ℕ) →
-        IsHeaderLine version mode s books line.now
-        → IfOk result (λ count. count ≡ books) }
+/// Returns the members about the books that a first line has.
+fn origin_of(alloc: Global, line: &[u8]) -> Result<Origin, AllocError>
+    ensures back { (version : Version) (mode : Mode) (s : HubSettings) (origin : Origin) →
+        IsHeaderLine version mode s origin line.now
+        → IfOk result (λ found. found ≡ origin) }
+    ensures digest { IfOk result (λ found. IfSome found.previous IsHexadecimal) }
 {
     match value_of(alloc, without_newline(line))? {
-        Some(value) => Ok(number(&value, "books")),
-        None => Ok(None),
+        Some(value) => Ok(origin_in(&value)),
+        None => Ok(Origin::first()),
     }
 }

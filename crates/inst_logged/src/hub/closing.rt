@@ -1,7 +1,7 @@
 //! Opening a log without a run, and closing its hub for the next opening.
-ghost use Rattle.std.specs.Prelude.{◌≡◌, ◌++◌, None, IfSome, IfOk, IfErr, OnOk};
+ghost use Rattle.std.specs.Prelude.{◌≡◌, ◌++◌, None, IfOk, IfErr, OnOk};
 ghost use Rattle.inst_world.specs.HasRun.{world_settings};
-ghost use Rattle.inst_world.specs.NextOpening.{CanOpenFrom};
+ghost use Rattle.inst_world.specs.NextOpening.{AreClosedBooks};
 ghost use Rattle.inst_logged.specs.Closing.{ClosesWith};
 ghost use Rattle.inst_log.specs.Disks.{HasKeptFaith};
 ghost use Rattle.inst_logged.specs.Running.{disk_of, StopsBy, IsReadyHub, OpensLogAgain};
@@ -37,8 +37,8 @@ impl<D: Disk + Drop> LoggedHub<D> {
         self.reopen(None, wanted, &mut Vec::new(alloc))
     }
 
-    /// Opens the log as [`open`](LoggedHub::open) does, and closes the hub. Returns its books for
-    /// the next opening, or `None` if a book was opened from 500 times already.
+    /// Opens the log as [`open`](LoggedHub::open) does, and closes the hub. Returns its books. A hub
+    /// can open from them if each has an opening left, as `inst_world::have_openings_left` tells.
     ///
     /// Requires a hub and a disk as for [`run`](LoggedHub::run).
     ///
@@ -46,13 +46,12 @@ impl<D: Disk + Drop> LoggedHub<D> {
     ///
     /// Those of [`open`](LoggedHub::open), and `Log(Memory)` if the books can't be allocated; the
     /// log's lines stay the same.
-    pub fn close(&mut self, wanted: Option<Digest>) -> Result<Option<Vec<Journal>>, LoggedError>
+    pub fn close(&mut self, wanted: Option<Digest>) -> Result<Vec<Journal>, LoggedError>
         requires ready { IsReadyHub D.Disk self.old }
-        ensures ok { IfOk result (λ books. HasKeptFaith D.Disk (disk_of self.new) →
-            ClosesWith D.Disk wanted self.old self.new books) }
-        ensures can { IfOk result (λ books. IfSome books
-            (λ journals.
-            CanOpenFrom (world_settings self.new.recorder.answers.runner.world) journals.items)) }
+        ensures ok { IfOk result (λ journals. HasKeptFaith D.Disk (disk_of self.new) →
+            ClosesWith D.Disk wanted self.old self.new journals.items) }
+        ensures closed { IfOk result (λ journals. AreClosedBooks
+            (world_settings self.new.recorder.answers.runner.world) journals.items) }
         ensures any_moment { HasKeptFaith D.Disk (disk_of self.new) →
             StaysAlike D.Disk self.old self.new }
         ensures err { IfErr result (StopsBy D.Disk None wanted self.old self.new (Unit {0}) ⊥) }
@@ -61,6 +60,6 @@ impl<D: Disk + Drop> LoggedHub<D> {
     {
         let alloc = *self.batch.allocator();
         self.open(wanted)?;
-        Ok(self.recorder.answers.runner.world.carry(alloc)?)
+        Ok(self.recorder.answers.runner.world.close_books(alloc)?)
     }
 }

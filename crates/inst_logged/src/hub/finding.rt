@@ -6,7 +6,7 @@ ghost use Rattle.inst_log.specs.Layout.{recovered_lines};
 ghost use Rattle.inst_world.specs.NextOpening.{CanOpenFrom};
 ghost use Rattle.inst_books.specs.Books.{all_events, books_text};
 ghost use Rattle.inst_books.specs.declared.fault.BookFault.TheVariants.{Memory};
-ghost use Rattle.inst_chain.specs.Chain.{mark_of};
+ghost use Rattle.inst_chain.specs.Chain.{mark_of, IsHexadecimal};
 ghost use Rattle.inst_logged.specs.Header.{header, lines_of_books, CanBeginFrom};
 ghost use Rattle.inst_logged.specs.Finding.{FindsLog, Unrefused};
 ghost use Rattle.inst_logged.specs.Logged.{IsUnbegun, HasBegun};
@@ -17,10 +17,10 @@ ghost use Rattle.inst_logged.specs.declared.error.LoggedError.TheVariants.{Books
 ghost use Rattle.inst_logged.specs.declared.version.Version.TheVariants.{Two};
 
 use super::NewHub;
-use crate::log_header::{books_behind, version_of};
-use crate::{LoggedError, Version};
+use crate::log_header::{known_origin, version_of};
+use crate::{LoggedError, OpeningBooks, Version};
 use inst_books::{BookFault, can_open, read_books};
-use inst_chain::{Marker, Prefix};
+use inst_chain::{Digest, Marker, Prefix};
 use inst_journal::Journal;
 use inst_lines::Mode;
 use inst_log::{LogError, count_lines, lines_len, read_lines};
@@ -73,7 +73,13 @@ impl NewHub {
             line: &first,
         };
         match books_on(alloc, mode, settings, head, disk)? {
-            Some(journals) => Ok(NewHub::open_from(alloc, version, mode, settings, &journals)?),
+            Some(found) => {
+                let books = OpeningBooks {
+                    journals: &found.journals,
+                    previous: found.previous,
+                };
+                Ok(NewHub::open_from(alloc, version, mode, settings, books)?)
+            }
             None => Ok(NewHub::open(alloc, version, mode, settings)?),
         }
     }
@@ -86,29 +92,43 @@ struct LogHead<'a> {
     line: &'a [u8],
 }
 
-/// Returns the journals of the books after the log's first line, if there are any.
+/// The books after a log's first line, with the digest in it.
+#[derive(Drop)]
+struct LogBooks {
+    journals: Vec<Journal>,
+    previous: Option<Digest>,
+}
+
+/// Returns the books after the log's first line, if there are any.
 fn books_on<D: Disk>(
     alloc: Global,
     mode: Mode,
     settings: &Settings,
     head: LogHead<'_>,
     disk: &mut D,
-) -> Result<Option<Vec<Journal>>, LoggedError>
+) -> Result<Option<LogBooks>, LoggedError>
     requires usable { IsTrue (D.Disk.is_usable disk.old) }
-    ensures journals { IfOk result (λ books.
-        IfSome books (λ journals. CanOpenFrom settings.now journals.items)) }
+    ensures books { IfOk result (λ found. IfSome found (λ books.
+        CanOpenFrom settings.now books.journals.items × IfSome books.previous IsHexadecimal)) }
     ensures none { head.entry.line.now ≡ [] → Unrefused (λ books. books ≡ None) result }
     ensures found { HasKeptFaith D.Disk disk.new →
-        FindsBooks (λ journals. all_events journals.items) head.entry.version mode settings.now
-        head.entry.line.now (D.Disk.seen disk.old) result }
+        FindsBooks (λ books. (all_events books.journals.items, books.previous)) head.entry.version
+        mode settings.now head.entry.line.now (D.Disk.seen disk.old) result }
     ensures read { IsOnlyRead D.Disk disk.old disk.new }
 {
     let LogHead { version, line } = head;
-    let Some(count) = books_behind(alloc, version, mode, settings, line)? else {
+    let origin = known_origin(alloc, version, mode, settings, line)?;
+    let Some(count) = origin.books else {
         return Ok(None);
     };
     let text = read_lines(alloc, disk, count.saturating_add(2))?;
-    journals_in(alloc, version, settings, &text, count)
+    match journals_in(alloc, version, settings, &text, count)? {
+        Some(journals) => Ok(Some(LogBooks {
+            journals,
+            previous: origin.previous,
+        })),
+        None => Ok(None),
+    }
 }
 
 /// Returns the journals of the `count` lines of books after the first line of this text; none if

@@ -1,8 +1,9 @@
 //! A hub that doesn't have the disk of its log yet.
-ghost use Rattle.std.specs.Prelude.{◌≡◌, IfOk};
+ghost use Rattle.std.specs.Prelude.{◌≡◌, IfOk, IfSome};
 ghost use Rattle.inst_settings.specs.Lawful.{IsSettings};
 ghost use Rattle.inst_lines.specs.Answering.{new_past};
 ghost use Rattle.inst_world.specs.NextOpening.{CanOpenFrom};
+ghost use Rattle.inst_chain.specs.Chain.{IsHexadecimal};
 ghost use Rattle.inst_logged.specs.Header.{header, header_from, CanBeginFrom};
 ghost use Rattle.inst_logged.specs.Answering.{opened_from};
 ghost use Rattle.inst_logged.specs.Logged.{IsUnbegun};
@@ -10,8 +11,7 @@ ghost use Rattle.inst_logged.specs.NewHub.{IsNewHub};
 
 use super::LoggedHub;
 use crate::intake::Intake;
-use crate::{Heading, LineAnswers, Version, first_batch, first_batch_from};
-use inst_journal::Journal;
+use crate::{Heading, LineAnswers, OpeningBooks, Version, first_batch, first_batch_from};
 use inst_lines::Mode;
 use inst_log::{Log, Recorder};
 use inst_settings::Settings;
@@ -57,11 +57,11 @@ impl NewHub {
         })
     }
 
-    /// Returns a hub that opens from a copy of these journals, one for each participant by number,
-    /// with a log of this version.
+    /// Returns a hub that opens from a copy of these books, with a log of this version.
     ///
     /// Requires journals from which a hub with these settings can open (`CanOpenFrom`), as
-    /// [`LoggedHub::close`] returns them.
+    /// [`LoggedHub::close`] returns them, and a digest of lower-case hexadecimal digits if there is
+    /// one ([`Digest::is_hexadecimal`](inst_chain::Digest::is_hexadecimal)).
     ///
     /// # Errors
     ///
@@ -71,18 +71,21 @@ impl NewHub {
         version: Version,
         mode: Mode,
         settings: &Settings,
-        journals: &[Journal],
+        books: OpeningBooks<'_>,
     ) -> Result<NewHub, AllocError>
-        requires journals { CanOpenFrom settings.now journals.now }
-        ensures new { IfOk result (IsNewHub version mode (opened_from settings.now journals.now)
-            (header_from version mode settings.now journals.now)) }
+        requires journals { CanOpenFrom settings.now books.journals.now }
+        requires digest { IfSome books.previous IsHexadecimal }
+        ensures new { IfOk result
+            (IsNewHub version mode (opened_from settings.now books.entry.journals.now)
+            (header_from version mode settings.now books.entry.journals.now
+            books.entry.previous)) }
         // Then a start finds the log by its first lines.
         ensures again { IfOk result (λ _. IsSettings settings.now →
-            CanBeginFrom settings.now journals.now) }
+            CanBeginFrom settings.now books.entry.journals.now) }
     {
         let intake = Intake::new(alloc)?;
-        let heading = first_batch_from(alloc, version, mode, settings, journals)?;
-        let answers = LineAnswers::open_from(alloc, mode, settings, journals)?;
+        let heading = first_batch_from(alloc, version, mode, settings, books)?;
+        let answers = LineAnswers::open_from(alloc, mode, settings, books.journals)?;
         Ok(NewHub {
             answers,
             intake,

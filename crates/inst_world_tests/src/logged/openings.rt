@@ -1,15 +1,19 @@
 //! Logs that begin with the books of another log.
+ghost use Rattle.std.specs.Prelude.{IfSome};
 ghost use Rattle.inst_world.specs.NextOpening.{CanOpenFrom};
+ghost use Rattle.inst_chain.specs.Chain.{IsHexadecimal};
 ghost use Rattle.inst_logged.specs.Running.{IsReadyHub};
 
 use crate::comparing::{same, same_at};
 use crate::disks::filled;
 use crate::logged::keeping::text_of;
+use inst_chain::Digest;
 use inst_fixtures::settings;
 use inst_journal::Journal;
 use inst_lines::Mode;
-use inst_logged::{LoggedHub, NewHub, Version};
+use inst_logged::{LoggedHub, NewHub, OpeningBooks, Version};
 use inst_settings::Settings;
+use inst_world::have_openings_left;
 use sqlite_disk::{Disk, Memory};
 use std::alloc::Global;
 use std::process::Abort;
@@ -48,6 +52,16 @@ pub(crate) const NEXT: &[&[u8]] = &[
     // What `sha256sum` prints for the lines above.
     b"{\x01{f5c7fdcdf327791172b42b316b071187adc6d3dbe9c92a90e3d84f5b860adbf6",
 ];
+
+/// The digest of that log, in the first line of a log with the same books, and what `sha256sum`
+/// prints for this line and the books.
+const PREVIOUS: &str = "f5c7fdcdf327791172b42b316b071187adc6d3dbe9c92a90e3d84f5b860adbf6";
+
+const CARRYING: &[u8] =
+    br#"{"ahead":1000,"base":0,"books":14,"ceiling":99999999999,"fundings":4,"limit":10000,"log":"run","margin":0,"participants":["AAAADEFF","BBBBFRPP","CCCCITMM"],"places":2,"previous":"f5c7fdcdf327791172b42b316b071187adc6d3dbe9c92a90e3d84f5b860adbf6","version":2}"#;
+
+const CARRYING_MARK: &[u8] =
+    b"{\x01{2a16c502eddcdba109ba32e7a0e3fd64842d5901ea618eb448d217f393b360dd";
 
 /// Lines of the next opening, about decided, pending and new transfers.
 pub(crate) const SECOND: &[&[u8]] = &[
@@ -113,9 +127,10 @@ pub(crate) fn run_on(
 pub(crate) fn begun_from(
     alloc: Global,
     settings: &Settings,
-    books: &[Journal],
+    books: OpeningBooks<'_>,
 ) -> Result<Vec<u8>, Fail>
-    requires { CanOpenFrom settings.now books.now }
+    requires journals { CanOpenFrom settings.now books.journals.now }
+    requires digest { IfSome books.previous IsHexadecimal }
 {
     let disk = filled(Memory::new(alloc), b"")?;
     let hub = NewHub::open_from(alloc, Version::Two, Mode::Run, settings, books)?;
@@ -123,14 +138,38 @@ pub(crate) fn begun_from(
     Ok(disk.bytes().to_vec(alloc)?)
 }
 
-/// Returns the log that begins with the books of this hub.
-fn next_of<D: Disk + Drop>(alloc: Global, hub: &mut LoggedHub<D>) -> Result<Option<Vec<u8>>, Fail>
+/// Returns the log that begins with the books of this hub, and carries this digest.
+fn next_of<D: Disk + Drop>(
+    alloc: Global,
+    hub: &mut LoggedHub<D>,
+    previous: Option<Digest>,
+) -> Result<Option<Vec<u8>>, Fail>
     requires ready { IsReadyHub D.Disk hub.old }
+    requires digest { IfSome previous IsHexadecimal }
 {
-    match hub.close(None)? {
-        Some(books) => Ok(Some(begun_from(alloc, hub.settings(), &books)?)),
-        None => Ok(None),
+    let journals = hub.close(None)?;
+    if !have_openings_left(&journals) {
+        return Ok(None);
     }
+    let books = OpeningBooks {
+        journals: &journals,
+        previous,
+    };
+    Ok(Some(begun_from(alloc, hub.settings(), books)?))
+}
+
+/// Returns the log that begins with this log's books, and carries this digest.
+fn next_carrying(
+    alloc: Global,
+    settings: &Settings,
+    log: &[u8],
+    previous: Option<Digest>,
+) -> Result<Option<Vec<u8>>, Fail>
+    requires digest { IfSome previous IsHexadecimal }
+{
+    let mut disk = filled(Memory::new(alloc), log)?;
+    let hub = NewHub::of_log(alloc, Mode::Run, settings, &mut disk)?;
+    next_of(alloc, &mut hub.with_disk(alloc, disk), previous)
 }
 
 /// Returns the log that begins with this log's books.
@@ -139,9 +178,7 @@ pub(crate) fn next(
     settings: &Settings,
     log: &[u8],
 ) -> Result<Option<Vec<u8>>, Fail> {
-    let mut disk = filled(Memory::new(alloc), log)?;
-    let hub = NewHub::of_log(alloc, Mode::Run, settings, &mut disk)?;
-    next_of(alloc, &mut hub.with_disk(alloc, disk))
+    next_carrying(alloc, settings, log, None)
 }
 
 /// Returns the log of the first opening.
@@ -165,19 +202,57 @@ fn a_log_begins_with_the_books_of_another(rt: HostRuntime) -> Result<(), Fail> {
     Ok(())
 }
 
-/// Returns the replies to the lines of the next opening.
-fn gone_on(alloc: Global, settings: &Settings) -> Result<Vec<u8>, Fail> {
-    let log = log_of(alloc, NEXT)?;
+/// Returns the log with the same books that carries the digest.
+fn carrying(alloc: Global) -> Result<Vec<u8>, Fail> {
+    let mut log = text_of(alloc, &[CARRYING])?;
+    log.extend_from_slice(&text_of(alloc, &NEXT[1..15])?)?;
+    log.extend_from_slice(&log_of(alloc, &[CARRYING_MARK])?)?;
+    Ok(log)
+}
+
+/// Returns the log that begins with the books of the first opening, and carries the digest.
+fn next_of_first_carrying(alloc: Global, settings: &Settings) -> Result<Option<Vec<u8>>, Fail> {
+    let log = first(alloc, settings)?;
+    match Digest::of(PREVIOUS) {
+        Some(digest) if digest.is_hexadecimal() => {
+            next_carrying(alloc, settings, &log, Some(digest))
+        }
+        _ => Ok(None),
+    }
+}
+
+#[test]
+fn a_log_carries_the_digest_of_another(rt: HostRuntime) -> Result<(), Fail> {
+    let settings = settings(rt.alloc())?;
+    let found = next_of_first_carrying(rt.alloc(), &settings)?;
+    let expected = carrying(rt.alloc())?;
+    same(&rt, found.as_deref(), Some(expected.as_slice()));
+    Ok(())
+}
+
+/// Returns the replies to the lines of the next opening, with this log.
+fn gone_on(alloc: Global, settings: &Settings, log: &[u8]) -> Result<Vec<u8>, Fail> {
     let input = text_of(alloc, SECOND)?;
     let mut written = Vec::new(alloc);
-    run_on(alloc, settings, &log, &input, &mut written)?;
+    run_on(alloc, settings, log, &input, &mut written)?;
     Ok(written)
 }
 
 #[test]
 fn the_next_opening_goes_on(rt: HostRuntime) -> Result<(), Fail> {
     let settings = settings(rt.alloc())?;
-    let written = gone_on(rt.alloc(), &settings)?;
+    let log = log_of(rt.alloc(), NEXT)?;
+    let written = gone_on(rt.alloc(), &settings, &log)?;
+    let replies = text_of(rt.alloc(), REPLIES)?;
+    same(&rt, written.as_slice(), replies.as_slice());
+    Ok(())
+}
+
+#[test]
+fn a_log_with_a_digest_goes_on(rt: HostRuntime) -> Result<(), Fail> {
+    let settings = settings(rt.alloc())?;
+    let log = carrying(rt.alloc())?;
+    let written = gone_on(rt.alloc(), &settings, &log)?;
     let replies = text_of(rt.alloc(), REPLIES)?;
     same(&rt, written.as_slice(), replies.as_slice());
     Ok(())

@@ -10,7 +10,7 @@ use Rattle.inst_logged.proofs.OpenableBooksCanBeWritten.{can_be_written}
 use Rattle.inst_logged.proofs.header.first_batch_from.Goals as goal
 
 pub append_books-requires-clause-writable : goal.append_books-requires-clause-writable
-append_books-requires-clause-writable c = can_be_written c.args.settings.now c.args.journals.now c.requires
+append_books-requires-clause-writable c = can_be_written c.args.settings.now c.args.books.journals.now c.requires.journals
 
 pub close_heading-requires-clause-whole : goal.close_heading-requires-clause-whole
 close_heading-requires-clause-whole c =
@@ -28,9 +28,10 @@ returns-clause-items c =
     let mode = c.args.mode in
     let version = c.args.version in
     let s = c.args.settings.now in
-    let text : List ℕ = books_text s (all_events c.args.journals.now) in
-    let line = raw_of (header_line version mode s (Some c.count_lines.result)) in
-    let written : c.append_books.new.out.items ≡ text = c.in_ok-append_books.ensures.text ∙ ap (λ (l : List ℕ). l ++ text) c.new-books.ensures.items in
+    let text : List ℕ = books_text s (all_events c.args.books.journals.now) in
+    let previous = c.args.books.previous in
+    let line = raw_of (header_line version mode s (record { books = Some c.count_lines.result; previous = previous })) in
+    let written : c.append_books.new.out.items ≡ text = c.in_ok-append_books.ensures.text ∙ ap (λ (l : List ℕ). l ++ text) c.new-text.ensures.items in
     let counted : c.count_lines.result ≡ length (recovered_lines text) = c.count_lines.ensures.count ∙ ap (λ (l : List ℕ). length (recovered_lines l)) (c.deref.ensures.value ∙ written) in
     let lines : recovered_lines c.extend_from_slice.new.self.items ≡ line ∷ recovered_lines c.deref-2.result.now =
     behind_lines c.in_ok-lines.lines.items _ c.deref-2.result.now c.extend_from_slice.new.self.items c.in_ok-lines.ensures.whole c.in_ok-lines.ensures.lines
@@ -38,17 +39,17 @@ returns-clause-items c =
     IfOk-weaker c.close_heading.result _ _ (λ heading is.
     is ∙ ap (λ (ls : List (List ℕ)). at_rest (lines_and_mark version ls)) lines
     ∙ ap (λ (l : List ℕ). at_rest (lines_and_mark version (line ∷ recovered_lines l))) (c.deref-2.ensures.value ∙ written)
-    ∙ ap (λ (n : ℕ). at_rest (lines_and_mark version (raw_of (header_line version mode s (Some n)) ∷ recovered_lines text))) counted) c.close_heading.ensures.items
+    ∙ ap (λ (n : ℕ). at_rest (lines_and_mark version (raw_of (header_line version mode s (record { books = Some n; previous = previous })) ∷ recovered_lines text))) counted) c.close_heading.ensures.items
 
 pub returns-clause-again : goal.returns-clause-again
 returns-clause-again c =
     let s = c.args.settings.now in
-    let text : List ℕ = books_text s (all_events c.args.journals.now) in
-    let written : c.append_books.new.out.items ≡ text = c.in_ok-append_books.ensures.text ∙ ap (λ (l : List ℕ). l ++ text) c.new-books.ensures.items in
-    let few : length (lines_of_books s c.args.journals.now) < 2 ^ 63 =
+    let text : List ℕ = books_text s (all_events c.args.books.journals.now) in
+    let written : c.append_books.new.out.items ≡ text = c.in_ok-append_books.ensures.text ∙ ap (λ (l : List ℕ). l ++ text) c.new-text.ensures.items in
+    let few : length (lines_of_books s c.args.books.journals.now) < 2 ^ 63 =
     omega (arith, c.append_books.new.out.ok.0, c.append_books.new.out.small, ap length written, lines_short text) in
     IfOk-weaker c.close_heading.result _ _ (λ heading is lawful. record {
-      can = c.requires;
+      can = c.requires.journals;
       books = c.in_ok-append_books.ensures.books lawful;
       few = few;
     }) c.close_heading.ensures.items

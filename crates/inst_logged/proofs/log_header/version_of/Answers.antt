@@ -2,7 +2,7 @@ use Rattle.inst_logged.proofs.FirstLine.{says, no_json}
 use Rattle.inst_logged.proofs.log_header.version_of.Goals as goal
 
 pub returns-in-Some-clause-back : goal.returns-in-Some-clause-back
-returns-in-Some-clause-back c = λ version mode s books first. c.version_in.ensures version (says version mode s books first c.without_newline.ensures c.in_ok-value.field-0 c.in-Some.value c.in_ok-value.ensures c.in-Some.is).version_is
+returns-in-Some-clause-back c = λ version mode s origin first. c.version_in.ensures version (says version mode s origin first c.without_newline.ensures c.in_ok-value.field-0 c.in-Some.value c.in_ok-value.ensures c.in-Some.is).version_is
 
 pub returns-in-None-clause-back : goal.returns-in-None-clause-back
-returns-in-None-clause-back c = λ version mode s books first. absurd (no_json version mode s books first c.without_newline.ensures c.in_ok-value.field-0 c.in_ok-value.ensures c.in-None.is)
+returns-in-None-clause-back c = λ version mode s origin first. absurd (no_json version mode s origin first c.without_newline.ensures c.in_ok-value.field-0 c.in_ok-value.ensures c.in-None.is)

@@ -1,7 +1,7 @@
 use Rattle.std.proofs.Common.{◌∙◌}
 use Rattle.inst_log.specs.Opening.{lines_after_settings}
 use Rattle.inst_logged.specs.Answering.{past_after}
-use Rattle.inst_logged.proofs.HubOpenedFromJournals.{some_weaker, are_carried, has_run, none_left}
+use Rattle.inst_logged.proofs.HubOpenedFromJournals.{are_carried, has_run}
 use Rattle.inst_logged.proofs.hub.LoggedHub.close.Goals as goal
 
 pub returns-clause-ok : goal.returns-clause-ok
@@ -14,7 +14,6 @@ returns-clause-ok g c clean =
     record {
       taken = opens.taken;
       lines = opens.lines;
-      are = some_weaker c.in_ok-carry.field-0 _ _ (λ journals are past keeps. are_carried mode (past_after mode past lines) runner journals.items (opens.state past keeps) are) c.in_ok-carry.ensures.books;
-      settings = λ past keeps. c.carry.ensures.settings ∙ (has_run mode (past_after mode past lines) runner (opens.state past keeps)).0;
-      last = λ none past keeps. none_left mode (past_after mode past lines) runner (opens.state past keeps) (c.in_ok-carry.ensures.many none);
+      are = λ past keeps. are_carried mode (past_after mode past lines) runner c.in_ok-close_books.field-0.items (opens.state past keeps) c.in_ok-close_books.ensures.books;
+      settings = λ past keeps. c.close_books.ensures.settings ∙ (has_run mode (past_after mode past lines) runner (opens.state past keeps)).0;
     }

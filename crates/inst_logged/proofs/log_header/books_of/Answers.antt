@@ -1,9 +1,0 @@
-use Rattle.std.proofs.Common.{◌∙◌}
-use Rattle.inst_logged.proofs.FirstLine.{says, no_json}
-use Rattle.inst_logged.proofs.log_header.books_of.Goals as goal
-
-pub returns-in-Some : goal.returns-in-Some
-returns-in-Some c = λ version mode s books first. c.number.ensures ∙ (says version mode s books first c.without_newline.ensures c.in_ok-value.field-0 c.in-Some.value c.in_ok-value.ensures c.in-Some.is).books_are
-
-pub returns-in-None : goal.returns-in-None
-returns-in-None c = λ version mode s books first. absurd (no_json version mode s books first c.without_newline.ensures c.in_ok-value.field-0 c.in_ok-value.ensures c.in-None.is)
