@@ -49,3 +49,8 @@ echo "tuesday:"
 {"at":20001,"cmd":"confirm","from":"AAAADEFF","id":"T1","who":"BBBBFRPP"}
 {"at":20002,"cents":300,"cmd":"submit","id":"T2","stamp":20002,"to":"BBBBFRPP","who":"AAAADEFF"}
 LINES
+
+echo "an audit of both:"
+(cd -- "$made" && "$top/bin/inst_main" audit monday.log tuesday.log) | sed 's/, digest .*//'
+echo "in another order:"
+(cd -- "$made" && "$top/bin/inst_main" audit tuesday.log monday.log) 2>&1 || echo "status $?"

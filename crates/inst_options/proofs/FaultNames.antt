@@ -4,7 +4,7 @@ use Rattle.std.proofs.lemmas.Bool.{cases_lt}
 use Rattle.inst_base.specs.declared.fault.Fault.TheVariants as fault
 use Rattle.inst_options.specs.AnyFault.{IsNamed}
 use Rattle.inst_options.specs.declared.any_fault.AnyFault.{AnyFault}
-use Rattle.inst_options.specs.declared.any_fault.AnyFault.TheVariants.{Hub, Log, NoInterleaving, PendingTransfer}
+use Rattle.inst_options.specs.declared.any_fault.AnyFault.TheVariants.{Hub, Log, NoInterleaving, PendingTransfer, BrokenChain}
 use Rattle.inst_options.specs.declared.any_fault.TheConstants.{ALL}
 use Rattle.inst_options.specs.declared.log_fault.LogFault.TheVariants as log
 
@@ -20,7 +20,7 @@ one_more word all n before here i f below at = by_case (cases_lt i n) where
   by_case (inr more) = let same : i ≡ n = omega (arith, below, more) in here f (subst (λ (j : ℕ). slice_get all j ≡ Some f) same at)
 
 -- each fault stands there
-stands : (f : AnyFault) → (i : ℕ) × (i < 30) × (slice_get ALL.now i ≡ Some f)
+stands : (f : AnyFault) → (i : ℕ) × (i < 31) × (slice_get ALL.now i ≡ Some f)
 stands (Hub fault.NotJson) = (0, omega arith, refl)
 stands (Hub fault.BadField) = (1, omega arith, refl)
 stands (Hub fault.BadIdentifier) = (2, omega arith, refl)
@@ -51,7 +51,8 @@ stands (Log log.OtherDigest) = (26, omega arith, refl)
 stands (Log log.ChangedLog) = (27, omega arith, refl)
 stands NoInterleaving = (28, omega arith, refl)
 stands PendingTransfer = (29, omega arith, refl)
+stands BrokenChain = (30, omega arith, refl)
 
-pub none_of_all : (word : List ℕ) (n : ℕ) → 30 ≤ n → ((i : ℕ) (f : AnyFault) → i < n → slice_get ALL.now i ≡ Some f → ¬ (IsNamed word f)) →
+pub none_of_all : (word : List ℕ) (n : ℕ) → 31 ≤ n → ((i : ℕ) (f : AnyFault) → i < n → slice_get ALL.now i ≡ Some f → ¬ (IsNamed word f)) →
     (f : AnyFault) → ¬ (IsNamed word f)
 none_of_all word n whole none f = let at = stands f in none at.0 f (omega (arith, at.1, whole)) at.2

@@ -1,12 +1,12 @@
 -- The text of an option, the number that it writes, and what is known of words that give none.
-use Rattle.std.proofs.Common.{◌≡◌, ◌≢◌, ◌⊎◌, ◌<◌, ◌≤◌, ◌^◌, ℕ, List, Option, Some, None, Result, Ok, Err, ok_or, option_map, unwrap_or, IfOk, OnErr, Bor, refl, sym, subst, ◌∙◌, inl, inr, arith}
+use Rattle.std.proofs.Common.{◌≡◌, ◌≢◌, ◌⊎◌, ◌<◌, ◌≤◌, ◌^◌, ℕ, List, Option, Some, None, Result, Ok, Err, ok_or, map, option_map, unwrap_or, IfOk, OnErr, Bor, refl, sym, subst, ◌∙◌, inl, inr, arith}
 use Rattle.std.specs.Str.Parse.{ParsesUnsigned, digits_value, without_leading_plus}
 use Rattle.std.proofs.lemmas.Bool.{cases_lt}
-use Rattle.clap.specs.Words.{ReadsOne, Row, first_of, first_value, one_text, rows_of}
+use Rattle.clap.specs.Words.{ReadsOne, Row, first_of, first_value, matched_of, one_text, raw_values, rows_of}
 use Rattle.clap.specs.declared.parser.matches.Found.{Found}
-use Rattle.clap.proofs.WalkLemmas.{first_value-rows, one_text-rows}
+use Rattle.clap.proofs.WalkLemmas.{first_value-rows, one_text-rows, raw_values-rows}
 use Rattle.inst_base.specs.declared.fault.Fault.{Fault}
-use Rattle.inst_options.specs.Options.{Gives, GivesNoneBelow, IsText}
+use Rattle.inst_options.specs.Options.{AreTexts, Gives, GivesNoneBelow, IsText}
 use Rattle.clap.specs.Words.{HasKind, IsAmong, kind_of, subcommand_of}
 use Rattle.inst_options.specs.CommandLine.{command_line}
 use Rattle.clap.specs.declared.error.Error.{Error}
@@ -87,3 +87,11 @@ pub text_or_none : (f : Found) (name : List ℕ) (r : Option (Bor (List ℕ))) (
     IsText name (rows_of f) (unwrap_or r d).now
 text_or_none f name None d is = λ given at. absurd (no_some given (is ∙ first_value-rows f name ∙ at))
 text_or_none f name (Some text) d is = λ given at. some_one text.now given (is ∙ first_value-rows f name ∙ at)
+
+-- the texts of an option or of words, if it has any
+pub texts_given : (f : Found) (name : List ℕ) (r : Option (Bor (List (Bor (List ℕ))))) (other : Bor (List (Bor (List ℕ)))) → option_map (λ s. map (λ v. v.now) s.now) r ≡ option_map raw_values (matched_of f name) →
+    AreTexts name (rows_of f) (map (λ v. v.now) (unwrap_or r other).now)
+texts_given f name None other is given at = absurd (let no : None ≡ Some given = is ∙ raw_values-rows f name ∙ at in cc no)
+texts_given f name (Some texts) other is given at =
+    let same : ◌≡◌ {A = Option (List (List ℕ))} (Some (map (λ v. v.now) texts.now)) (Some given) = is ∙ raw_values-rows f name ∙ at in
+    cc same

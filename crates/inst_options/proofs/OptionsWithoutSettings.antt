@@ -203,6 +203,7 @@ wished_of words name rows (wish.Drill s transfers openings script) whole at is =
 wished_of words name rows (wish.Check s) whole at is = (is.0, whole, (name, rows, at, is.1, is.2))
 wished_of words name rows (wish.Log path) whole at is = (whole, (name, rows, at, is.0, is.1))
 wished_of words name rows (wish.Next next) whole at is = (whole, (name, rows, at, is.0, is.1, is.2, is.3, is.4, is.5))
+wished_of words name rows (wish.Audit files) whole at is = (whole, (name, rows, at, is.0, is.1))
 wished_of words name rows (wish.Explain word) whole at is = (whole, (name, rows, at, is.0, is.1))
 
 pub wished_from : (words : List (List ℕ)) (found : Option (Text × List Row)) → AreWhole words → found ≡ subcommand_of command_line words →

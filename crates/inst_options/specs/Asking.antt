@@ -1,6 +1,6 @@
 -- The task that the words of a command line ask for, or why there is none. A choice of this hub.
 use Rattle.std.specs.Prelude.{◌≢◌, ◌⊎◌, ◌≡◌, ℕ, Bool, true, List, [], Option, Some, None}
-use Rattle.std.specs.Prelude.{option_map, codes}
+use Rattle.std.specs.Prelude.{map, option_map, codes}
 use Rattle.clap.specs.Words.{IsAmong, Kinds, Row, fault_of, first_of, kind_of, subcommand_of}
 use Rattle.clap.specs.declared.error.kind.ErrorKind.{ErrorKind}
 use Rattle.clap.specs.declared.error.kind.ErrorKind.TheVariants.{DisplayHelp, DisplayVersion}
@@ -12,7 +12,7 @@ use Rattle.inst_settings.specs.Lawful.{AreOfAHub, IsSettings}
 use Rattle.inst_options.specs.CommandLine.{command_line}
 use Rattle.inst_options.specs.BadOptions.{IsBadOption}
 use Rattle.inst_options.specs.Changes.{GivesChanges}
-use Rattle.inst_options.specs.Options.{AreOfNoLog, Chooses, GivesDigest, HasAHub, HasSmallNumbers}
+use Rattle.inst_options.specs.Options.{AreOfNoLog, AreTexts, Chooses, GivesDigest, HasAHub, HasSmallNumbers}
 use Rattle.inst_options.specs.Options.{IsFlag, IsTask, IsText, NamesNoLog, NamesTheLog, Task}
 use Rattle.inst_options.specs.Options.Task.{Run, Play, Drill, Check}
 use Rattle.inst_options.specs.declared.bad_option.BadOption.{BadOption}
@@ -94,6 +94,12 @@ AskForTheNext words from to digest positions changes = AreWhole words
     × IsText (codes "to") rows to × GivesDigest rows digest
     × IsFlag (codes "positions") rows positions × GivesChanges rows changes)
 
+-- The words are a whole command line and ask for an audit of these logs.
+abbrev pub AskForTheAudit : List (List ℕ) → List (List ℕ) → Type 0
+AskForTheAudit words files = AreWhole words
+    × ((name : List ℕ) × (rows : List Row) × (subcommand_of command_line words ≡ Some (name, rows))
+    × (same_text name (codes "audit") ≡ true) × AreTexts (codes "files") rows files)
+
 -- The words ask for a summary, or not.
 abbrev pub AskForASummary : List (List ℕ) → Bool → Type 0
 AskForASummary words sums =
@@ -128,6 +134,8 @@ IsWished words (wish.Log path) = AskForTheLog words path.now
 IsWished words (wish.Next next) =
     AskForTheNext words next.from.now next.to.now (option_map (λ d. d.now) next.digest)
     next.positions next.changes
+IsWished words (wish.Audit files) =
+    AskForTheAudit words (map (λ file. file.now) files.items)
 IsWished words (wish.Explain word) = AskToExplain words word.now
 
 -- The words are a whole command line for a hub, and choose no settings that a hub can have, or no

@@ -3,7 +3,8 @@
 use Rattle.std.specs.Prelude.{◌≡◌, ◌⊎◌, ℕ, ◌<◌, ◌≤◌, ◌^◌, true, false, List, [], ◌∷◌, slice_get}
 use Rattle.std.specs.Prelude.{Some, codes}
 use Rattle.clap.specs.Words.{Row, first_of}
-use Rattle.inst_options.specs.Options.{Gives, IsFlag, NamesNoLog, is_digest}
+use Rattle.inst_chain.specs.Chain.{is_digest}
+use Rattle.inst_options.specs.Options.{Gives, IsFlag, NamesNoLog}
 use Rattle.inst_options.specs.declared.bad_option.BadOption.{BadOption}
 use Rattle.inst_options.specs.declared.texts.TheConstants.{PARTICIPANTS, DIGEST}
 

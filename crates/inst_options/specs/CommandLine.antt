@@ -2,7 +2,7 @@
 use Rattle.std.specs.Prelude.{◌-◌, ◌^◌, ℕ, true, false, List, ◌∷◌, [], ◌++◌, Some, codes}
 use Rattle.clap.specs.Words.{App, Rule, Shape, new_app, new_rule, with_rule, with_subcommand}
 use Rattle.clap.specs.Simple.{on_top}
-use Rattle.clap.specs.declared.builder.action.ArgAction.TheVariants.{Set, SetTrue}
+use Rattle.clap.specs.declared.builder.action.ArgAction.TheVariants.{Append, Set, SetTrue}
 use Rattle.clap.specs.declared.builder.value_parser.ValueParser.TheVariants.{Unsigned}
 
 -- The participants' codes; required.
@@ -35,6 +35,11 @@ change_rule name = record (number_rule name []) { defaults = [] }
 -- The file of a log, as the positional word of `log`; required.
 abbrev pub file_rule : Rule
 file_rule = record (new_rule (codes "file")) { required = true; action = Some Set; value_names = 1 }
+
+-- The files of logs, as the positional words of `audit`; at least one.
+abbrev pub files_rule : Rule
+files_rule =
+    record (new_rule (codes "files")) { required = true; action = Some Append; value_names = 1 }
 
 -- The file of a run's log.
 abbrev pub log_rule : Rule
@@ -158,6 +163,7 @@ subcommands =
     ∷ subcommand (codes "drill") (hub_rules ++ drill_rules)
     ∷ subcommand (codes "log") (file_rule ∷ [])
     ∷ subcommand (codes "next") (next_rules ++ change_rules)
+    ∷ subcommand (codes "audit") (files_rule ∷ [])
     ∷ subcommand (codes "explain") (fault_rule ∷ [])
     ∷ []
 

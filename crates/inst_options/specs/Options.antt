@@ -1,10 +1,10 @@
 -- The options of a subcommand, and the settings that they choose. A choice of this hub.
-use Rattle.std.specs.Prelude.{◌⊎◌, ◌≡◌, ◌<◌, ◌≤◌, ◌^◌, ◌==◌, ◌&&◌, ◌||◌, ℕ, Bool, true, false}
-use Rattle.std.specs.Prelude.{nat_le, nat_lt, List, length, Option, Some, None, IfSome, is_some}
+use Rattle.std.specs.Prelude.{◌⊎◌, ◌≡◌, ◌<◌, ◌≤◌, ◌^◌, ◌||◌, ℕ, Bool, true, false}
+use Rattle.std.specs.Prelude.{nat_lt, List, Option, Some, None, IfSome, is_some}
 use Rattle.std.specs.Prelude.{unwrap_or, codes}
-use Rattle.std.specs.List.{list_all}
 use Rattle.std.specs.Str.Parse.{IsNumeral, digits_value, without_leading_plus}
-use Rattle.clap.specs.Words.{Row, Text, first_of, one_of}
+use Rattle.clap.specs.Words.{Row, Text, all_of, first_of, one_of}
+use Rattle.inst_chain.specs.Chain.{is_digest}
 use Rattle.inst_settings.specs.Parts.{parts_of}
 use Rattle.inst_settings.specs.Settings.{HubSettings, same_text}
 
@@ -34,17 +34,21 @@ IsGiven name rows = (text : Text) × (first_of name rows ≡ Some text)
 abbrev pub IsText : List ℕ → List Row → List ℕ → Type 0
 IsText name rows text = (given : List ℕ) → first_of name rows ≡ Some given → text ≡ given
 
+-- The texts are the option's, if it has any.
+abbrev pub AreTexts : List ℕ → List Row → List (List ℕ) → Type 0
+AreTexts name rows texts = (given : List (List ℕ)) → all_of name rows ≡ Some given → texts ≡ given
+
 -- The option without a value is given, or not.
 abbrev pub IsFlag : List ℕ → List Row → Bool → Type 0
 IsFlag name rows flag =
     (one_of name rows ≡ Some (codes "true") → flag ≡ true)
     × (((one_of name rows ≡ None) ⊎ (one_of name rows ≡ Some (codes "false"))) → flag ≡ false)
 
--- The subcommand has a hub: it isn't `log`, `next` or `explain`.
+-- The subcommand has a hub: it isn't `log`, `next`, `audit` or `explain`.
 abbrev pub HasAHub : List ℕ → Type 0
 HasAHub name =
     (same_text name (codes "log") ≡ false) × (same_text name (codes "next") ≡ false)
-    × (same_text name (codes "explain") ≡ false)
+    × (same_text name (codes "audit") ≡ false) × (same_text name (codes "explain") ≡ false)
 
 -- An option is about a log: `told`, `digest` or `resume`.
 abbrev pub DescribesALog : List Row → Type 0
@@ -56,14 +60,6 @@ DescribesALog rows =
 abbrev pub GivesOrNot : List Row → List ℕ → Option ℕ → Type 0
 GivesOrNot rows name None = GivesNoneBelow (2 ^ 64) rows name
 GivesOrNot rows name (Some n) = Gives rows name n
-
--- A digit, `0-9 a-f`.
-abbrev pub is_digest_character : ℕ → Bool
-is_digest_character c = (nat_le 48 c && nat_le c 57) || (nat_le 97 c && nat_le c 102)
-
--- A digest: 64 lower-case hexadecimal digits.
-abbrev pub is_digest : List ℕ → Bool
-is_digest text = length text == 64 && list_all is_digest_character text
 
 -- The options give this digest, which is well-formed, or none.
 abbrev pub GivesDigest : List Row → Option Text → Type 0

@@ -18,6 +18,11 @@ impl AnyFault {
                 `next --positions` found a pending transfer, which a new chain can't carry; the \
                 line before the fault names it, with its deadline"
             }
+            AnyFault::BrokenChain => {
+                "\
+                a log of `audit` doesn't begin as `next` begins one from the log before it: it is \
+                of another chain, or a log between them is missing or was changed since"
+            }
         }
     }
 
@@ -33,6 +38,9 @@ impl AnyFault {
                 "\
                 resume the log, let the transfer end (a command at its deadline times it out), and \
                 run `next` again"
+            }
+            AnyFault::BrokenChain => {
+                "name all logs of the chain, the oldest first; restore a changed one from a copy"
             }
         }
     }

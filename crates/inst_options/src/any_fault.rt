@@ -1,4 +1,4 @@
-//! All faults of the program, numbered 1 to 30.
+//! All faults of the program, numbered 1 to 31.
 ghost use Rattle.std.specs.Prelude.{◌≡◌, ◌↔◌, IfSome, None, true};
 ghost use Rattle.inst_options.specs.AnyFault.{any_fault_number, any_fault_name, IsNamed};
 ghost use Rattle.inst_options.specs.declared.any_fault.AnyFault.{AnyFault as SomeFault};
@@ -17,6 +17,8 @@ pub enum AnyFault {
     NoInterleaving,
     /// A transfer is pending, so no new chain can begin with the positions alone: 30.
     PendingTransfer,
+    /// A log doesn't begin as `next` begins one from the log before it: 31.
+    BrokenChain,
 }
 
 /// All faults, ordered by number.
@@ -51,6 +53,7 @@ const ALL: &'static [AnyFault] = &[
     AnyFault::Log(LogFault::ChangedLog),
     AnyFault::NoInterleaving,
     AnyFault::PendingTransfer,
+    AnyFault::BrokenChain,
 ];
 
 impl AnyFault {
@@ -63,6 +66,7 @@ impl AnyFault {
             AnyFault::Log(fault) => fault.number(),
             AnyFault::NoInterleaving => 29,
             AnyFault::PendingTransfer => 30,
+            AnyFault::BrokenChain => 31,
         }
     }
 
@@ -75,6 +79,7 @@ impl AnyFault {
             AnyFault::Log(fault) => fault.name(),
             AnyFault::NoInterleaving => "NoInterleaving",
             AnyFault::PendingTransfer => "PendingTransfer",
+            AnyFault::BrokenChain => "BrokenChain",
         }
     }
 }
@@ -85,7 +90,7 @@ impl AnyFault {
 /// ```text
 /// fault_of("13")       // Some(AnyFault::Hub(Fault::Shortage))
 /// fault_of("Shortage") // the same
-/// fault_of("31")       // None
+/// fault_of("32")       // None
 /// ```
 pub fn fault_of(word: &str) -> Option<AnyFault>
     ensures named { IfSome result (λ fault. IsNamed word.now fault) }

@@ -1,15 +1,16 @@
 //! Naming the option for which settings are refused.
 ghost use Rattle.std.specs.Prelude.{◌≡◌, IfSome, MatchOption, Some, None, codes, false, map};
 ghost use Rattle.clap.specs.Words.{first_of, found_of, rows_of};
-ghost use Rattle.inst_options.specs.Options.{NamesNoLog, is_digest};
+ghost use Rattle.inst_chain.specs.Chain.{is_digest};
+ghost use Rattle.inst_options.specs.Options.{NamesNoLog};
 ghost use Rattle.inst_options.specs.BadOptions.{AreInside, IsBadOption, IsInside, IsOutside};
 ghost use Rattle.inst_options.specs.BadOptions.{ranges};
 ghost use Rattle.inst_options.specs.inner.BadOptions.{range_of};
 
-use crate::digest::is_digest;
 use crate::options::{flag, text, whole};
 use crate::texts;
 use clap::ArgMatches;
+use inst_chain::is_digest;
 use inst_settings::{MOST_AHEAD, MOST_BASE, MOST_CEILING, MOST_FUNDINGS, MOST_LIMIT, MOST_PLACES};
 
 /// An option whose value, together with the others, no hub can have.
@@ -199,7 +200,11 @@ fn malformed_digest<'a>(options: &ArgMatches<'a>) -> Option<&'a str>
     ensures none { IfSome result (λ value. is_digest value.now ≡ false) }
 {
     let value = text(options, "digest").ok()?;
-    if is_digest(value) { None } else { Some(value) }
+    if is_digest(value.as_bytes()) {
+        None
+    } else {
+        Some(value)
+    }
 }
 
 /// Returns the value of this option, if no log is named.

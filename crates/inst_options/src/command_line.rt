@@ -68,7 +68,7 @@ fn argument<'a>(alloc: Global, choice: &OptionRow) -> Arg<'a>
         .default_values(choice.defaults)
         .help(choice.help);
     match choice.kind {
-        Kind::Word => arg,
+        Kind::Word | Kind::Words => arg,
         Kind::Flag | Kind::Text => arg.long(choice.name),
         Kind::Number => arg.long(choice.name).value_parser(clap::value_parser!(u64)),
     }

@@ -47,6 +47,8 @@ pub enum Invocation<'a> {
     Log(&'a str),
     /// Closes the hub of a log, and begins another log with its books.
     Next(NextOptions<'a>),
+    /// Audits the logs of these names, the oldest first.
+    Audit(Vec<&'a str>),
     /// Explains the fault of this number or name.
     Explain(&'a str),
 }

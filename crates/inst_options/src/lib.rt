@@ -7,7 +7,6 @@ mod advice;
 mod any_fault;
 mod bad_option;
 mod command_line;
-mod digest;
 mod error;
 mod invocation;
 mod log_fault;

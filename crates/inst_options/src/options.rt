@@ -1,9 +1,9 @@
 //! Reading the options of a subcommand.
 ghost use Rattle.std.specs.Prelude.{◌≡◌, ◌^◌, ◌⊎◌, ◌↔◌, IfOk, IfErr, OnErr, IsOkUnless, Some, None};
 ghost use Rattle.std.specs.Prelude.{true};
-ghost use Rattle.std.specs.Prelude.{codes, option_map};
+ghost use Rattle.std.specs.Prelude.{codes, map, option_map};
 ghost use Rattle.clap.specs.Words.{first_of, found_of, rows_of};
-ghost use Rattle.inst_options.specs.Options.{AreOfNoLog, GivesNoDigest, HasAHub, IsText};
+ghost use Rattle.inst_options.specs.Options.{AreOfNoLog, AreTexts, GivesNoDigest, HasAHub, IsText};
 ghost use Rattle.inst_options.specs.Options.{IsFlag, Gives, GivesNoneBelow, Chooses, IsDrill};
 ghost use Rattle.inst_options.specs.Options.{DescribesALog, GivesDigest, GivesOrNot, IsGiven};
 ghost use Rattle.inst_options.specs.Options.{must_resume};
@@ -13,13 +13,13 @@ ghost use Rattle.inst_options.specs.inner.Options.{ChooseNone, AskForNone};
 ghost use Rattle.inst_options.specs.Asking.{IsBeginRefusal};
 ghost use Rattle.inst_settings.specs.Lawful.{IsSettings};
 
-use crate::digest::is_digest;
 use crate::invocation::{Invocation, LogOptions, NextOptions};
 use crate::setting_changes::SettingChanges;
 use clap::ArgMatches;
 use inst_base::Fault;
+use inst_chain::is_digest;
 use inst_settings::{HubParameters, Settings, parse_codes};
-use std::alloc::Global;
+use std::alloc::{AllocError, Global};
 
 /// Returns what a subcommand and its options ask for. Fails with `BadSettings` as [`hub_wish`]
 /// does, and for a malformed digest.
@@ -44,6 +44,9 @@ pub(crate) fn wish<'a>(
             positions: flag(options, "positions"),
             changes: changes(options),
         }));
+    }
+    if name == "audit" {
+        return Ok(Invocation::Audit(texts(alloc, options, "files")?));
     }
     if name == "explain" {
         return Ok(Invocation::Explain(text_if_any(options, "fault")));
@@ -148,7 +151,7 @@ fn digest<'a>(options: &ArgMatches<'a>) -> Result<Option<&'a str>, Fault>
     ensures fault { IsOkUnless result Fault.BadSettings }
 {
     match options.get_str("digest") {
-        Some(text) if is_digest(text) => Ok(Some(text)),
+        Some(text) if is_digest(text.as_bytes()) => Ok(Some(text)),
         Some(_) => Err(Fault::BadSettings),
         None => Ok(None),
     }
@@ -234,6 +237,21 @@ fn text_if_any<'a>(options: &ArgMatches<'a>, name: &str) -> &'a str
     ensures { IsText name.now (rows_of (found_of options.now)) result.now }
 {
     options.get_str(name).unwrap_or("")
+}
+
+/// Returns the texts of an option or of positional words, in the order of the words.
+fn texts<'a>(
+    alloc: Global,
+    options: &ArgMatches<'a>,
+    name: &str,
+) -> Result<Vec<&'a str>, AllocError>
+    ensures { IfOk result (λ texts.
+        AreTexts name.now (rows_of (found_of options.now)) (map (λ text. text.now) texts.items)) }
+{
+    let given = options.get_strs(name).unwrap_or(&[]);
+    let mut texts = Vec::new(alloc);
+    texts.extend_from_slice(given)?;
+    Ok(texts)
 }
 
 /// Returns the number of an option, if it has one; the command line has parsed it as a whole number.

@@ -35,6 +35,8 @@ pub(crate) enum Group {
     Next,
     /// The settings that `next` can change.
     Changes,
+    /// The files for `audit`.
+    Audit,
     /// The fault for `explain`.
     Explain,
 }
@@ -51,6 +53,7 @@ impl Group {
             Group::Log => LOG,
             Group::Next => NEXT,
             Group::Changes => CHANGES,
+            Group::Audit => AUDIT,
             Group::Explain => EXPLAIN,
         }
     }
@@ -78,6 +81,8 @@ pub(crate) enum Kind {
     Flag,
     /// A positional word.
     Word,
+    /// One positional word or more.
+    Words,
     /// An option with a text.
     Text,
     /// An option with a whole number of 64 bits.
@@ -91,6 +96,7 @@ impl Kind {
     {
         match self {
             Kind::Flag => ArgAction::SetTrue,
+            Kind::Words => ArgAction::Append,
             Kind::Word | Kind::Text | Kind::Number => ArgAction::Set,
         }
     }
@@ -151,6 +157,13 @@ const SUBCOMMANDS: &'static [Subcommand] = &[
         long_about: texts::NEXT,
         after_help: None,
         groups: &[Group::Next, Group::Changes],
+    },
+    Subcommand {
+        name: "audit",
+        about: "Audits logs that follow one another, the oldest first, and prints one line for each",
+        long_about: texts::AUDIT,
+        after_help: None,
+        groups: &[Group::Audit],
     },
     Subcommand {
         name: "explain",
@@ -424,6 +437,16 @@ const CHANGES: &'static [OptionRow] = &[
             books, 1 ms after the last one if not given",
     },
 ];
+
+/// The files that `audit` reads.
+const AUDIT: &'static [OptionRow] = &[OptionRow {
+    name: "files",
+    kind: Kind::Words,
+    required: true,
+    value_names: &["LOG"],
+    defaults: &[],
+    help: "Files of the logs, the oldest first",
+}];
 
 /// The fault that `explain` explains.
 const EXPLAIN: &'static [OptionRow] = &[OptionRow {

@@ -63,6 +63,18 @@ with money, up to its position. All settings may change, banks with a position o
 No transfer may be pending. The base is after every time stamp of the first log's books, so none of its submissions can
 be taken again; references of fundings are free again.";
 
+/// The long description of `audit`.
+pub(crate) const AUDIT: &str = "\
+Audits logs that follow one another, the oldest first, and prints one line for each
+
+Each log is verified as a start does, and its lines are answered again without output. Each log but the first must begin
+with what `next` makes from the one before it, under its own settings: with the same books, or as a new chain with the
+same positions and the digest of the log before. One line for each log goes to standard output:
+  NAME: lines N, net funding C, digest D
+N is the number of its lines, C the net funding of all participants in cents, and D the digest of its last mark, `none`
+for a log without marks. If a log is refused or doesn't follow the one before it, nothing is written there, and a line
+on standard error names it. Standard input isn't read, no log is locked, and no file changes. A log is read into memory.";
+
 /// The long description of `explain`.
 pub(crate) const EXPLAIN: &str = "\
 Prints what a refusal or a fault usually means, and what to do
@@ -103,7 +115,7 @@ Exit status:
   0  the input was read to its end, and each line was checked or has its reply, which may be a refusal;
      or the drill is done, and no outcome that was seen differs from the books;
      or the log of the next opening was made;
-     or the contents of a log, an explanation, help or the version was printed
+     or the contents of a log, an audit, an explanation, help or the version was printed
   2  the command line or the settings are wrong, or a log or a script file is refused; no input was read
   3  a fault ended the task; standard error has its line, such as `fault 17 ReadFault`
 

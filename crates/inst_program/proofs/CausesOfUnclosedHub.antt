@@ -11,6 +11,7 @@ use Rattle.inst_logged.specs.Finding.{FindsLog}
 use Rattle.inst_logged.specs.Header.{AreFirstLines}
 use Rattle.inst_logged.specs.Refused.{IsCause, IsRefused, IsLogTaken}
 use Rattle.inst_log.specs.Disks.{HasKeptFaith}
+use Rattle.inst_logged.specs.declared.header.Origin.{Origin}
 use Rattle.inst_logged.specs.declared.log_header.LogHeader.{LogHeader}
 use Rattle.inst_logged.specs.declared.error.LoggedError.{LoggedError}
 use Rattle.inst_logged.specs.declared.hub.new_hub.NewHub.{NewHub}
@@ -18,7 +19,7 @@ use Rattle.inst_logged.specs.declared.version.Version.{Version}
 use Rattle.inst_logged.proofs.BooksBehindFirstLine.{log_has_a_line}
 use Rattle.inst_logged.proofs.CausesOfRefusal.{not_taken}
 use Rattle.inst_program.specs.Files.{Files}
-use Rattle.inst_program.specs.Keeping.{HasNoOpeningLeft, IsGoodToClose}
+use Rattle.inst_program.specs.Keeping.{IsGoodToClose}
 use Rattle.inst_program.specs.inner.Carrying.{IsReadAsLog, IsLogUnbegun, IsLogUnclosed, ReadsBeginning}
 use Rattle.inst_program.specs.inner.ExitReason.{status_of_ending}
 use Rattle.inst_program.specs.inner.Visiting.{IsVisitedAs}
@@ -34,22 +35,22 @@ none_to_close wanted file now same none good =
 -- its first line isn't that of a log
 pub unread_to_close : (wanted : Option Digest) (file : List ℕ) (r : Result (Option LogHeader) ExitReason) → ReadsBeginning file r → r ≡ Ok None → IsGoodToClose wanted file → ⊥
 unread_to_close wanted file r reads none good =
-    let (books, is) = subst (λ (q : Result (Option LogHeader) ExitReason). MatchResult q (λ found. (books : Option ℕ) × (found ≡ Some (beginning_with good.mode good.settings books))) (λ ending. status_of_ending ending ≡ 2 → ⊥)) none
+    let (origin, is) = subst (λ (q : Result (Option LogHeader) ExitReason). MatchResult q (λ found. (origin : Origin) × (found ≡ Some (beginning_with good.mode good.settings origin))) (λ ending. status_of_ending ending ≡ 2 → ⊥)) none
     (reads good.version good.mode good.settings good.first good.lines good.begins) in
     cc is
 
 pub refused_to_close : (wanted : Option Digest) (file : List ℕ) (r : Result (Option LogHeader) ExitReason) (e : ExitReason) → ReadsBeginning file r → r ≡ Err e → status_of_ending e ≡ 2 → IsGoodToClose wanted file → ⊥
 refused_to_close wanted file r e reads failed two good =
-    subst (λ (q : Result (Option LogHeader) ExitReason). MatchResult q (λ found. (books : Option ℕ) × (found ≡ Some (beginning_with good.mode good.settings books))) (λ ending. status_of_ending ending ≡ 2 → ⊥)) failed
+    subst (λ (q : Result (Option LogHeader) ExitReason). MatchResult q (λ found. (origin : Origin) × (found ≡ Some (beginning_with good.mode good.settings origin))) (λ ending. status_of_ending ending ≡ 2 → ⊥)) failed
     (reads good.version good.mode good.settings good.first good.lines good.begins) two
 
 -- what was read of it
 read_so : (file : List ℕ) (r : Result (Option LogHeader) ExitReason) (b : LogHeader) → ReadsBeginning file r → r ≡ Ok (Some b)
     → (version : Version) (m : Mode) (t : HubSettings) (first : List ℕ) → AreFirstLines version m t first → Begins first file → (m ≡ b.mode) × (t ≡ b.settings)
 read_so file r b reads is version m t first lines begins =
-    let (books, same) = subst (λ (q : Result (Option LogHeader) ExitReason). MatchResult q (λ found. (books : Option ℕ) × (found ≡ Some (beginning_with m t books))) (λ ending. status_of_ending ending ≡ 2 → ⊥)) is
+    let (origin, same) = subst (λ (q : Result (Option LogHeader) ExitReason). MatchResult q (λ found. (origin : Origin) × (found ≡ Some (beginning_with m t origin))) (λ ending. status_of_ending ending ≡ 2 → ⊥)) is
     (reads version m t first lines begins) in
-    let both : b ≡ beginning_with m t books = cc same in
+    let both : b ≡ beginning_with m t origin = cc same in
     (ap (λ (x : LogHeader). x.mode) (sym both), ap (λ (x : LogHeader). x.settings) (sym both))
 
 pub is_read : (file : List ℕ) (r : Result (Option LogHeader) ExitReason) (b : LogHeader) → 0 < length (recovered_lines file) → ReadsBeginning file r → r ≡ Ok (Some b) → IsReadAsLog b.mode b.settings file
@@ -77,8 +78,7 @@ module _ (mode : Mode) (s : HubSettings) (wanted : Option Digest) (file : List �
 module _ {D : Type 0} (disks : Ghosts D) (old new : Files) (name : List ℕ) (disk disk' : D) (v : IsVisitedAs disks old new name disk disk') where
   pub unclosed_in : (in_use : Type 0) (wanted : Option Digest) → IsLogUnclosed ⊥ (HasKeptFaith disks disk') wanted (disks.seen disk) → IsLogUnclosed in_use (IsTrue new.is_clean) wanted (old.bytes name)
   unclosed_in in_use wanted (inl never) = absurd never
-  unclosed_in in_use wanted (inr (inl bad)) = inr (inl (λ is good. bad (v.faith is) (subst (IsGoodToClose wanted) (v.change is).was good)))
-  unclosed_in in_use wanted (inr (inr none)) = inr (inr (λ is. subst HasNoOpeningLeft (sym (v.change is).was) (none (v.faith is))))
+  unclosed_in in_use wanted (inr bad) = inr (λ is good. bad (v.faith is) (subst (IsGoodToClose wanted) (v.change is).was good))
 
   pub unbegun_in : (in_use : Type 0) (first : List ℕ) → IsLogUnbegun ⊥ (HasKeptFaith disks disk') first (disks.seen disk) → IsLogUnbegun in_use (IsTrue new.is_clean) first (old.bytes name)
   unbegun_in in_use first (inl never) = absurd never

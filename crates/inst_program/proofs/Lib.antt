@@ -15,3 +15,4 @@ pub mod OutcomeOfTask
 pub mod ChangesByExitStatus
 pub mod BooksUnderChanges
 pub mod BaseOfNewChain
+pub mod AuditedLogs

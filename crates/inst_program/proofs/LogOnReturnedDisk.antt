@@ -1,7 +1,8 @@
 -- What a hub leaves of the log on a disk that it gives back.
-use Rattle.std.proofs.Common.{◌≡◌, ◌∙◌, inl, inr, ◌<◌, length, ◌++◌, [], ℕ, true, List, Option, None, Some, IsTrue, Vec, Result, Err, refl, ap, sym, subst}
+use Rattle.std.proofs.Common.{◌≡◌, ◌∙◌, inl, inr, ◌<◌, length, ◌++◌, [], ℕ, true, List, Option, None, IfSome, IsTrue, Vec, Result, Err, refl, ap, sym, subst}
 use Rattle.std.specs.Io.KnownBytes.{IsAtEnd}
 use Rattle.std.specs.declared.alloc.Global.{Global}
+use Rattle.sqlite_disk.specs.Disk.{Only}
 use Rattle.sqlite_disk.specs.declared.Disk.{Ghosts}
 use Rattle.inst_settings.specs.Settings.{HubSettings}
 use Rattle.inst_journal.specs.History.{History}
@@ -11,6 +12,7 @@ use Rattle.inst_lines.specs.declared.mode.Mode.{Mode}
 use Rattle.inst_lines.specs.Answering.{HubPast, IsRunnerAt, new_past}
 use Rattle.inst_log.specs.Layout.{recovered_lines}
 use Rattle.inst_log.specs.Opening.{lines_after_settings, Begins, IsSameOrBegun, OpensAlike}
+use Rattle.inst_chain.specs.Chain.{IsHexadecimal}
 use Rattle.inst_chain.specs.declared.digest.Digest.{Digest}
 use Rattle.inst_logged.specs.declared.version.Version.{Version}
 use Rattle.inst_logged.specs.declared.version.Version.TheVariants.{Two}
@@ -20,17 +22,18 @@ use Rattle.inst_logged.specs.declared.hub.new_hub.NewHub.{NewHub}
 use Rattle.inst_logged.specs.NewHub.{IsNewHub}
 use Rattle.inst_logged.specs.declared.line_answers.LineAnswers.{LineAnswers}
 use Rattle.inst_logged.specs.Answering.{opened_from, past_after, AreBooksAfter}
-use Rattle.inst_logged.specs.Closing.{ClosesWith, HaveOpeningsLeft}
+use Rattle.inst_logged.specs.Closing.{ClosesWith}
 use Rattle.inst_logged.specs.Header.{header, header_from}
 use Rattle.inst_logged.specs.LineAnswers.{HasOpened}
 use Rattle.inst_logged.specs.Marking.{IsIntact}
-use Rattle.inst_logged.specs.Logged.{HasBegun, HasLogged, SurvivesACrash}
+use Rattle.inst_logged.specs.Logged.{HasBegun, HasLogged, IsUnbegun, SurvivesACrash}
 use Rattle.inst_logged.specs.Refused.{IsCause, IsRefused, IsLogTaken}
 use Rattle.inst_log.specs.Disks.{HasKeptFaith, HasSameFile}
-use Rattle.inst_logged.specs.Running.{disk_of, file_of, HasGone, HasNoRoom, SurvivesEachCrash, OpensLogAgain, RunsThrough, StaysAlike, StopsBy}
+use Rattle.inst_logged.specs.Running.{disk_of, file_of, HasGone, HasNoRoom, IsReadyHub, SurvivesEachCrash, OpensLogAgain, RunsThrough, StaysAlike, StopsBy}
 use Rattle.inst_logged.specs.Streams.{Streams}
 use Rattle.inst_program.specs.Files.{Change, IsAsItWas, MayBe, change_on}
-use Rattle.inst_program.specs.Keeping.{AnswersAFront, AsksFor, CarriesBooks, HasNoOpeningLeft, IsAtMost, IsBeginning, IsBegun, IsLogOfAHub, IsSafe, IsSpared, IsSparedLog, IsTakenFor, IsUntaken, KeepsLines, KeptRun, NextHub}
+use Rattle.inst_program.specs.Keeping.{AnswersAFront, AsksFor, CarriesBooks, IsAtMost, IsBeginning, IsBegun, IsLogOfAHub, IsSafe, IsSpared, IsSparedLog, IsTakenFor, IsUntaken, KeepsLines, KeptRun, NextHub}
+use Rattle.inst_program.specs.Auditing.{IsClosedAs}
 use Rattle.inst_program.specs.Keeping.IsUntaken.{Foreign}
 use Rattle.inst_logged.specs.Finding.{Unrefused}
 use Rattle.inst_program.specs.inner.ExitReason.{IsUnkept}
@@ -53,6 +56,15 @@ module _ {D : Type 0} (disks : Ghosts D) where
   pub left_equal : (a b : D) → b ≡ a → HasSameFile disks a b
   left_equal a b same = subst (λ (d : D). HasSameFile disks a d) (sym same) (record { same = refl; crash = λ file may. may })
 
+-- a hub that has answered nothing may run on a disk on which reads return what is on it
+pub ready_on : {D : Type 0} (disks : Ghosts D) (hub : LoggedHub D) (disk : D) → IsUnbegun hub.version hub.header.items hub.marker hub.intake → disk_of hub ≡ disk → IsTrue (disks.is_usable disk)
+    → Only (disks.seen disk) (disks.may_leave disk) → IsReadyHub disks hub
+ready_on {D} disks hub disk unbegun same usable known = record {
+  unbegun = unbegun;
+  usable = subst (λ (d : D). IsTrue (disks.is_usable d)) (sym same) usable;
+  known = λ clean. subst (λ (d : D). Only (disks.seen d) (disks.may_leave d)) (sym same) known;
+}
+
 pub unrefused_at : {V : Type 0} (P : V → Type 0) (r : Result V LoggedError) (e : LoggedError) → Unrefused P r → r ≡ Err e → ¬ (IsRefused e)
 unrefused_at P r e is failed = subst (Unrefused P) failed is
 
@@ -60,7 +72,7 @@ unrefused_at P r e is failed = subst (Unrefused P) failed is
 begun : (version : Version) (mode : Mode) (s : HubSettings) (first : List ℕ) (answers : LineAnswers) → HasBegun version mode s first answers →
     (past : HubPast) × IsBeginning version mode s past first × HasOpened mode past answers
 begun version mode s first answers (inl (has, is)) = (new_past s, inl (refl, is), has)
-begun version mode s first answers (inr (journals, can, has, is)) = (opened_from s journals, inr (journals, can, refl, is), has)
+begun version mode s first answers (inr (journals, previous, can, digits, has, is)) = (opened_from s journals, inr (journals, previous, can, digits, refl, is), has)
 
 -- It was found by its log, on a disk that was only read, and then it has the disk: `hub` before a run and `after` behind it,
 -- when only reads followed.
@@ -216,14 +228,21 @@ module _ {D : Type 0} (disks : Ghosts D) (mode : Mode) (s : HubSettings) (hub af
         | inr taken ↦ inr (spared_log_on wanted (stays (faithful is)) taken)
       ]
 
-  pub safe_closed : (faith : Type 0) (wanted : Option Digest) → (faith → HasKeptFaith disks (disk_of after))
-      → (HasKeptFaith disks (disk_of after) → IsLogTaken hub.version hub.header.items None wanted (file_of disks hub))
-      → (HasKeptFaith disks (disk_of after) → StaysAlike disks hub after) → IsSafe mixes_all faith (change_on disks disk disk')
-  safe_closed faith wanted faithful taken stays is = inr (spared_log_on wanted (stays (faithful is)) (taken (faithful is)))
+  books_on : (wanted : Option Digest) (journals : List History) → ClosesWith disks wanted hub after journals → AreBooksAfter mode gone (lines_after_settings hub.header.items (disks.seen disk)) journals
+  books_on wanted journals closes =
+      subst (λ (f : List ℕ). AreBooksAfter mode gone (lines_after_settings hub.header.items f) journals) left.same
+      (subst (λ (m : Mode). AreBooksAfter m gone (lines_after_settings hub.header.items (file_of disks hub)) journals) same_mode (closes.are gone has_gone_so))
 
-  pub carries_on : (digest : Option (List ℕ)) (wanted : Option Digest) → AsksFor digest wanted → (journals : Vec History Global) → 0 < length (recovered_lines (disks.seen disk))
-      → ClosesWith disks wanted hub after (Some journals) → StaysAlike disks hub after
-      → CarriesBooks digest mixes_all (record { mode = mode; settings = world_settings after.recorder.answers.runner.world; journals = journals.items }) (change_on disks disk disk')
+  settings_on : (wanted : Option Digest) (journals : List History) → ClosesWith disks wanted hub after journals
+      → ◌≡◌ {A = NextHub} (record { mode = mode; settings = world_settings after.recorder.answers.runner.world; journals = journals })
+      (record { mode = mode; settings = (past_after mode gone (lines_after_settings hub.header.items (disks.seen disk))).settings; journals = journals })
+  settings_on wanted journals closes = ap {A = HubSettings} {B = NextHub} (λ u. record { mode = mode; settings = u; journals = journals })
+      (subst (λ (f : List ℕ). world_settings after.recorder.answers.runner.world ≡ (past_after mode gone (lines_after_settings hub.header.items f)).settings) left.same
+      (subst (λ (m : Mode). world_settings after.recorder.answers.runner.world ≡ (past_after m gone (lines_after_settings hub.header.items (file_of disks hub))).settings) same_mode (closes.settings gone has_gone_so)))
+
+  pub carries_on : (digest : Option (List ℕ)) (wanted : Option Digest) → AsksFor digest wanted → (journals : List History) → 0 < length (recovered_lines (disks.seen disk))
+      → ClosesWith disks wanted hub after journals → StaysAlike disks hub after
+      → CarriesBooks digest mixes_all (record { mode = mode; settings = world_settings after.recorder.answers.runner.world; journals = journals }) (change_on disks disk disk')
   carries_on digest wanted asked journals there closes stays = record {
     there = there;
     wanted = wanted;
@@ -232,21 +251,19 @@ module _ {D : Type 0} (disks : Ghosts D) (mode : Mode) (s : HubSettings) (hub af
     stays = subst (λ (f : List ℕ). recovered_lines f ≡ recovered_lines hub.header.items ++ lines_after_settings hub.header.items (disks.seen disk)) (sym left'.same)
         (subst (λ (f : List ℕ). recovered_lines (file_of disks after) ≡ recovered_lines hub.header.items ++ lines_after_settings hub.header.items f) left.same closes.lines);
     spared = spared_on stays;
-    journals = journals.items;
-    books = subst (λ (f : List ℕ). AreBooksAfter mode gone (lines_after_settings hub.header.items f) journals.items) left.same
-        (subst (λ (m : Mode). AreBooksAfter m gone (lines_after_settings hub.header.items (file_of disks hub)) journals.items) same_mode (closes.are gone has_gone_so));
-    next_is = ap {A = HubSettings} {B = NextHub} (λ u. record { mode = mode; settings = u; journals = journals.items })
-        (subst (λ (f : List ℕ). world_settings after.recorder.answers.runner.world ≡ (past_after mode gone (lines_after_settings hub.header.items f)).settings) left.same
-        (subst (λ (m : Mode). world_settings after.recorder.answers.runner.world ≡ (past_after m gone (lines_after_settings hub.header.items (file_of disks hub))).settings) same_mode (closes.settings gone has_gone_so)));
+    journals = journals;
+    books = books_on wanted journals closes;
+    next_is = settings_on wanted journals closes;
   }
 
-  -- no opening is left behind it
-  pub no_opening_on : (wanted : Option Digest) → ClosesWith disks wanted hub after None → HasNoOpeningLeft (disks.seen disk)
-  no_opening_on wanted closes = record {
-    wanted = wanted;
-    log = log_on wanted closes.taken;
-    none = subst (λ (f : List ℕ). ¬ (HaveOpeningsLeft mode gone (lines_after_settings hub.header.items f))) left.same
-        (subst (λ (m : Mode). ¬ (HaveOpeningsLeft m gone (lines_after_settings hub.header.items (file_of disks hub)))) same_mode (closes.last refl gone has_gone_so));
+  -- the hub was closed after the lines of its log
+  pub closed_on : (journals : List History) → ClosesWith disks None hub after journals
+      → IsClosedAs (disks.seen disk) (record { mode = mode; settings = world_settings after.recorder.answers.runner.world; journals = journals })
+  closed_on journals closes = record {
+    log = log_on None closes.taken;
+    journals = journals;
+    books = books_on None journals closes;
+    closed_is = settings_on None journals closes;
   }
 
   -- a log of version 2 was opened with its first lines
@@ -278,7 +295,7 @@ unkept_at_once run t mixes faith c result e status unread unwritten same finds f
 }
 
 -- a hub that opens from these journals began so
-pub begun_new : (mode : Mode) (s : HubSettings) (journals : List History) (hub : NewHub) → CanOpenFrom s journals
-    → IsNewHub Two mode (opened_from s journals) (header_from Two mode s journals) hub → HasBegun hub.version mode s hub.heading.batch.items hub.answers
-begun_new mode s journals hub can new =
-    subst (λ (v : Version). HasBegun v mode s hub.heading.batch.items hub.answers) (sym new.version_is) (inr (journals, can, new.opened, new.first_is))
+pub begun_new : (mode : Mode) (s : HubSettings) (journals : List History) (previous : Option Digest) (hub : NewHub) → CanOpenFrom s journals → IfSome previous IsHexadecimal
+    → IsNewHub Two mode (opened_from s journals) (header_from Two mode s journals previous) hub → HasBegun hub.version mode s hub.heading.batch.items hub.answers
+begun_new mode s journals previous hub can digits new =
+    subst (λ (v : Version). HasBegun v mode s hub.heading.batch.items hub.answers) (sym new.version_is) (inr (journals, previous, can, digits, new.opened, new.first_is))

@@ -6,7 +6,7 @@ use Rattle.inst_settings.specs.Settings.{HubSettings}
 use Rattle.inst_settings.specs.Lawful.{IsSettings}
 use Rattle.inst_lines.specs.declared.mode.Mode.{Mode}
 use Rattle.inst_options.specs.Options.Task.{Drill, Check}
-use Rattle.inst_options.specs.Asking.{AreChosen, AreWhole, AskForTheLog, AskToExplain, GiveTheLog, NameTheScript}
+use Rattle.inst_options.specs.Asking.{AreChosen, AreWhole, AskForTheAudit, AskForTheLog, AskToExplain, GiveTheLog, NameTheScript}
 use Rattle.inst_options.specs.declared.invocation.LogOptions.{LogOptions}
 use Rattle.inst_logged.specs.Streams.{Streams}
 use Rattle.inst_program.specs.Files.{Files, IfKept, Stay}
@@ -14,8 +14,8 @@ use Rattle.inst_program.specs.Keeping.{IsGoodLog, IsUncarried, IsUntaken, KeptRu
 use Rattle.inst_program.proofs.LogAfterVisit.{all_stay}
 use Rattle.inst_program.specs.Program.{AskForADrill, AskForAKeptRun, AskForNext, Checks, Done, Drills, Refusal, task_of}
 use Rattle.inst_program.specs.Program.Done.{Answered, Checked, Drilled, Kept}
-use Rattle.inst_program.specs.Program.Failed.{AtLines, Carrying, Drilling, Explaining, Keeping, Showing}
-use Rattle.inst_program.specs.Program.Refusal.{InUse, Uncarried, Unfit, Unnamed, Unscripted, Unshown, Untaken}
+use Rattle.inst_program.specs.Program.Failed.{AtLines, Auditing, Carrying, Drilling, Explaining, Keeping, Showing}
+use Rattle.inst_program.specs.Program.Refusal.{InUse, Uncarried, Unfit, Unnamed, Unaudited, Unscripted, Unshown, Untaken}
 use Rattle.inst_program.specs.inner.ExitReason.{status_of_ending, AreLinesAnswered, IsUnanswered, IsUnchecked, IsUndone, IsUnexplained}
 use Rattle.inst_program.specs.inner.Drilling.{IsUndrilled, IsWithoutAFile}
 use Rattle.inst_program.specs.declared.drilling.DrillTask.{DrillTask}
@@ -66,6 +66,15 @@ module _ (words : List (List ℕ)) (t : Streams) (old new : Files) where
     failed = λ three. Carrying still same (next, asked, spares);
   }
 
+  -- logs weren't audited
+  pub unaudited_err : {A : Type 0} (names : List (List ℕ)) (r : Result A ExitReason) → AskForTheAudit words names → t.unread → Stay old new
+      → IfErr r (λ e. status_of_ending e ≡ 2 → t.unwritten) → IfErr r (λ e. IsUndone words t old new (status_of_ending e))
+  unaudited_err names (Ok x) asked still stay same = tt
+  unaudited_err names (Err e) asked still stay same = record {
+    refused = λ two. record { unread = still; unwritten = same two; why = Unaudited (names, asked) stay };
+    failed = λ three. Auditing still (names, asked) stay;
+  }
+
   -- a log wasn't taken
   untaken : (run : KeptRun) → AskForAKeptRun words run → Stay old new → new.in_use run.name ⊎ IfKept new (IsUntaken run (old.bytes run.name)) → Refusal words old new
   untaken run asked stay (inl used) = InUse run asked used stay
@@ -84,6 +93,7 @@ module _ (words : List (List ℕ)) (t : Streams) (old new : Files) where
   unanswered mode s None ending.ScriptNotEmpty lawful whole chosen given is = absurd is
   unanswered mode s None (ending.Unfit option) lawful whole chosen given is = absurd is
   unanswered mode s None ending.PendingTransfer lawful whole chosen given is = absurd is
+  unanswered mode s None ending.BrokenChain lawful whole chosen given is = absurd is
   unanswered mode s (Some log) e lawful whole chosen given is =
       let run = kept_run mode s log in
       let asked : AskForAKeptRun words run = record { lawful = lawful; whole = whole; chosen = chosen; log = given } in
@@ -138,6 +148,7 @@ module _ (words : List (List ℕ)) (t : Streams) (old new : Files) where
   unexplained_err word (Err ending.ScriptNotEmpty) asked still stay is = absurd is
   unexplained_err word (Err (ending.Unfit option)) asked still stay is = absurd is
   unexplained_err word (Err ending.PendingTransfer) asked still stay is = absurd is
+  unexplained_err word (Err ending.BrokenChain) asked still stay is = absurd is
 
   pub unchecked_err : {A : Type 0} (s : HubSettings) (r : Result A ExitReason) → IsSettings s → AreWhole words → AreChosen words Check s → Stay old new →
       IfErr r (IsUnchecked s t.left t.held t.held') → IfErr r (λ e. IsUndone words t old new (status_of_ending e))
@@ -152,3 +163,4 @@ module _ (words : List (List ℕ)) (t : Streams) (old new : Files) where
   unchecked_err s (Err ending.ScriptNotEmpty) lawful whole chosen stay is = absurd is
   unchecked_err s (Err (ending.Unfit option)) lawful whole chosen stay is = absurd is
   unchecked_err s (Err ending.PendingTransfer) lawful whole chosen stay is = absurd is
+  unchecked_err s (Err ending.BrokenChain) lawful whole chosen stay is = absurd is

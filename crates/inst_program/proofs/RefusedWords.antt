@@ -59,7 +59,7 @@ undrillable words s transfers openings whole chosen unfit = record {
   hub =
       let drill = chosen.3.1 in
       hub_of words chosen.0 chosen.1 chosen.2
-      (no_other chosen.0 (codes "drill") (codes "log") drill refl, no_other chosen.0 (codes "drill") (codes "next") drill refl, no_other chosen.0 (codes "drill") (codes "explain") drill refl);
+      (no_other chosen.0 (codes "drill") (codes "log") drill refl, no_other chosen.0 (codes "drill") (codes "next") drill refl, no_other chosen.0 (codes "drill") (codes "audit") drill refl, no_other chosen.0 (codes "drill") (codes "explain") drill refl);
   none = λ task t other.
       let is = chosen_by words chosen.0 chosen.1 task t chosen.2 other in
       other_drill chosen.0 chosen.1 s transfers openings chosen.3 chosen.4 unfit task t is.0 is.1;

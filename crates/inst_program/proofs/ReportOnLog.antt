@@ -11,6 +11,7 @@ use Rattle.inst_chain.specs.declared.digest.Digest.{Digest}
 use Rattle.inst_chain.specs.declared.prefix.Prefix.{Prefix}
 use Rattle.inst_logged.specs.LogHeader.{IsHeaderLine, beginning_with}
 use Rattle.inst_logged.specs.Refused.{IsRefused}
+use Rattle.inst_logged.specs.declared.header.Origin.{Origin}
 use Rattle.inst_logged.specs.declared.log_header.LogHeader.{LogHeader}
 use Rattle.inst_logged.specs.declared.error.LoggedError.TheVariants.{Log}
 use Rattle.inst_logged.specs.declared.version.Version.{Version}
@@ -52,7 +53,7 @@ unsummed_bad file OtherSettings is refused good = is
 
 -- its first line isn't that of a log
 pub unread_bad : (file first : List ℕ) (found : Option LogHeader)
-    → ((version : Version) (mode : Mode) (s : HubSettings) (books : Option ℕ) → IsHeaderLine version mode s books first → found ≡ Some (beginning_with mode s books))
+    → ((version : Version) (mode : Mode) (s : HubSettings) (origin : Origin) → IsHeaderLine version mode s origin first → found ≡ Some (beginning_with mode s origin))
     → found ≡ None → HasFirst (recovered_lines file) first → IsGoodLog file → ⊥
 unread_bad file first found reads none has good =
     let line = header_of_first good.version good.mode good.settings good.first file first good.lines good.begins has in
@@ -61,7 +62,7 @@ unread_bad file first found reads none has good =
 
 -- its marks are wrong
 pub damaged_bad : (file first : List ℕ) (found : Option Version)
-    → ((version : Version) (mode : Mode) (s : HubSettings) (books : Option ℕ) → IsHeaderLine version mode s books first → found ≡ Some version)
+    → ((version : Version) (mode : Mode) (s : HubSettings) (origin : Origin) → IsHeaderLine version mode s origin first → found ≡ Some version)
     → HasFirst (recovered_lines file) first → (chain : Result Digest Prefix) (right : Prefix) → MatchResult chain (IsSealedBy file) (IsUnsealed file)
     → unwrap_or found Two ≡ Two → chain ≡ Err right → IsGoodLog file → ⊥
 damaged_bad file first found back has chain right is two failed good =
@@ -72,10 +73,10 @@ damaged_bad file first found back has chain right is two failed good =
 
 -- what its first line says
 pub says_so : (first : List ℕ) (found : Option Version) (beginning : LogHeader) (read : Option LogHeader)
-    → ((version : Version) (mode : Mode) (s : HubSettings) (books : Option ℕ) → IsHeaderLine version mode s books first → found ≡ Some version)
-    → ((version : Version) (mode : Mode) (s : HubSettings) (books : Option ℕ) → IsHeaderLine version mode s books first → read ≡ Some (beginning_with mode s books))
-    → read ≡ Some beginning → (v : Version) (mode : Mode) (s : HubSettings) (n : Option ℕ) → IsHeaderLine v mode s n first
-    → (unwrap_or found Two ≡ v) × (unwrap_or beginning.books 0 ≡ unwrap_or n 0)
+    → ((version : Version) (mode : Mode) (s : HubSettings) (origin : Origin) → IsHeaderLine version mode s origin first → found ≡ Some version)
+    → ((version : Version) (mode : Mode) (s : HubSettings) (origin : Origin) → IsHeaderLine version mode s origin first → read ≡ Some (beginning_with mode s origin))
+    → read ≡ Some beginning → (v : Version) (mode : Mode) (s : HubSettings) (n : Origin) → IsHeaderLine v mode s n first
+    → (unwrap_or found Two ≡ v) × (unwrap_or beginning.books 0 ≡ unwrap_or n.books 0)
 says_so first found beginning read back reads is v mode s n line =
     let same : ◌≡◌ {A = Option LogHeader} (Some beginning) (Some (beginning_with mode s n)) = sym is ∙ reads v mode s n line in
     let both : beginning ≡ beginning_with mode s n = cc same in (

@@ -52,6 +52,7 @@ no_ending_is_zero ending.NoInterleaving is = three_is_not_zero is
 no_ending_is_zero ending.ScriptNotEmpty is = two_is_not_zero is
 no_ending_is_zero (ending.Unfit name) is = two_is_not_zero is
 no_ending_is_zero ending.PendingTransfer is = two_is_not_zero is
+no_ending_is_zero ending.BrokenChain is = two_is_not_zero is
 
 pub known_fault : (fault : Fault) → (status_of fault ≡ 2) ⊎ (status_of fault ≡ 3)
 known_fault BadSettings = inl refl
@@ -70,6 +71,7 @@ two_or_three ending.NoInterleaving = inr refl
 two_or_three ending.ScriptNotEmpty = inl refl
 two_or_three (ending.Unfit name) = inl refl
 two_or_three ending.PendingTransfer = inl refl
+two_or_three ending.BrokenChain = inl refl
 
 -- a log that couldn't be opened is refused only where another program has it open
 logs_refused : (in_use none : Type 0) (e : LogsError) → IsLogsError in_use none e → status_of_ending (ending_of_error e) ≡ 2 → in_use ⊎ none

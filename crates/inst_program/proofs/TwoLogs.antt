@@ -1,11 +1,13 @@
 -- The hub of the log of one name was closed, and the log of another name was begun, or wasn't.
-use Rattle.std.proofs.Common.{◌≡◌, ◌≢◌, inl, inr, ℕ, List, [], Option, None, IsTrue, refl, sym, subst}
+use Rattle.std.proofs.Common.{◌≡◌, ◌≢◌, ◌∙◌, inl, inr, ℕ, Bool, true, false, List, [], Option, None, IsTrue, refl, sym, subst}
 use Rattle.inst_chain.specs.declared.digest.Digest.{Digest}
+use Rattle.inst_world.specs.NextOpening.{CanOpenFrom}
 use Rattle.inst_logged.specs.Refused.{IsLogTaken}
 use Rattle.inst_logged.specs.declared.version.Version.TheVariants.{Two}
+use Rattle.inst_options.specs.declared.setting_changes.SettingChanges.{SettingChanges}
 use Rattle.inst_program.specs.Files.{AllButTwoStay, Change, Files, IfKept, IsAsItWas, IsUntouched, change_of}
-use Rattle.inst_program.specs.Keeping.{AsksFor, Carries, CarriesBooks, HasNoOpeningLeft, HasNoSuccessor, IsBegun, IsGoodToClose, IsSafe, IsSparedLog, IsSuccessor, IsUncarried, NextAsked, NextHub, SparesBoth, lines_of_next}
-use Rattle.inst_program.specs.Keeping.IsUncarried.{Bad, InUse, Last, Other, Unfit}
+use Rattle.inst_program.specs.Keeping.{AsksFor, Carries, CarriesBooks, HasNoSuccessor, IsBegun, IsGoodToClose, IsPreviousOf, IsSafe, IsSparedLog, IsSuccessor, IsUncarried, NextAsked, NextHub, SparesBoth, lines_of_next}
+use Rattle.inst_program.specs.Keeping.IsUncarried.{Bad, InUse, Other, Unfit}
 use Rattle.inst_program.specs.inner.Carrying.{IsLogUnbegun, IsLogUnclosed}
 use Rattle.inst_program.specs.inner.Visiting.{IsSameChange, IsVisited}
 use Rattle.inst_program.proofs.Digests.{taken_same}
@@ -15,6 +17,29 @@ use Rattle.inst_program.proofs.LogAfterVisit.{begun, carries_books, safe_or, sta
 -- a log that was closed has its lines
 closed_safe : (digest : Option (List ℕ)) (mixes : Type 0) (next : NextHub) (c : Change) → CarriesBooks digest mixes next c → IsSparedLog mixes c
 closed_safe digest mixes next c x = record { wanted = x.wanted; log = x.log; spared = x.spared }
+
+-- a log was visited, and then nothing happened
+module _ (a b c : Files) (name : List ℕ) (first : IsVisited a b name) (same : IsUntouched b c) where
+  pub visited_before : IsVisited a c name
+  visited_before = record {
+    clean = λ is. first.clean (same.clean is);
+    others = λ is other apart. stays_behind a b c other (first.others (same.clean is) other apart) (same.all is other);
+    all_in = λ is. same.out is ∙ first.all_in (same.clean is);
+  }
+
+  pub carried_before : (digest : Option (List ℕ)) (mixes : Type 0) (closed : NextHub) → IfKept b (CarriesBooks digest mixes closed (change_of a b name)) → IfKept c (CarriesBooks digest mixes closed (change_of a c name))
+  carried_before digest mixes closed books is =
+      let stays = same.all is name in
+      carries_books (change_of a b name) (change_of a c name) (record { was = refl; now = stays.same; could = λ file may. may; may = stays.crash }) digest mixes mixes closed (λ m. m) (books (same.clean is))
+
+-- a hub can open from what follows
+pub successor_can : (positions : Bool) (changes : SettingChanges) (old new : NextHub) → IsSuccessor positions changes old new → CanOpenFrom new.settings new.journals
+successor_can false changes old new is = is.can
+successor_can true changes old new is = is.can
+
+-- what was read of a log before is so of it now
+pub before_so : (b c : Files) (name : List ℕ) (positions : Bool) (previous : Option Digest) → IsUntouched b c → IfKept c (IsPreviousOf positions (b.bytes name) previous) → IfKept c (IsPreviousOf positions (c.bytes name) previous)
+before_so b c name positions previous same before is = subst (λ (f : List ℕ). IsPreviousOf positions f previous) (sym (same.all is name).same) (before is)
 
 -- none was opened
 pub both_untouched : (from to : List ℕ) (old new : Files) → IsUntouched old new → SparesBoth from to old new
@@ -59,9 +84,8 @@ module _ (asked : NextAsked) (apart : asked.from ≢ asked.to) (mixes : Type 0) 
   -- why the first isn't closed
   pub uncarried_first : (wanted : Option Digest) → AsksFor asked.digest wanted → IsLogUnclosed (b.in_use asked.from) (IsTrue b.is_clean) wanted (a.bytes asked.from) → IsUncarried asked old b
   uncarried_first wanted asks (inl used) = InUse (inl used)
-  uncarried_first wanted asks (inr (inl bad)) = Bad (λ w other is good.
+  uncarried_first wanted asks (inr bad) = Bad (λ w other is good.
       bad is (subst (IsGoodToClose wanted) (sym (untouched.all (first.clean is) asked.from).same) (good_same asked.digest w wanted other asks (old.bytes asked.from) good)))
-  uncarried_first wanted asks (inr (inr none)) = Last (λ is. subst HasNoOpeningLeft (untouched.all (first.clean is) asked.from).same (none is))
 
   -- the first was closed, and the changes aren't allowed
   module _ (closed : NextHub) (books : IfKept b (CarriesBooks asked.digest mixes closed (change_of a b asked.from))) where
@@ -97,24 +121,30 @@ module _ (asked : NextAsked) (apart : asked.from ≢ asked.to) (mixes : Type 0) 
         let before = to_so_far (second.clean is) in
         record { was = sym before.same; now = refl; could = before.crash; may = λ file may. may }
 
-    module _ (closed : NextHub) (books : IfKept b (CarriesBooks asked.digest mixes closed (change_of a b asked.from))) (next : NextHub) (follows : IsSuccessor asked.positions asked.changes closed next) where
+    module _ (closed : NextHub) (books : IfKept b (CarriesBooks asked.digest mixes closed (change_of a b asked.from))) (next : NextHub) (follows : IsSuccessor asked.positions asked.changes closed next)
+        (previous : Option Digest) (before : IfKept b (IsPreviousOf asked.positions (b.bytes asked.from) previous)) where
+      said_before : IfKept c (IsPreviousOf asked.positions (c.bytes asked.from) previous)
+      said_before is = let is_b = second.clean is in subst (λ (f : List ℕ). IsPreviousOf asked.positions f previous) (sym (second.others is asked.from apart).same) (before is_b)
+
       carried : IfKept c (CarriesBooks asked.digest old.mixes closed (change_of old c asked.from))
       carried is = carries_books (change_of a b asked.from) (change_of old c asked.from) (from_change is) asked.digest mixes old.mixes closed more (books (second.clean is))
 
       -- why the second isn't begun
-      pub uncarried_second : IsLogUnbegun (c.in_use asked.to) (IsTrue c.is_clean) (lines_of_next next) (b.bytes asked.to) → IsUncarried asked old c
+      pub uncarried_second : IsLogUnbegun (c.in_use asked.to) (IsTrue c.is_clean) (lines_of_next next previous) (b.bytes asked.to) → IsUncarried asked old c
       uncarried_second (inl used) = InUse (inr used)
-      uncarried_second (inr other) = Other closed next carried follows (λ is taken.
-          other is (subst (IsLogTaken Two (lines_of_next next) None None) (sym (to_so_far (second.clean is)).same) taken))
+      uncarried_second (inr other) = Other closed next previous carried follows said_before (λ is taken.
+          other is (subst (IsLogTaken Two (lines_of_next next previous) None None) (sym (to_so_far (second.clean is)).same) taken))
 
-      pub carries : IfKept c (IsBegun (lines_of_next next) (change_of b c asked.to)) → Carries asked old c
+      pub carries : IfKept c (IsBegun (lines_of_next next previous) (change_of b c asked.to)) → Carries asked old c
       carries begins = record {
         apart = apart;
         closed = closed;
         carries = carried;
         next = next;
         follows = follows;
-        begun = λ is. begun (change_of b c asked.to) (change_of old c asked.to) (to_change is) (lines_of_next next) (begins is);
+        previous = previous;
+        before = said_before;
+        begun = λ is. begun (change_of b c asked.to) (change_of old c asked.to) (to_change is) (lines_of_next next previous) (begins is);
         others = third;
       }
 

@@ -18,17 +18,17 @@ use Rattle.inst_lines.specs.Answering.{HubPast, new_past}
 use Rattle.inst_lines.specs.declared.mode.Mode.{Mode}
 use Rattle.inst_log.specs.Layout.{recovered_lines}
 use Rattle.inst_log.specs.Opening.{lines_after_settings, Begins, OpensAlike, IsSameOrBegun}
-use Rattle.inst_chain.specs.Chain.{kept_said, said}
+use Rattle.inst_chain.specs.Chain.{IsHexadecimal, kept_said, said}
 use Rattle.inst_chain.specs.Summing.{HasFirst, IsSealedBy}
 use Rattle.inst_chain.specs.Verifying.{IsDamagedAfter}
 use Rattle.inst_chain.specs.declared.digest.Digest.{Digest}
 use Rattle.inst_chain.specs.declared.prefix.Prefix.{Prefix}
+use Rattle.inst_logged.specs.declared.header.Origin.{Origin}
 use Rattle.inst_logged.specs.declared.version.Version.{Version}
 use Rattle.inst_logged.specs.declared.version.Version.TheVariants.{One, Two}
 use Rattle.inst_logged.specs.Answering.{opened_from, past_after, told_count, AreBooksAfter}
 use Rattle.inst_logged.specs.LogHeader.{IsHeaderLine}
 use Rattle.inst_logged.specs.Header.{AreFirstLines, header, header_from}
-use Rattle.inst_logged.specs.Closing.{HaveOpeningsLeft}
 use Rattle.inst_logged.specs.Marking.{IsIntact}
 use Rattle.inst_logged.specs.Logged.{HasLogged, SurvivesACrash}
 use Rattle.inst_logged.specs.Refused.{HasWanted, IsLogTaken, OpensAs}
@@ -66,8 +66,9 @@ kept_run mode s log = record {
 abbrev pub IsBeginning : Version → Mode → HubSettings → HubPast → List ℕ → Type 0
 IsBeginning version mode s past first =
     ((past ≡ new_past s) × (first ≡ header version mode s))
-    ⊎ ((journals : List History) × CanOpenFrom s journals × (past ≡ opened_from s journals)
-    × (first ≡ header_from version mode s journals))
+    ⊎ ((journals : List History) × (previous : Option Digest) × CanOpenFrom s journals
+    × IfSome previous IsHexadecimal × (past ≡ opened_from s journals)
+    × (first ≡ header_from version mode s journals previous))
 
 -- The digest that is asked for has this text, if one is given.
 abbrev pub AsksFor : Option (List ℕ) → Option Digest → Type 0
@@ -203,19 +204,31 @@ pub record IsGoodLog (file : List ℕ) : Type 0 where
   pub intact : IsIntact version file
   pub few : length file < 2 ^ 64
 
--- These contents of the log were printed. The number leaves out marks, the first line, and the
--- lines of books if the first line is a log's.
-pub record TellsOfTheLog (file : List ℕ) (held held' : Option (List ℕ)) : Type 0 where
-  pub first : List ℕ
+-- The log of this file has this first line, this number of lines and this last digest. The number
+-- leaves out marks, the first line, and the lines of books if the first line is a log's.
+pub record HasContents (file first : List ℕ) (lines : ℕ) (digest : Option Digest) : Type 0 where
   pub begins : HasFirst (recovered_lines file) first
   pub version : Version
-  pub digest : Option Digest
   pub last : HasLastDigest version file digest
   pub books : ℕ
-  pub says : (v : Version) (mode : Mode) (s : HubSettings) (n : Option ℕ) →
-      IsHeaderLine v mode s n first → (version ≡ v) × (books ≡ unwrap_or n 0)
-  pub told : Appends held held' (log_text first (length (said (recovered_lines file)) - 1
-      - books) digest)
+  pub says : (v : Version) (mode : Mode) (s : HubSettings) (origin : Origin) →
+      IsHeaderLine v mode s origin first → (version ≡ v) × (books ≡ unwrap_or origin.books 0)
+  pub count : lines ≡ length (said (recovered_lines file)) - 1 - books
+
+-- The contents of the log were printed.
+pub record TellsOfTheLog (file : List ℕ) (held held' : Option (List ℕ)) : Type 0 where
+  pub first : List ℕ
+  pub lines : ℕ
+  pub digest : Option Digest
+  pub has : HasContents file first lines digest
+  pub told : Appends held held' (log_text first lines digest)
+
+-- What the first line of the next log says of the log of this file: its last digest if a new chain
+-- begins, and nothing otherwise.
+abbrev pub IsPreviousOf : Bool → List ℕ → Option Digest → Type 0
+IsPreviousOf false file previous = previous ≡ None
+IsPreviousOf true file previous =
+    (first : List ℕ) × (lines : ℕ) × HasContents file first lines previous
 
 -- A log of these first lines was opened: as it is or as a crash leaves it, it has the same lines,
 -- or if it had none, the first ones. If its marks were right and the disk mixes torn writes, it
@@ -262,9 +275,9 @@ pub record NextHub : Type 0 where
   pub settings : HubSettings
   pub journals : List History
 
--- The beginning of the log of such a hub.
-abbrev pub lines_of_next : NextHub → List ℕ
-lines_of_next hub = header_from Two hub.mode hub.settings hub.journals
+-- The beginning of the log of such a hub, with the last digest of the log before it, if any.
+abbrev pub lines_of_next : NextHub → Option Digest → List ℕ
+lines_of_next hub previous = header_from Two hub.mode hub.settings hub.journals previous
 
 -- The second hub opens where the first one would, after these changes of its settings, which leave
 -- the base. Each participant has its number and its history; who joins has none.
@@ -335,12 +348,6 @@ pub record IsGoodToClose (wanted : Option Digest) (file : List ℕ) : Type 0 whe
   pub begins : Begins first file
   pub taken : IsLogTaken version first None wanted file
 
--- The books of the hub of this log can't be opened from again.
-pub record HasNoOpeningLeft (file : List ℕ) : Type 0 where
-  pub wanted : Option Digest
-  pub log : IsLogOfAHub wanted file
-  pub none : ¬ (HaveOpeningsLeft log.mode log.past (lines_after_settings log.first file))
-
 -- What `next` is asked for: the two logs, the digest that the first one must contain, if a new chain
 -- begins, and the settings that change.
 pub record NextAsked : Type 0 where
@@ -361,7 +368,8 @@ next_asked next = record {
 }
 
 -- The second log begins with the books of the hub of the first log, whose lines are the same, or
--- with its positions alone, under the settings of the first log with the changes.
+-- with its positions alone and the last digest of the first log, under the settings of the first log
+-- with the changes.
 pub record Carries (asked : NextAsked) (old new : Files) : Type 0 where
   pub apart : asked.from ≢ asked.to
   pub closed : NextHub
@@ -369,7 +377,9 @@ pub record Carries (asked : NextAsked) (old new : Files) : Type 0 where
       (CarriesBooks asked.digest old.mixes closed (change_of old new asked.from))
   pub next : NextHub
   pub follows : IsSuccessor asked.positions asked.changes closed next
-  pub begun : IfKept new (IsBegun (lines_of_next next) (change_of old new asked.to))
+  pub previous : Option Digest
+  pub before : IfKept new (IsPreviousOf asked.positions (new.bytes asked.from) previous)
+  pub begun : IfKept new (IsBegun (lines_of_next next previous) (change_of old new asked.to))
   pub others : AllButTwoStay old new asked.from asked.to
 
 -- Both logs are safe, and all other files are unchanged.
@@ -379,19 +389,19 @@ pub record SparesBoth (from to : List ℕ) (old new : Files) : Type 0 where
   pub others : AllButTwoStay old new from to
 
 -- Why `next` is refused: the names are the same, another program may have a log open, the first log
--- can't be closed or has no opening left, its books don't allow what is asked for, or the second is
--- another log.
+-- can't be closed, its books don't allow what is asked for, as after the last opening that they can
+-- have, or the second is another log.
 pub data IsUncarried (asked : NextAsked) (old new : Files) : Type 0 where
   Same : asked.from ≡ asked.to → IsUncarried asked old new
   InUse : new.in_use asked.from ⊎ new.in_use asked.to → IsUncarried asked old new
   Bad : ((wanted : Option Digest) → AsksFor asked.digest wanted →
       IfKept new (¬ (IsGoodToClose wanted (old.bytes asked.from)))) → IsUncarried asked old new
-  Last : IfKept new (HasNoOpeningLeft (old.bytes asked.from)) → IsUncarried asked old new
   Unfit : (closed : NextHub) →
       IfKept new (CarriesBooks asked.digest old.mixes closed (change_of old new asked.from)) →
       HasNoSuccessor asked.positions asked.changes closed → IsUncarried asked old new
-  Other : (closed next : NextHub) →
+  Other : (closed next : NextHub) (previous : Option Digest) →
       IfKept new (CarriesBooks asked.digest old.mixes closed (change_of old new asked.from)) →
       IsSuccessor asked.positions asked.changes closed next →
-      IfKept new (¬ (IsLogTaken Two (lines_of_next next) None None (old.bytes asked.to)))
+      IfKept new (IsPreviousOf asked.positions (new.bytes asked.from) previous) →
+      IfKept new (¬ (IsLogTaken Two (lines_of_next next previous) None None (old.bytes asked.to)))
       → IsUncarried asked old new

@@ -26,10 +26,12 @@ use Rattle.inst_options.specs.CommandLine.{command_line}
 use Rattle.inst_options.specs.Options.{HasAHub, Task}
 use Rattle.inst_options.specs.Options.Task.{Run, Play, Drill, Check}
 use Rattle.inst_options.specs.Asking.{AreChosen, AreWhole, AreWrong, AskForHelp, AskForTheLog}
-use Rattle.inst_options.specs.Asking.{AskForTheNext, AskToExplain, NameABadLog, NameNoLog}
+use Rattle.inst_options.specs.Asking.{AskForTheAudit, AskForTheNext, AskToExplain, NameABadLog}
+use Rattle.inst_options.specs.Asking.{NameNoLog}
 use Rattle.inst_options.specs.Asking.{NameTheLog, NameTheScript}
 use Rattle.inst_logged.specs.Streams.{Streams}
 use Rattle.inst_program.specs.Files.{Files, IfKept, OthersStay, Stay, change_of}
+use Rattle.inst_program.specs.Auditing.{HasAuditedAll}
 use Rattle.inst_program.specs.Script.{CannotTakeTheScript, HasScript, SparesTheScript}
 use Rattle.inst_program.specs.Keeping.{Carries, IsGoodLog, IsUncarried, IsUntaken, KeepsAFront}
 use Rattle.inst_program.specs.Keeping.{KeepsLines, KeptRun, NextAsked, SparesBoth, TellsOfTheLog}
@@ -191,6 +193,16 @@ abbrev pub HasSparedBoth : List (List ℕ) → Files → Files → Type 0
 HasSparedBoth words old new =
     (asked : NextAsked) × AskForNext words asked × SparesBoth asked.from asked.to old new
 
+-- The words ask for an audit of logs.
+abbrev pub AskForAnAudit : List (List ℕ) → Type 0
+AskForAnAudit words = (names : List (List ℕ)) × AskForTheAudit words names
+
+-- The words ask for an audit of logs, and its lines were written: each log follows the one before.
+abbrev pub HasAudited : List (List ℕ) → Streams → Files → Files → Type 0
+HasAudited words t old new =
+    (names : List (List ℕ)) × AskForTheAudit words names
+    × IfKept new (HasAuditedAll old.bytes names t.held t.held')
+
 -- The text of an explanation: a fault's number and name, its usual meaning, and what to do.
 abbrev pub explanation_text : ℕ → List ℕ → List ℕ → List ℕ → List ℕ
 explanation_text number name meaning advice =
@@ -226,13 +238,14 @@ pub data Done (words : List (List ℕ)) (t : Streams) (old new : Files) : Type 0
   Drilled : t.unread → HasDrilled words t old new → Done words t old new
   Shown : t.unread → HasShown words t old new → Stay old new → Done words t old new
   Carried : t.unread → t.unwritten → HasCarried words old new → Done words t old new
+  Audited : t.unread → HasAudited words t old new → Stay old new → Done words t old new
   Explained : t.unread → HasExplained words t → Stay old new → Done words t old new
   Helped : t.unread → AskForHelp words → Stay old new → Done words t old new
 
 -- Why it was refused: wrong words; settings that no hub can have or do the task with; options that
 -- describe a log badly; a fault that doesn't exist; a log that is in use or that the run doesn't
 -- take; a log that can't be shown; a script file that isn't empty or in use. All files are
--- unchanged; `Uncarried` leaves its two logs safe.
+-- unchanged; `Uncarried` leaves its two logs safe. Why an audit is refused is only tested.
 pub data Refusal (words : List (List ℕ)) (old new : Files) : Type 0 where
   Wrong : AreWrong words → Stay old new → Refusal words old new
   Unfit : AreRefused words → Stay old new → Refusal words old new
@@ -246,6 +259,7 @@ pub data Refusal (words : List (List ℕ)) (old new : Files) : Type 0 where
       IfKept new (¬ (IsGoodLog (old.bytes name))) → Stay old new → Refusal words old new
   Unscripted : (asked : AskForADrill words) (name : List ℕ) → asked.script ≡ Some name →
       CannotTakeTheScript name old new → Stay old new → Refusal words old new
+  Unaudited : AskForAnAudit words → Stay old new → Refusal words old new
   Uncarried : (asked : NextAsked) → AskForNext words asked → IsUncarried asked old new
       → SparesBoth asked.from asked.to old new → Refusal words old new
 
@@ -264,6 +278,7 @@ pub data Failed (words : List (List ℕ)) (t : Streams) (old new : Files) : Type
   Explaining : t.unread → AskForAnExplanation words → Stay old new → Failed words t old new
   Showing : t.unread → AskForALog words → Stay old new → Failed words t old new
   Carrying : t.unread → t.unwritten → HasSparedBoth words old new → Failed words t old new
+  Auditing : t.unread → AskForAnAudit words → Stay old new → Failed words t old new
   Helping : t.unread → AskForHelp words → Stay old new → Failed words t old new
 
 -- The program ends with this exit status.

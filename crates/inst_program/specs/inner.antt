@@ -1,3 +1,4 @@
+pub mod Auditing
 pub mod Changing
 pub mod Carrying
 pub mod ExitReason

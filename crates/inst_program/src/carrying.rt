@@ -1,16 +1,15 @@
 //! The task `next`: a log that begins with the books of another one.
-ghost use Rattle.std.specs.Prelude.{◌≡◌, ◌<◌, List, ℕ, Option, length, IsTrue, IfErr};
-ghost use Rattle.std.specs.Prelude.{IfOk, OnOk, OnErr};
+ghost use Rattle.std.specs.Prelude.{◌≡◌, ◌≢◌, ◌<◌, List, ℕ, Option, length, IsTrue, IfErr};
+ghost use Rattle.std.specs.Prelude.{IfOk, IfSome, OnOk, OnErr};
 ghost use Rattle.inst_log.specs.Layout.{recovered_lines};
 ghost use Rattle.inst_world.specs.HasRun.{world_settings};
-ghost use Rattle.inst_world.specs.NextOpening.{CanOpenFrom};
-ghost use Rattle.inst_logged.specs.Header.{header_from};
+ghost use Rattle.inst_world.specs.NextOpening.{AreClosedBooks, CanOpenFrom};
+ghost use Rattle.inst_chain.specs.Chain.{IsHexadecimal};
 ghost use Rattle.inst_log.specs.Disks.{HasKeptFaith, IsJustOpened, IsOnlyRead};
-ghost use Rattle.inst_logged.specs.declared.version.Version.TheVariants.{Two};
-ghost use Rattle.inst_program.specs.Files.{AllAreIn, IfKept, change_of, change_on};
+ghost use Rattle.inst_program.specs.Files.{AllAreIn, IfKept, IsUntouched, change_of, change_on};
 ghost use Rattle.inst_program.specs.Keeping.{AsksFor, Carries, CarriesBooks, HasNoSuccessor, IsBegun};
-ghost use Rattle.inst_program.specs.Keeping.{IsSafe, IsSuccessor, IsUncarried, SparesBoth};
-ghost use Rattle.inst_program.specs.Keeping.{lines_of_next, next_asked};
+ghost use Rattle.inst_program.specs.Keeping.{IsPreviousOf, IsSafe, IsSuccessor, IsUncarried};
+ghost use Rattle.inst_program.specs.Keeping.{SparesBoth, lines_of_next, next_asked};
 ghost use Rattle.inst_program.specs.inner.Changing.{hub_closed, hub_opening};
 ghost use Rattle.inst_program.specs.inner.Carrying.{IsHubClosed, IsReadAsLog, IsLogUnbegun};
 ghost use Rattle.inst_program.specs.inner.Carrying.{IsLogUnclosed};
@@ -23,21 +22,19 @@ use crate::exit_reason::{ExitReason, ending_of, or_ending, told_ending};
 use crate::keeping::wanted_of;
 use crate::logs::Logs;
 use crate::renewing::renew;
+use crate::showing::{contents_of, is_hexadecimal};
 use inst_base::Fault;
 use inst_chain::Digest;
-use inst_journal::Journal;
-use inst_lines::Mode;
 use inst_log::read_lines;
-use inst_logged::{LogHeader, LoggedError, NewHub, Version, read_beginning};
+use inst_logged::{LogHeader, LoggedError, NewHub, OpeningBooks, Version, read_beginning};
 use inst_options::{LogFault, NextOptions, SettingChanges};
-use inst_settings::Settings;
 use sqlite_disk::Disk;
 use std::alloc::Global;
 use std::io::Write;
 
 /// Closes the hub of the first log and makes the second log, which begins with its books, or with
-/// its positions alone, under the settings that change. A second log that begins so already keeps its lines. If the first log is
-/// damaged, prints on `errors` how far it is right.
+/// its positions alone, under the settings that change. A second log that begins so already keeps
+/// its lines. If the first log is damaged, prints on `errors` how far it is right.
 pub(crate) fn next<L: Logs, E: Write>(
     logs: &mut L,
     alloc: Global,
@@ -69,19 +66,20 @@ pub(crate) fn next<L: Logs, E: Write>(
     }
     let closed = close(logs, alloc, from, wanted, errors)?;
     let next = succeed(alloc, closed, positions, &changes, errors)?;
-    begin(logs, alloc, &next, to)
+    let previous = previous_of(logs, alloc, from, positions, errors)?;
+    begin(logs, alloc, &next, previous, to)
 }
 
 /// Returns what the next hub opens from: a new chain's if only positions are carried, or else the
 /// same books.
-fn succeed<E: Write>(
+pub(crate) fn succeed<E: Write>(
     alloc: Global,
     closed: Closed,
     positions: bool,
     changes: &SettingChanges<'_>,
     errors: &mut E,
 ) -> Result<Opening, ExitReason>
-    requires can { CanOpenFrom (world_settings closed.runner.world) closed.journals.items }
+    requires closed { AreClosedBooks (world_settings closed.runner.world) closed.journals.items }
     ensures follows { IfOk result (λ next.
         IsSuccessor positions changes.now (hub_closed closed) (hub_opening next)) }
     ensures unfit { IfErr result (λ ending. status_of_ending ending ≡ 2 →
@@ -107,8 +105,8 @@ fn close<L: Logs, E: Write>(
         IfKept (L.files logs.new) ((digest : Option (List ℕ)) → AsksFor digest wanted
         → CarriesBooks digest ((d : L.Log) → IsTrue (L.Log.Disk.is_mixing d)) (hub_closed closed)
         (change_of (L.files logs.old) (L.files logs.new) from.now))) }
-    ensures can { IfOk result (λ closed.
-        CanOpenFrom (world_settings closed.runner.world) closed.journals.items) }
+    ensures books { IfOk result (λ closed.
+        AreClosedBooks (world_settings closed.runner.world) closed.journals.items) }
     ensures err { OnErr result (IsSafe ((d : L.Log) →
         IsTrue (L.Log.Disk.is_mixing d)) (IsTrue (L.files logs.new).is_clean)
         (change_of (L.files logs.old) (L.files logs.new) from.now)) }
@@ -124,7 +122,7 @@ fn close<L: Logs, E: Write>(
 }
 
 /// Closes the hub of the log on this disk, and returns the disk.
-fn close_on<D: Disk + Drop, E: Write>(
+pub(crate) fn close_on<D: Disk + Drop, E: Write>(
     alloc: Global,
     wanted: Option<Digest>,
     mut disk: D,
@@ -162,7 +160,7 @@ fn close_hub<D: Disk + Drop, E: Write>(
     let books = hub.close(wanted);
     let (runner, disk) = hub.into_parts();
     match books {
-        Ok(Some(journals)) => (
+        Ok(journals) => (
             Ok(Closed {
                 mode,
                 runner,
@@ -170,53 +168,104 @@ fn close_hub<D: Disk + Drop, E: Write>(
             }),
             disk,
         ),
-        Ok(None) => (Err(ExitReason::Log(LogFault::LastOpening)), disk),
         Err(error) => (Err(told_ending(error, errors)), disk),
     }
 }
 
-/// Makes the log of this name, for a hub that opens from these books.
-fn begin<L: Logs>(logs: &mut L, alloc: Global, next: &Opening, to: &str) -> Result<(), ExitReason>
+/// Returns what the first line of the second log says of the first one, which was closed: its last
+/// digest if a new chain begins. Prints on `errors` as [`contents_of`] does.
+///
+/// # Errors
+/// `Memory`; `DiskFault`; `ChangedLog` if the log isn't good any more: another program changed it.
+fn previous_of<L: Logs, E: Write>(
+    logs: &mut L,
+    alloc: Global,
+    from: &str,
+    positions: bool,
+    errors: &mut E,
+) -> Result<Option<Digest>, ExitReason>
+    ensures previous { IfOk result (λ previous. IfKept (L.files logs.new)
+        (IsPreviousOf positions ((L.files logs.old).bytes from.now) previous)) }
+    ensures hexadecimal { IfOk result (λ previous. IfSome previous IsHexadecimal) }
+    ensures failed { IfErr result (λ ending. status_of_ending ending ≢ 2) }
+    ensures untouched { IsUntouched (L.files logs.old) (L.files logs.new) }
+{
+    if !positions {
+        return Ok(None);
+    }
+    match contents_of(logs, alloc, from, errors) {
+        Ok(contents) if is_hexadecimal(contents.digest) => Ok(contents.digest),
+        // Never so: a mark has hexadecimal digits.
+        Ok(_) => Err(ExitReason::Fault(Fault::Memory)),
+        Err(ending) => Err(failure(ending)),
+    }
+}
+
+/// Returns the reason why a log that was good can't be read: `ChangedLog` instead of a refusal.
+fn failure(ending: ExitReason) -> ExitReason
+    ensures { status_of_ending result ≢ 2 }
+{
+    match ending {
+        ExitReason::Fault(Fault::Memory) | ExitReason::Log(LogFault::DiskFault) => ending,
+        _ => ExitReason::Log(LogFault::ChangedLog),
+    }
+}
+
+/// Makes the log of this name, for a hub that opens from these books. Its first line has the digest
+/// of the log before, if one is given.
+fn begin<L: Logs>(
+    logs: &mut L,
+    alloc: Global,
+    next: &Opening,
+    previous: Option<Digest>,
+    to: &str,
+) -> Result<(), ExitReason>
     requires none_out { AllAreIn (L.files logs.old) }
     requires can { CanOpenFrom next.now.settings next.now.journals.items }
-    ensures ok { OnOk result (IfKept (L.files logs.new) (IsBegun (lines_of_next (hub_opening next.now))
+    requires hexadecimal { IfSome previous IsHexadecimal }
+    ensures ok { OnOk result (IfKept (L.files logs.new)
+        (IsBegun (lines_of_next (hub_opening next.now) previous)
         (change_of (L.files logs.old) (L.files logs.new) to.now))) }
     ensures err { OnErr result (IsSafe ((d : L.Log) →
         IsTrue (L.Log.Disk.is_mixing d)) (IsTrue (L.files logs.new).is_clean)
         (change_of (L.files logs.old) (L.files logs.new) to.now)) }
     ensures refused { IfErr result (λ ending. status_of_ending ending ≡ 2 →
         IsLogUnbegun ((L.files logs.new).in_use to.now)
-        (IsTrue (L.files logs.new).is_clean) (lines_of_next (hub_opening next.now))
+        (IsTrue (L.files logs.new).is_clean) (lines_of_next (hub_opening next.now) previous)
         ((L.files logs.old).bytes to.now)) }
     ensures visited { IsVisited (L.files logs.old) (L.files logs.new) to.now }
 {
     let disk = logs.open(to)?;
-    let (outcome, disk) = begin_on(alloc, next.mode, &next.settings, &next.journals, disk);
+    let (outcome, disk) = begin_on(alloc, next, previous, disk);
     logs.close(disk);
     outcome
 }
 
-/// Makes the log of a hub that opens from these journals on this disk, and returns the disk.
+/// Makes such a log on this disk, and returns the disk.
 fn begin_on<D: Disk + Drop>(
     alloc: Global,
-    mode: Mode,
-    settings: &Settings,
-    journals: &[Journal],
+    next: &Opening,
+    previous: Option<Digest>,
     disk: D,
 ) -> (Result<(), ExitReason>, D)
-    requires journals { CanOpenFrom settings.now journals.now }
+    requires journals { CanOpenFrom next.now.settings next.now.journals.items }
+    requires hexadecimal { IfSome previous IsHexadecimal }
     requires opened { IsJustOpened D.Disk disk }
     ensures ok { OnOk result.0 (HasKeptFaith D.Disk result.1
-        → IsBegun (header_from Two mode settings.now journals.now)
+        → IsBegun (lines_of_next (hub_opening next.now) previous)
         (change_on D.Disk disk result.1)) }
     ensures err { OnErr result.0 (IsSafe ((d : D) →
         IsTrue (D.Disk.is_mixing d)) (HasKeptFaith D.Disk result.1)
         (change_on D.Disk disk result.1)) }
     ensures refused { IfErr result.0 (λ ending. status_of_ending ending ≡ 2 →
         IsLogUnbegun ⊥ (HasKeptFaith D.Disk result.1)
-        (header_from Two mode settings.now journals.now) (D.Disk.seen disk)) }
+        (lines_of_next (hub_opening next.now) previous) (D.Disk.seen disk)) }
 {
-    let Ok(hub) = NewHub::open_from(alloc, Version::Two, mode, settings, journals) else {
+    let books = OpeningBooks {
+        journals: &next.journals,
+        previous,
+    };
+    let Ok(hub) = NewHub::open_from(alloc, Version::Two, next.mode, &next.settings, books) else {
         return (Err(ExitReason::Fault(Fault::Memory)), disk);
     };
     let mut hub = hub.with_disk(alloc, disk);
@@ -226,7 +275,10 @@ fn begin_on<D: Disk + Drop>(
 }
 
 /// Returns the contents of a log's first line. The log is unchanged.
-fn beginning_of<D: Disk>(alloc: Global, disk: &mut D) -> Result<Option<LogHeader>, ExitReason>
+pub(crate) fn beginning_of<D: Disk>(
+    alloc: Global,
+    disk: &mut D,
+) -> Result<Option<LogHeader>, ExitReason>
     requires usable { IsTrue (D.Disk.is_usable disk.old) }
     ensures there { IfOk result (λ beginning. HasKeptFaith D.Disk disk.new →
         0 < length (recovered_lines (D.Disk.seen disk.old))) }

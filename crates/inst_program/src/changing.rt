@@ -2,7 +2,7 @@
 ghost use Rattle.std.specs.Prelude.{◌≡◌, ◌≤◌, None, length, IfErr, IfOk, IfSome};
 ghost use Rattle.inst_settings.specs.declared.ranges.TheConstants.{MOST_PARTICIPANTS};
 ghost use Rattle.inst_world.specs.HasRun.{world_settings};
-ghost use Rattle.inst_world.specs.NextOpening.{CanOpenFrom};
+ghost use Rattle.inst_world.specs.NextOpening.{AreClosedBooks};
 ghost use Rattle.inst_options.specs.Changes.{changed};
 ghost use Rattle.inst_program.specs.Keeping.{IsChanged, NextHub};
 ghost use Rattle.inst_program.specs.inner.Changing.{Allows, AreExtended, hub_closed, hub_opening};
@@ -14,8 +14,9 @@ use inst_base::Fault;
 use inst_books::can_open;
 use inst_journal::Journal;
 use inst_lines::Mode;
-use inst_options::{SettingChanges, changed_settings};
+use inst_options::{LogFault, SettingChanges, changed_settings};
 use inst_settings::{MOST_PARTICIPANTS, Settings};
+use inst_world::have_openings_left;
 use std::alloc::{AllocError, Global};
 
 /// A hub that was closed, with its books.
@@ -39,13 +40,14 @@ pub(crate) struct Opening {
 ///
 /// # Errors
 ///
-/// `Unfit` if the books don't allow the changes, with the name of an option; `Memory`.
+/// `LastOpening` if the books were opened from too often; `Unfit` if they don't allow the changes,
+/// with the name of an option; `Memory`.
 pub(crate) fn change(
     alloc: Global,
     closed: Closed,
     changes: &SettingChanges<'_>,
 ) -> Result<Opening, ExitReason>
-    requires can { CanOpenFrom (world_settings closed.runner.world) closed.journals.items }
+    requires closed { AreClosedBooks (world_settings closed.runner.world) closed.journals.items }
     ensures changed { IfOk result (λ next.
         IsChanged changes.now (hub_closed closed) (hub_opening next)) }
     ensures unfit { IfErr result (λ ending. status_of_ending ending ≡ 2 →
@@ -56,6 +58,9 @@ pub(crate) fn change(
         runner,
         journals,
     } = closed;
+    if !have_openings_left(&journals) {
+        return Err(ExitReason::Log(LogFault::LastOpening));
+    }
     if changes.is_empty() {
         let settings = runner.settings().copy()?;
         return Ok(Opening {

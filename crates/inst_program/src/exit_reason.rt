@@ -30,6 +30,8 @@ pub(crate) enum ExitReason {
     Unfit(&'static str),
     /// A new chain can't begin while a transfer is pending.
     PendingTransfer,
+    /// A log doesn't begin as `next` begins one from the log before it.
+    BrokenChain,
 }
 
 impl From<Fault> for ExitReason {

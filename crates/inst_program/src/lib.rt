@@ -2,6 +2,7 @@
 //! line ask for and returns the exit status.
 #![tactic(auto)]
 
+mod auditing;
 mod carrying;
 mod changing;
 mod console;

@@ -1,7 +1,7 @@
 //! Beginning a new chain of logs with the positions of a closed hub.
 ghost use Rattle.std.specs.Prelude.{◌≡◌, IfOk};
 ghost use Rattle.inst_world.specs.HasRun.{world_settings};
-ghost use Rattle.inst_world.specs.NextOpening.{CanOpenFrom};
+ghost use Rattle.inst_world.specs.NextOpening.{AreClosedBooks};
 ghost use Rattle.inst_program.specs.Keeping.{AreRenewed, IsRenewed};
 ghost use Rattle.inst_program.specs.inner.Changing.{hub_closed, hub_opening};
 
@@ -31,7 +31,7 @@ pub(crate) fn renew<E: Write>(
     changes: &SettingChanges<'_>,
     errors: &mut E,
 ) -> Result<Opening, ExitReason>
-    requires can { CanOpenFrom (world_settings closed.runner.world) closed.journals.items }
+    requires closed { AreClosedBooks (world_settings closed.runner.world) closed.journals.items }
     ensures { IfOk result (λ next.
         IsRenewed changes.now (hub_closed closed) (hub_opening next)) }
 {

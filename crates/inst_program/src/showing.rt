@@ -1,9 +1,11 @@
 //! The task `log`: the contents of a log.
-ghost use Rattle.std.specs.Prelude.{◌≡◌, ◌≢◌, Err, IfOk, OnOk, IfErr, string_bytes};
+ghost use Rattle.std.specs.Prelude.{◌≡◌, ◌≢◌, true, Err, IfOk, IfSome, OnOk, IfErr, string_bytes};
+ghost use Rattle.inst_chain.specs.Chain.{IsHexadecimal};
 ghost use Rattle.std.specs.Io.KnownBytes.{Appends};
 ghost use Rattle.inst_logged.specs.declared.version.Version.TheVariants.{Two};
 ghost use Rattle.inst_program.specs.Files.{IfKept, IsUntouched};
-ghost use Rattle.inst_program.specs.Keeping.{IsGoodLog, TellsOfTheLog, digest_line, log_text};
+ghost use Rattle.inst_program.specs.Keeping.{HasContents, IsGoodLog, TellsOfTheLog, digest_line};
+ghost use Rattle.inst_program.specs.Keeping.{log_text};
 ghost use Rattle.inst_program.specs.inner.ExitReason.{status_of_ending};
 ghost use Rattle.inst_program.specs.inner.Showing.{HasDigest};
 
@@ -33,6 +35,36 @@ pub(crate) fn show<L: Logs, W: Write, E: Write>(
         × IfKept (L.files logs.new) (¬ (IsGoodLog ((L.files logs.old).bytes path.now)))) }
     ensures untouched { IsUntouched (L.files logs.old) (L.files logs.new) }
 {
+    let contents = contents_of(logs, alloc, path, errors)?;
+    tell(alloc, &contents, writer)
+}
+
+/// The contents of a log.
+#[derive(Drop)]
+pub(crate) struct LogContents {
+    /// Its first line.
+    first: Vec<u8>,
+    /// The number of its lines without marks, the first one and those of books.
+    pub(crate) lines: u64,
+    /// The digest of its last mark, if it has marks.
+    pub(crate) digest: Option<Digest>,
+}
+
+/// Returns the contents of the log of this name. Only reads the log, which a hub may have open. If it
+/// is damaged, prints on `errors` how far it is right.
+pub(crate) fn contents_of<L: Logs, E: Write>(
+    logs: &mut L,
+    alloc: Global,
+    path: &str,
+    errors: &mut E,
+) -> Result<LogContents, ExitReason>
+    ensures ok { IfOk result (λ contents. IfKept (L.files logs.new)
+        (HasContents ((L.files logs.old).bytes path.now) contents.first.items contents.lines
+        contents.digest)) }
+    ensures err { IfErr result (λ ending. status_of_ending ending ≡ 2 →
+        IfKept (L.files logs.new) (¬ (IsGoodLog ((L.files logs.old).bytes path.now)))) }
+    ensures untouched { IsUntouched (L.files logs.old) (L.files logs.new) }
+{
     let mut reader = logs.read(path)?;
     let summary = match summarize(alloc, &mut reader) {
         Ok(summary) => summary,
@@ -53,7 +85,21 @@ pub(crate) fn show<L: Logs, W: Write, E: Write>(
         .lines
         .saturating_sub(1)
         .saturating_sub(beginning.books.unwrap_or(0));
-    tell(alloc, &summary.first, lines, digest, writer)
+    Ok(LogContents {
+        first: summary.first,
+        lines,
+        digest,
+    })
+}
+
+/// Returns `true` if the digest, if there is one, has hexadecimal digits, as each mark has.
+pub(crate) fn is_hexadecimal(digest: Option<Digest>) -> bool
+    ensures { result ≡ true → IfSome digest IsHexadecimal }
+{
+    match digest {
+        Some(digest) => digest.is_hexadecimal(),
+        None => true,
+    }
 }
 
 /// Returns the digest of a log's last mark, or `None` for a version without marks.
@@ -72,20 +118,15 @@ fn digest_of(version: Version, chain: &Result<Digest, Prefix>) -> Result<Option<
 }
 
 /// Prints the contents of a log.
-fn tell<W: Write>(
-    alloc: Global,
-    first: &[u8],
-    lines: u64,
-    digest: Option<Digest>,
-    writer: &mut W,
-) -> Result<(), ExitReason>
+fn tell<W: Write>(alloc: Global, contents: &LogContents, writer: &mut W) -> Result<(), ExitReason>
     ensures ok { OnOk result
         (Appends (W.contents writer.old) (W.contents writer.new)
-        (log_text first.now lines digest)) }
+        (log_text contents.now.first.items contents.now.lines contents.now.digest)) }
     ensures err { IfErr result (λ ending. status_of_ending ending ≢ 2) }
 {
-    let first = String::from_utf8_lossy(alloc, first)?;
-    let digest = digest_line(alloc, digest)?;
+    let first = String::from_utf8_lossy(alloc, &contents.first)?;
+    let lines = contents.lines;
+    let digest = digest_line(alloc, contents.digest)?;
     match write!(writer, "settings {first}\nlines {lines}\n{digest}") {
         Ok(()) => Ok(()),
         Err(_) => Err(ExitReason::Fault(Fault::WriteFault)),

@@ -12,6 +12,7 @@ ghost use Rattle.inst_program.specs.inner.ExitReason.{status_of_ending};
 ghost use Rattle.inst_program.specs.inner.ExitReason.{AreLinesAnswered, IsUnanswered, IsUnchecked};
 ghost use Rattle.inst_program.specs.inner.ExitReason.{IsUndone, IsUnexplained};
 
+use crate::auditing::audit;
 use crate::carrying::next;
 use crate::console::Console;
 use crate::drilling::{DrillTask, drill_hub};
@@ -44,6 +45,7 @@ use std::thread::Threads;
 ///   `errors` the progress if `is_watched`.
 /// - `log` writes the contents of a log, and `next` makes a log that begins with the books of
 ///   another.
+/// - `audit` verifies logs that follow one another, and writes one line for each.
 /// - `explain` writes the usual meaning of a fault.
 ///
 /// The exit status is 0 if this was done; 2 if the words or settings are wrong or a log is refused;
@@ -55,7 +57,8 @@ use std::thread::Threads;
 /// of the input and the log.
 ///
 /// Only tests show that an answered run doesn't end with 3, that a word which names a fault ends
-/// with 0 and another one with 2, and that `log` refuses a file whose first line isn't a log's.
+/// with 0 and another one with 2, that `log` refuses a file whose first line isn't a log's, and why
+/// an audit ends with 2.
 pub fn program<
     H: Threads + Wait + Sync + AllocGlobal,
     L: Logs,
@@ -166,7 +169,7 @@ fn tell_ending<E: Write>(ending: ExitReason, errors: &mut E) -> u8
         ExitReason::Unexplained => {
             let _ = writeln!(
                 errors,
-                "error: no fault has this number or name; the numbers are 1 to 30"
+                "error: no fault has this number or name; the numbers are 1 to 31"
             );
             2
         }
@@ -188,6 +191,10 @@ fn tell_ending<E: Write>(ending: ExitReason, errors: &mut E) -> u8
         }
         ExitReason::PendingTransfer => {
             tell_fault(AnyFault::PendingTransfer, errors);
+            2
+        }
+        ExitReason::BrokenChain => {
+            tell_fault(AnyFault::BrokenChain, errors);
             2
         }
     }
@@ -265,6 +272,15 @@ fn serve<
             show(logs, alloc, path, &mut console.writer, &mut console.errors)
         }
         Invocation::Next(task) => next(logs, alloc, task, &mut console.errors),
+        Invocation::Audit(paths) => {
+            audit(
+                logs,
+                alloc,
+                &paths,
+                &mut console.writer,
+                &mut console.errors,
+            )
+        }
         Invocation::Explain(word) => explain(word, &mut console.writer),
     }
 }

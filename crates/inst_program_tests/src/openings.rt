@@ -115,7 +115,8 @@ const FULL_CHAIN: &str = "next --log a --to b --positions --ceiling 10000 --fund
 const FULL_LOG: &[u8] =
     b"{\"ahead\":1000,\"base\":1001,\"books\":5,\"ceiling\":10000,\"fundings\":3,\"limit\":10000,\
     \"log\":\"run\",\"margin\":0,\"participants\":[\"AAAADEFF\",\"BBBBFRPP\",\"CCCCITMM\"],\
-    \"places\":256,\"version\":2}\n\
+    \"places\":256,\
+    \"previous\":\"1780d313eb39dd9f546721740fcec8a8be9d0629917cad333181a497411d20b5\",\"version\":2}\n\
     {\"book\":\"AAAADEFF\",\"cents\":10000,\"event\":\"funded\",\"ref\":\"CARRY 1\"}\n\
     {\"book\":\"AAAADEFF\",\"cents\":10000,\"event\":\"funded\",\"ref\":\"CARRY 2\"}\n\
     {\"book\":\"AAAADEFF\",\"cents\":10000,\"event\":\"funded\",\"ref\":\"CARRY 3\"}\n\
@@ -130,3 +131,43 @@ fn a_position_takes_all_fundings_of_an_opening(rt: HostRuntime) -> Result<(), Fa
     assert!(rt; logs.bytes(Which::Second).starts_with(FULL_LOG));
     Ok(())
 }
+
+/// The lines of an audit of both logs after [`NEXT`].
+const AUDITED: &[u8] =
+    b"a: lines 6, digest 1780d313eb39dd9f546721740fcec8a8be9d0629917cad333181a497411d20b5\n\
+    b: lines 0, digest 22e60a72b53dd9b90ff9dc3f8d2ed594afc7f70204b9edb383f5705f95a70c45\n";
+
+/// The lines of an audit of both logs after [`NEW_CHAIN`]. `sha256sum` prints the second digest for
+/// the settings and the books.
+const CHAIN_AUDITED: &[u8] =
+    b"a: lines 6, digest 1780d313eb39dd9f546721740fcec8a8be9d0629917cad333181a497411d20b5\n\
+    b: lines 0, digest 8310c73869d0ee1624d317c1d5381f1b42699d2de684553e16474de6d04db5c6\n";
+
+#[test]
+fn an_audit_finds_what_follows(rt: HostRuntime) -> Result<(), Fail> {
+    let mut logs = MemoryLogs::new(rt.alloc());
+    run_to(&rt, &mut logs, RUN, LINES, (0, REPLIES, b""))?;
+    run_to(&rt, &mut logs, NEXT, b"", (0, b"", b""))?;
+    run_to(&rt, &mut logs, "audit a b", b"", (0, AUDITED, b""))?;
+    let broken = b"the log a is refused\nfault 31 BrokenChain\n".as_slice();
+    run_to(&rt, &mut logs, "audit b a", b"", (2, b"", broken))?;
+    run_to(&rt, &mut logs, "audit a b a", b"", (2, b"", broken))
+}
+
+#[test]
+fn an_audit_finds_a_new_chain(rt: HostRuntime) -> Result<(), Fail> {
+    let mut logs = MemoryLogs::new(rt.alloc());
+    run_to(&rt, &mut logs, RUN, LINES, (0, REPLIES, b""))?;
+    run_to(&rt, &mut logs, NEW_CHAIN, b"", (0, b"", b""))?;
+    run_to(&rt, &mut logs, "audit a b", b"", (0, CHAIN_AUDITED, b""))?;
+    // The first log goes on, so its digest is another.
+    run_to(&rt, &mut logs, RUN, MORE_LINES, (0, MORE_REPLIES, b""))?;
+    let broken = b"the log b is refused\nfault 31 BrokenChain\n".as_slice();
+    run_to(&rt, &mut logs, "audit a b", b"", (2, b"", broken))
+}
+
+/// One more line of the first log, which changes no position.
+const MORE_LINES: &[u8] = b"{\"at\":3000,\"cmd\":\"position\",\"who\":\"BBBBFRPP\"}\n";
+
+const MORE_REPLIES: &[u8] =
+    b"{\"available\":20000,\"position\":20000,\"reply\":\"position\",\"reserved\":0}\n";

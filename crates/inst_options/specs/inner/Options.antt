@@ -1,5 +1,5 @@
 -- What the options of a subcommand give, and when they choose nothing.
-use Rattle.std.specs.Prelude.{◌≡◌, ℕ, true, List, Option, Some, None, option_map, codes}
+use Rattle.std.specs.Prelude.{◌≡◌, ℕ, true, List, Option, Some, None, map, option_map, codes}
 use Rattle.clap.specs.Words.{Row, first_of}
 use Rattle.inst_settings.specs.Settings.{HubSettings, same_text}
 use Rattle.inst_settings.specs.Lawful.{AreOfAHub, IsSettings}
@@ -8,7 +8,7 @@ use Rattle.inst_options.specs.declared.invocation.Invocation.{Invocation}
 use Rattle.inst_options.specs.declared.invocation.Invocation.TheVariants as wish
 use Rattle.inst_options.specs.Options.{Task, HasAHub, NamesNoLog, NamesTheLog, IsText, IsFlag}
 use Rattle.inst_options.specs.Options.{IsTask, Chooses, HasSmallNumbers}
-use Rattle.inst_options.specs.Options.{GivesDigest}
+use Rattle.inst_options.specs.Options.{AreTexts, GivesDigest}
 use Rattle.inst_options.specs.Changes.{GivesChanges}
 use Rattle.inst_options.specs.Options.Task.{Run, Play, Drill, Check}
 
@@ -52,5 +52,8 @@ IsWish name rows (wish.Next next) =
     × GivesDigest rows (option_map (λ d. d.now) next.digest)
     × IsFlag (codes "positions") rows next.positions
     × GivesChanges rows next.changes
+IsWish name rows (wish.Audit files) =
+    (same_text name (codes "audit") ≡ true)
+    × AreTexts (codes "files") rows (map (λ file. file.now) files.items)
 IsWish name rows (wish.Explain word) =
     (same_text name (codes "explain") ≡ true) × IsText (codes "fault") rows word.now

@@ -2,24 +2,25 @@
 use Rattle.std.specs.Prelude.{◌-◌, ◌^◌, List, ◌∷◌, [], Option, Some, None, length, map}
 use Rattle.clap.specs.Words.{App, Rule, Text, new_app, new_rule, with_subcommand}
 use Rattle.clap.specs.declared.builder.action.ArgAction.{ArgAction}
-use Rattle.clap.specs.declared.builder.action.ArgAction.TheVariants.{Set, SetTrue}
+use Rattle.clap.specs.declared.builder.action.ArgAction.TheVariants.{Append, Set, SetTrue}
 use Rattle.clap.specs.declared.builder.value_parser.ValueParser.{ValueParser}
 use Rattle.clap.specs.declared.builder.value_parser.ValueParser.TheVariants.{Unsigned}
-use Rattle.inst_options.specs.CommandLine.{change_rules, drill_rules, fault_rule, file_rule}
+use Rattle.inst_options.specs.CommandLine.{change_rules, drill_rules, fault_rule, file_rule, files_rule}
 use Rattle.inst_options.specs.CommandLine.{hub_rules, next_rules, run_rules}
 use Rattle.inst_options.specs.CommandLine.{with_rules}
 use Rattle.inst_options.specs.declared.table.OptionRow.{OptionRow}
 use Rattle.inst_options.specs.declared.table.Group.{Group}
 use Rattle.inst_options.specs.declared.table.Group.TheVariants.{Hub, Run, Drill, Log, Next, Changes}
-use Rattle.inst_options.specs.declared.table.Group.TheVariants.{Explain}
+use Rattle.inst_options.specs.declared.table.Group.TheVariants.{Audit, Explain}
 use Rattle.inst_options.specs.declared.table.Kind.{Kind}
-use Rattle.inst_options.specs.declared.table.Kind.TheVariants.{Flag, Word, Text as OfText, Number}
+use Rattle.inst_options.specs.declared.table.Kind.TheVariants.{Flag, Word, Words, Text as OfText, Number}
 use Rattle.inst_options.specs.declared.table.Subcommand.{Subcommand}
 
--- A flag becomes true; any other option takes its value.
+-- A flag becomes true, words are collected, and any other option takes its value.
 abbrev pub action_of : Kind → ArgAction
 action_of Flag = SetTrue
 action_of Word = Set
+action_of Words = Append
 action_of OfText = Set
 action_of Number = Set
 
@@ -27,6 +28,7 @@ action_of Number = Set
 abbrev pub long_of : Kind → Text → Option Text
 long_of Flag name = Some name
 long_of Word name = None
+long_of Words name = None
 long_of OfText name = Some name
 long_of Number name = Some name
 
@@ -34,6 +36,7 @@ long_of Number name = Some name
 abbrev pub parser_of : Kind → Option ValueParser
 parser_of Flag = None
 parser_of Word = None
+parser_of Words = None
 parser_of OfText = None
 parser_of Number = Some (Unsigned 0 (2 ^ 64 - 1))
 
@@ -56,6 +59,7 @@ rules_of Drill = drill_rules
 rules_of Log = file_rule ∷ []
 rules_of Next = next_rules
 rules_of Changes = change_rules
+rules_of Audit = files_rule ∷ []
 rules_of Explain = fault_rule ∷ []
 
 -- The command line with the options of these groups.

@@ -61,6 +61,7 @@ status_of_ending ending.NoInterleaving = 3
 status_of_ending ending.ScriptNotEmpty = 2
 status_of_ending (ending.Unfit option) = 2
 status_of_ending ending.PendingTransfer = 2
+status_of_ending ending.BrokenChain = 2
 
 -- The end of an explanation: no fault has this name and nothing was written, or one has it and the
 -- writer failed.
@@ -74,6 +75,7 @@ IsUnexplained word unwritten ending.NoInterleaving = ⊥
 IsUnexplained word unwritten ending.ScriptNotEmpty = ⊥
 IsUnexplained word unwritten (ending.Unfit option) = ⊥
 IsUnexplained word unwritten ending.PendingTransfer = ⊥
+IsUnexplained word unwritten ending.BrokenChain = ⊥
 
 -- A run with a log ends with this exit status: the log was refused and nothing done, or some lines
 -- were answered. `in_use`: another program may have the log open.
@@ -102,6 +104,7 @@ IsUnanswered mode s None t old new ending.NoInterleaving = ⊥
 IsUnanswered mode s None t old new ending.ScriptNotEmpty = ⊥
 IsUnanswered mode s None t old new (ending.Unfit option) = ⊥
 IsUnanswered mode s None t old new ending.PendingTransfer = ⊥
+IsUnanswered mode s None t old new ending.BrokenChain = ⊥
 IsUnanswered mode s (Some log) t old new e =
     IsUnkept (kept_run mode s log) t old.mixes (new.in_use log.path.now) (IsTrue new.is_clean)
     (change_of old new log.path.now) (status_of_ending e)
@@ -118,6 +121,7 @@ IsUnchecked s left held held' ending.NoInterleaving = ⊥
 IsUnchecked s left held held' ending.ScriptNotEmpty = ⊥
 IsUnchecked s left held held' (ending.Unfit option) = ⊥
 IsUnchecked s left held held' ending.PendingTransfer = ⊥
+IsUnchecked s left held held' ending.BrokenChain = ⊥
 
 -- The task wasn't done, and this is the exit status.
 pub record IsUndone (words : List (List ℕ)) (t : Streams) (old new : Files) (status : ℕ) : Type 0

@@ -6,14 +6,14 @@ use Rattle.inst_options.proofs.options.digest.Goals as goal
 pub returns-in-Some-clause-digest : goal.returns-in-Some-clause-digest
 returns-in-Some-clause-digest c = (
   given_text (found_of c.args.options.now) (codes "digest") c.get_str.result c.in-Some.text c.get_str.ensures c.in-Some.is,
-  sym c.is_digest.ensures ∙ c.if-is_digest.true,
+  rw c.as_bytes.ensures.value at (sym c.is_digest.ensures ∙ c.if-is_digest.true),
 )
 
 pub returns-in-Some-2-clause-none : goal.returns-in-Some-2-clause-none
 returns-in-Some-2-clause-none c = (
   c.in-Some.text.now,
   given_text (found_of c.args.options.now) (codes "digest") c.get_str.result c.in-Some.text c.get_str.ensures c.in-Some.is,
-  sym c.is_digest.ensures ∙ c.if-is_digest.false,
+  rw c.as_bytes.ensures.value at (sym c.is_digest.ensures ∙ c.if-is_digest.false),
 )
 
 pub returns-in-None-clause-digest : goal.returns-in-None-clause-digest

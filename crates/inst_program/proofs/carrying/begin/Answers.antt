@@ -14,7 +14,7 @@ returns-clause-ok g c =
     let disk = c.in_ok-disk.disk in
     let disk' = c.begin_on-disk.result.1 in
     let v : IsVisitedAs g.L.Log.Disk old new c.args.to.now disk disk' = visited g.L.Log.Disk old _ new c.args.to.now disk disk' c.in_ok-disk.ensures.opened c.close.ensures.closed c.close.ensures.clean in
-    on_ok_weaker c.begin_on-disk.result.0 (λ is. begun_in g.L.Log.Disk old new c.args.to.now disk disk' v _ is) (rw (c.deref.ensures.value) at c.begin_on-disk.ensures.ok)
+    on_ok_weaker c.begin_on-disk.result.0 (λ is. begun_in g.L.Log.Disk old new c.args.to.now disk disk' v _ is) c.begin_on-disk.ensures.ok
 
 pub returns-clause-err : goal.returns-clause-err
 returns-clause-err g c =
@@ -42,4 +42,4 @@ returns-clause-refused g c =
     let disk = c.in_ok-disk.disk in
     let disk' = c.begin_on-disk.result.1 in
     let v : IsVisitedAs g.L.Log.Disk old new c.args.to.now disk disk' = visited g.L.Log.Disk old _ new c.args.to.now disk disk' c.in_ok-disk.ensures.opened c.close.ensures.closed c.close.ensures.clean in
-    IfErr-weaker c.begin_on-disk.result.0 _ _ (λ e is two. unbegun_in g.L.Log.Disk old new c.args.to.now disk disk' v _ _ (is two)) (rw (c.deref.ensures.value) at c.begin_on-disk.ensures.refused)
+    IfErr-weaker c.begin_on-disk.result.0 _ _ (λ e is two. unbegun_in g.L.Log.Disk old new c.args.to.now disk disk' v _ _ (is two)) c.begin_on-disk.ensures.refused

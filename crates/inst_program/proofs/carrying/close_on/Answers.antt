@@ -18,7 +18,7 @@ returns-in-Ok-Some g c =
     let closed = c.close_hub.ensures in
     record {
       ok = IfOk-weaker c.close_hub.result.0 _ _ (λ closed is faith digest asked. carries_books _ _ change digest _ _ _ (λ m. m) (is faith digest asked)) closed.ok;
-      can = closed.can;
+      books = closed.books;
       err = on_err_weaker c.close_hub.result.0 (λ safe faith. safe_or _ _ change _ _ (λ m. m) (safe faith)) closed.err;
       refused = IfErr-weaker c.close_hub.result.0 _ _ (λ e is two. unclosed_before _ c.args.wanted (g.D.Disk.seen c.args.disk) _ c.beginning_of.ensures.read.left.same (is two)) closed.refused;
     }
@@ -26,17 +26,17 @@ returns-in-Ok-Some g c =
 pub returns-in-Ok-None : goal.returns-in-Ok-None
 returns-in-Ok-None g c = record {
   ok = tt;
-  can = tt;
+  books = tt;
   err = λ faith. inl (left_as_it_was g.D.Disk c.args.disk c.beginning_of.new.disk c.beginning_of.ensures.read.left);
-  refused = λ two. inr (inl (λ clean good.
-      unread_to_close c.args.wanted (g.D.Disk.seen c.args.disk) c.beginning_of.result (c.beginning_of.ensures.found clean) (c.in-Ok-None.is ∙ ap Ok c.in-Ok-None.field-0-is) good));
+  refused = λ two. inr (λ clean good.
+      unread_to_close c.args.wanted (g.D.Disk.seen c.args.disk) c.beginning_of.result (c.beginning_of.ensures.found clean) (c.in-Ok-None.is ∙ ap Ok c.in-Ok-None.field-0-is) good);
 }
 
 pub returns-in-Err : goal.returns-in-Err
 returns-in-Err g c = record {
   ok = tt;
-  can = tt;
+  books = tt;
   err = λ faith. inl (left_as_it_was g.D.Disk c.args.disk c.beginning_of.new.disk c.beginning_of.ensures.read.left);
-  refused = λ two. inr (inl (λ clean good.
-      refused_to_close c.args.wanted (g.D.Disk.seen c.args.disk) c.beginning_of.result c.in-Err.ending (c.beginning_of.ensures.found clean) c.in-Err.is two good));
+  refused = λ two. inr (λ clean good.
+      refused_to_close c.args.wanted (g.D.Disk.seen c.args.disk) c.beginning_of.result c.in-Err.ending (c.beginning_of.ensures.found clean) c.in-Err.is two good);
 }

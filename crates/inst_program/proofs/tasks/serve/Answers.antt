@@ -1,9 +1,9 @@
-use Rattle.std.proofs.Common.{ℕ, List, Bor, option_map, refl}
+use Rattle.std.proofs.Common.{ℕ, List, Bor, map, option_map, refl}
 use Rattle.std.proofs.lemmas.Result.{on_ok_weaker}
 use Rattle.inst_program.specs.Keeping.{next_asked}
 use Rattle.inst_program.specs.Program.{AskForNext}
-use Rattle.inst_program.specs.Program.Done.{Carried, Explained, Shown}
-use Rattle.inst_program.proofs.OutcomeOfTask.{answered, checked, drilled, unanswered_err, uncarried_err, unchecked_err, undrilled_err, unexplained_err, unshown_err}
+use Rattle.inst_program.specs.Program.Done.{Audited, Carried, Explained, Shown}
+use Rattle.inst_program.proofs.OutcomeOfTask.{answered, checked, drilled, unanswered_err, unaudited_err, uncarried_err, unchecked_err, undrilled_err, unexplained_err, unshown_err}
 use Rattle.inst_program.proofs.LogAfterVisit.{nothing_happened}
 use Rattle.inst_program.proofs.tasks.serve.Goals as goal
 
@@ -57,6 +57,16 @@ pub returns-in-Next-clause-err : goal.returns-in-Next-clause-err
 returns-in-Next-clause-err g c words wished =
     let is = rw c.in-Next.is at wished in
     uncarried_err words _ _ _ (next_asked c.in-Next.task) c.next.result is refl refl c.next.ensures.err c.next.ensures.refused
+
+pub returns-in-Audit-clause-ok : goal.returns-in-Audit-clause-ok
+returns-in-Audit-clause-ok g c words wished =
+    let is = rw c.in-Audit.is at wished in
+    on_ok_weaker c.audit.result (λ done. Audited refl (map (λ (p : Bor (List ℕ)). p.now) c.in-Audit.paths.items, is, rw c.deref.ensures.value at done) c.audit.ensures.untouched.all) c.audit.ensures.ok
+
+pub returns-in-Audit-clause-err : goal.returns-in-Audit-clause-err
+returns-in-Audit-clause-err g c words wished =
+    let is = rw c.in-Audit.is at wished in
+    unaudited_err words _ _ _ (map (λ (p : Bor (List ℕ)). p.now) c.in-Audit.paths.items) c.audit.result is refl c.audit.ensures.untouched.all c.audit.ensures.err
 
 pub returns-in-Explain-clause-ok : goal.returns-in-Explain-clause-ok
 returns-in-Explain-clause-ok g c words wished =
